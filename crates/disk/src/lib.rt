@@ -3,5 +3,10 @@
 #![tactic(auto)]
 
 mod device;
+mod memory;
 
 pub use device::{Disk, DiskFault};
+pub use memory::MemoryDisk;
+
+#[cfg(test)]
+mod tests;
