@@ -1,7 +1,10 @@
 pub mod Contents
 pub mod ContentsLaws
+pub mod Crash
+pub mod CrashLaws
 pub mod History
 pub mod Memory
 pub mod MemoryLaws
 pub mod Overwrite
 pub mod Put
+pub mod Wrapped

@@ -3,10 +3,14 @@
 #![tactic(auto)]
 
 mod device;
+mod failing;
 mod memory;
+mod switch;
 
 pub use device::{Disk, DiskFault};
-pub use memory::MemoryDisk;
+pub use failing::FailingDisk;
+pub use memory::{Fill, MemoryDisk};
+pub use switch::Switch;
 
 #[cfg(test)]
 mod tests;

@@ -4,7 +4,10 @@ ghost use Rattle.disk.specs.Contents.{put, IsOnDisk};
 ghost use Rattle.disk.specs.History.{present};
 ghost use Rattle.disk.specs.Memory.{history_of, noted_write};
 
+mod crash;
+
 use crate::device::{Disk, DiskFault, one_more_failed};
+pub use crash::Fill;
 use std::alloc::{AllocError, Global};
 use std::marker::Model;
 
