@@ -1,6 +1,7 @@
 -- What a drill takes a crash to leave, of all that the rules allow.
-use Rattle.std.specs.Prelude.{◌≡◌, ℕ, ◌<◌, List, length, slice_index, if◌then◌else◌}
+use Rattle.std.specs.Prelude.{◌≡◌, ◌⊎◌, ◌-◌, ℕ, ◌<◌, List, length, slice_index, if◌then◌else◌}
 use Rattle.disk.specs.Contents.{Contents}
+use Rattle.disk.specs.History.{History, present}
 use Rattle.disk.specs.declared.memory.crash.Fill.{Fill}
 use Rattle.disk.specs.declared.memory.crash.Fill.TheVariants.{Held, Now, Byte}
 
@@ -13,3 +14,7 @@ abbrev pub IsLeft : Fill → Contents → List ℕ → Type 0
 IsLeft Held c file = file ≡ c.held
 IsLeft Now c file = file ≡ c.now
 IsLeft (Byte byte) c file = IsOverwritten byte c file
+
+-- the same, as the disk is, or as it was before its last moment
+abbrev pub IsLeftNowOrBefore : Fill → History → List ℕ → Type 0
+IsLeftNowOrBefore fill h file = IsLeft fill (present h) file ⊎ IsLeft fill (h.at (h.moment - 1)) file

@@ -1,5 +1,5 @@
 -- The moments of a memory disk, from its file and its record of writes and syncs: undoing gives the past.
-use Rattle.std.specs.Prelude.{ℕ, ◌-◌, min, zero, suc, Bool, false, ◌||◌, List, [], ◌∷◌, length, take, drop}
+use Rattle.std.specs.Prelude.{◌≡◌, ℕ, ◌-◌, min, zero, suc, Bool, false, ◌||◌, List, [], ◌∷◌, length, take, drop}
 use Rattle.disk.specs.Overwrite.{Overwrite}
 use Rattle.disk.specs.Contents.{Contents, put, is_between}
 use Rattle.disk.specs.History.{History}
@@ -52,3 +52,9 @@ moments_of file events = record { moment = length events; at = λ m. contents_be
 
 abbrev pub history_of : Kept → History
 history_of d = moments_of d.bytes d.events
+
+-- The newest event was a write, and is undone.
+pub record IsTakenBack (old new : Kept) : Type 0 where
+  pub write : Overwrite
+  pub noted : old.events ≡ Wrote write ∷ new.events
+  pub undone : new.bytes ≡ before_write write old.bytes

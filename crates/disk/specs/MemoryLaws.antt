@@ -4,11 +4,11 @@ use Rattle.std.proofs.Common.{arith, sym, ap, ◌∙◌, subst, inl, inr, length
 use Rattle.std.proofs.lemmas.List.{length-take, get_or-take, get_or-drop, ext_get_or, take-take}
 use Rattle.std.proofs.lemmas.Bool.{cases_lt}
 use Rattle.disk.specs.Overwrite.{Overwrite}
-use Rattle.disk.specs.Contents.{Contents, Agrees, IsOnDisk, IsWritten, IsWithinWrite, IsSynced, put, is_between}
+use Rattle.disk.specs.Contents.{Contents, MayLeave, Agrees, IsOnDisk, IsWritten, IsWithinWrite, IsSynced, put, is_between}
 use Rattle.disk.specs.Put.{length-put, put_before, put_within, put_behind, put_elsewhere}
 use Rattle.disk.specs.ContentsLaws.{not_between, IsWithinWrite-written}
 use Rattle.disk.specs.History.{present, GoesOn}
-use Rattle.disk.specs.Memory.{Kept, noted_write, before_write, before_event, held_of, is_touched, contents_of, contents_before, moments_of, history_of}
+use Rattle.disk.specs.Memory.{IsTakenBack, Kept, noted_write, before_write, before_event, held_of, is_touched, contents_of, contents_before, moments_of, history_of}
 use Rattle.disk.specs.declared.memory.Event.{Event}
 use Rattle.disk.specs.declared.memory.Event.TheVariants.{Wrote, Synced}
 
@@ -153,3 +153,25 @@ NotesSync-noted old new file events =
       goes_on = rw (present_of old.bytes old.events)
           (GoesOn-noted old new Synced (λ c. (c ≡ contents_of old.bytes old.events) ⊎ IsSynced (contents_of old.bytes old.events) c) events file (inr noted));
     }
+
+-- what a write that is taken back might have left, it might have left with it too
+MayLeave-with_write : (w : Overwrite) (file : List ℕ) (earlier : List Event) (image : List ℕ) → MayLeave (contents_of (before_write w file) earlier) image → MayLeave (contents_of file (Wrote w ∷ earlier)) image
+MayLeave-with_write w file earlier image before = record {
+  no_shorter = before.no_shorter;
+  no_longer = omega (arith, before.no_longer, length-before_write w file);
+  untouched = λ p l e. before.untouched p l (or_false (is_touched earlier p) (is_between w.place w.count p) e).0;
+}
+
+pub MayLeave-taken_back : (old new : Kept) (image : List ℕ) → IsTakenBack old new → MayLeave (present (history_of new)) image → MayLeave (present (history_of old)) image
+MayLeave-taken_back old new image back left =
+    let before : MayLeave (contents_of (before_write back.write old.bytes) new.events) image =
+    rw (← back.undone, ← present_of new.bytes new.events) left in
+    rw (present_of old.bytes old.events, back.noted) (MayLeave-with_write back.write old.bytes new.events image before)
+
+pub present-taken_back : (old new : Kept) → IsTakenBack old new → (history_of old).at ((history_of old).moment - 1) ≡ present (history_of new)
+unfolding moments_of
+present-taken_back old new back =
+    let count : length old.events ≡ suc (length new.events) = ap length back.noted in
+    let one : length old.events - (length old.events - 1) ≡ 1 = omega arith in
+    let none : length new.events - length new.events ≡ 0 = omega arith in
+    rw (one, none, back.noted, back.undone)

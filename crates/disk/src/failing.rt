@@ -9,7 +9,7 @@ use std::marker::Model;
 /// that.
 #[derive(Drop)]
 pub struct FailingDisk<D: Disk> {
-    disk: D,
+    pub(crate) disk: D,
     switch: Switch,
     failures: u64,
 }

@@ -4,11 +4,13 @@
 
 mod device;
 mod failing;
+mod fused;
 mod memory;
 mod switch;
 
 pub use device::{Disk, DiskFault};
 pub use failing::FailingDisk;
+pub use fused::FusedDisk;
 pub use memory::{Fill, MemoryDisk};
 pub use switch::Switch;
 

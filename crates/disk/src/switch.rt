@@ -19,6 +19,8 @@ struct Arms {
     calls_to_failure: AtomicU64,
     /// The same up to the first call that a `FusedDisk` stops; 1 from then on.
     calls_to_stop: AtomicU64,
+    /// Whether a write was stopped since the last arming.
+    has_stopped_write: AtomicBool,
 }
 
 impl Switch {
@@ -27,6 +29,7 @@ impl Switch {
         let arms = Arms {
             calls_to_failure: AtomicU64::new(0),
             calls_to_stop: AtomicU64::new(0),
+            has_stopped_write: AtomicBool::new(false),
         };
         Ok(Switch {
             arms: Arc::new(alloc, arms)?,
@@ -39,9 +42,10 @@ impl Switch {
         self.arms.calls_to_failure.store(failing, Ordering::SeqCst);
     }
 
-    /// After this many more calls, each call fails.
+    /// After this many more calls, each call fails. A write that an earlier stop met is forgotten.
     pub fn stop_after(&self, calls: u64) {
         let stopping = calls.saturating_add(1);
+        self.arms.has_stopped_write.store(false, Ordering::SeqCst);
         self.arms.calls_to_stop.store(stopping, Ordering::SeqCst);
     }
 
@@ -69,5 +73,15 @@ impl Switch {
             1 => Some(1),
             more => Some(more - 1),
         }) == Ok(1)
+    }
+
+    // Notes a write that is stopped: is it the first one since the last arming?
+    pub(crate) fn stops_first_write(&self) -> bool {
+        !self.arms.has_stopped_write.swap(true, Ordering::SeqCst)
+    }
+
+    // Whether a write was stopped since the last arming.
+    pub(crate) fn has_stopped_write(&self) -> bool {
+        self.arms.has_stopped_write.load(Ordering::SeqCst)
     }
 }

@@ -1,9 +1,10 @@
 // What a crash leaves of a disk in memory.
-ghost use Rattle.std.specs.Prelude.{◌≡◌, ℕ, ◌<◌, [], length, reverse, take, slice_index, if◌then◌else◌};
+ghost use Rattle.std.specs.Prelude.{◌≡◌, ℕ, ◌⊎◌, ◌<◌, ◌∷◌, ◌++◌, [], length, reverse, take, slice_index, if◌then◌else◌};
 ghost use Rattle.disk.specs.Contents.{MayLeave, is_between};
 ghost use Rattle.disk.specs.History.{present};
-ghost use Rattle.disk.specs.Memory.{history_of, before_write, held_of, is_touched};
+ghost use Rattle.disk.specs.Memory.{IsTakenBack, history_of, before_write, held_of, is_touched};
 ghost use Rattle.disk.specs.Crash.{IsLeft};
+ghost use Rattle.disk.specs.Overwrite.{Overwrite};
 
 use super::{Event, MemoryDisk, NotedWrite};
 
@@ -41,6 +42,36 @@ impl MemoryDisk {
             events,
             failures: 0,
         }
+    }
+}
+
+impl MemoryDisk {
+    // Undoes the newest event, if it is a write.
+    pub(crate) fn without_newest_write(self) -> MemoryDisk
+        ensures { (result ≡ self) ⊎ IsTakenBack self result }
+    {
+        let MemoryDisk {
+            mut bytes,
+            mut events,
+            failures,
+        } = self;
+        undo_newest(&mut bytes, &mut events);
+        MemoryDisk {
+            bytes,
+            events,
+            failures,
+        }
+    }
+}
+
+fn undo_newest(file: &mut Vec<u8>, events: &mut Vec<Event>)
+    ensures { ((file.new.items ≡ file.old.items) × (events.new.items ≡ events.old.items))
+        ⊎ ((write : Overwrite) × (events.old.items ≡ events.new.items ++ Event.Wrote write ∷ [])
+        × (file.new.items ≡ before_write write file.old.items)) }
+{
+    if let Some(Event::Wrote(write)) = events.last() {
+        undo(file, write);
+        let _ = events.pop();
     }
 }
 

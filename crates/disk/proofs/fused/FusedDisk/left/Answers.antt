@@ -1,0 +1,13 @@
+use Rattle.std.proofs.Common.{◌≡◌, rules, arith}
+use Rattle.disk.proofs.TakenBack.{allowed_after, filled_after}
+use Rattle.disk.proofs.fused.FusedDisk.left.Goals as goal
+
+pub returns-then-not-has_stopped_write-clause-allowed : goal.returns-then-not-has_stopped_write-clause-allowed
+returns-then-not-has_stopped_write-clause-allowed c =
+    let same : c.into_inner-disk.result ≡ c.args.self.disk.disk = search rules in
+    rw (← same) (allowed_after _ _ _ c.without_newest_write.ensures c.left.ensures.allowed)
+
+pub returns-then-not-has_stopped_write-clause-filled : goal.returns-then-not-has_stopped_write-clause-filled
+returns-then-not-has_stopped_write-clause-filled c =
+    let same : c.into_inner-disk.result ≡ c.args.self.disk.disk = search rules in
+    rw (← same) (filled_after c.args.fill _ _ _ c.without_newest_write.ensures c.left.ensures.filled)
