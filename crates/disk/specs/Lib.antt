@@ -3,6 +3,7 @@ pub mod ContentsLaws
 pub mod Crash
 pub mod CrashLaws
 pub mod History
+pub mod HistoryLaws
 pub mod Memory
 pub mod MemoryLaws
 pub mod Overwrite
