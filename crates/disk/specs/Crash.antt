@@ -1,5 +1,5 @@
 -- What a drill takes a crash to leave, of all that the rules allow.
-use Rattle.std.specs.Prelude.{◌≡◌, ◌⊎◌, ◌-◌, ℕ, ◌<◌, List, length, slice_index, if◌then◌else◌}
+use Rattle.std.specs.Prelude.{Bool, IsTrue, ◌≡◌, ◌⊎◌, ◌-◌, ℕ, ◌<◌, List, length, slice_index, if◌then◌else◌}
 use Rattle.disk.specs.Contents.{Contents}
 use Rattle.disk.specs.History.{History, present}
 use Rattle.disk.specs.declared.memory.crash.Fill.{Fill}
@@ -15,6 +15,7 @@ IsLeft Held c file = file ≡ c.held
 IsLeft Now c file = file ≡ c.now
 IsLeft (Byte byte) c file = IsOverwritten byte c file
 
--- the same, as the disk is, or as it was before its last moment
-abbrev pub IsLeftNowOrBefore : Fill → History → List ℕ → Type 0
-IsLeftNowOrBefore fill h file = IsLeft fill (present h) file ⊎ IsLeft fill (h.at (h.moment - 1)) file
+-- the same at the present moment, or at the one before it, if the present one is a write that a stop met
+abbrev pub IsLeftBehind : Fill → History → Bool → List ℕ → Type 0
+IsLeftBehind fill h ends_in_stopped_write file =
+    IsLeft fill (present h) file ⊎ (IsTrue ends_in_stopped_write × IsLeft fill (h.at (h.moment - 1)) file)

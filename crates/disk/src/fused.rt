@@ -1,8 +1,8 @@
 // A disk that stops.
-ghost use Rattle.std.specs.Prelude.{◌≡◌, []};
-ghost use Rattle.disk.specs.Contents.{MayLeave};
-ghost use Rattle.disk.specs.Crash.{IsLeftNowOrBefore};
-ghost use Rattle.disk.specs.History.{present};
+ghost use Rattle.std.specs.Prelude.{◌≡◌, ◌+◌, ◌<◌, ◌≤◌, ◌^◌, false, [], length, OnOk};
+ghost use Rattle.disk.specs.Contents.{MayLeave, IsWritten, IsWithinWrite, CountsFailure};
+ghost use Rattle.disk.specs.Crash.{IsLeftBehind};
+ghost use Rattle.disk.specs.History.{present, GoesOn};
 ghost use Rattle.disk.specs.Memory.{history_of};
 
 use crate::device::{Disk, DiskFault, counted, one_more_failed};
@@ -27,16 +27,16 @@ pub struct FusedDisk {
 
 impl Model for FusedDisk {
     ghost use Rattle.disk.specs.Memory.{Kept};
-    ghost use Rattle.disk.specs.Wrapped.{Wrapped};
+    ghost use Rattle.disk.specs.Wrapped.{Wrapped, Fused};
 
-    ghost Value = { Wrapped (Wrapped Kept) };
+    ghost Value = { Fused (Wrapped Kept) };
 
-    ghost view = { λ d. record { disk = d.disk; failures = d.failures } };
+    ghost view = { λ d. record { disk = d.disk; failures = d.failures; ends_in_stopped_write = d.ends_in_stopped_write } };
 }
 
 impl FusedDisk {
     pub fn new(disk: FailingDisk<MemoryDisk>, switch: Switch) -> FusedDisk
-        ensures { result ≡ record { disk = disk; failures = 0 } }
+        ensures { result ≡ record { disk = disk; failures = 0; ends_in_stopped_write = false } }
     {
         FusedDisk {
             disk,
@@ -52,7 +52,7 @@ impl FusedDisk {
     /// is left is then filled as the disk was before it.
     pub fn left(self, fill: Fill) -> MemoryDisk
         ensures allowed { MayLeave (present (history_of self.disk.disk)) result.bytes }
-        ensures filled { IsLeftNowOrBefore fill (history_of self.disk.disk) result.bytes }
+        ensures filled { IsLeftBehind fill (history_of self.disk.disk) self.ends_in_stopped_write result.bytes }
         ensures sound { result ≡ record { bytes = result.bytes; events = []; failures = 0 } }
     {
         let FusedDisk {
@@ -95,7 +95,14 @@ impl Disk for FusedDisk {
         counted(&mut self.failures, outcome)
     }
 
-    fn write_at(&mut self, place: u64, bytes: &[u8]) -> Result<(), DiskFault> {
+    fn write_at(&mut self, place: u64, bytes: &[u8]) -> Result<(), DiskFault>
+        requires fits { place + length bytes.now < 2 ^ 64 }
+        requires within { place ≤ length (present (history_of self.old.disk.disk)).now }
+        ensures written { OnOk result (IsWritten place bytes.now (present (history_of self.old.disk.disk)) (present (history_of self.new.disk.disk))) }
+        ensures goes_on { GoesOn (history_of self.old.disk.disk) (history_of self.new.disk.disk) (IsWithinWrite place (length bytes.now) (present (history_of self.old.disk.disk))) }
+        ensures counts { CountsFailure self.old.failures self.new.failures result }
+        ensures passed { OnOk result (self.new.ends_in_stopped_write ≡ false) }
+    {
         if self.switch.stops_call() {
             if self.switch.stops_first_write() {
                 let failing = &mut self.disk;
@@ -103,8 +110,8 @@ impl Disk for FusedDisk {
             }
             return Err(one_more_failed(&mut self.failures));
         }
-        self.ends_in_stopped_write = false;
         let outcome = self.disk.write_at(place, bytes);
+        self.ends_in_stopped_write &= outcome.is_err();
         counted(&mut self.failures, outcome)
     }
 
@@ -112,8 +119,8 @@ impl Disk for FusedDisk {
         if self.switch.stops_call() {
             return Err(one_more_failed(&mut self.failures));
         }
-        self.ends_in_stopped_write = false;
         let outcome = self.disk.sync();
+        self.ends_in_stopped_write &= outcome.is_err();
         counted(&mut self.failures, outcome)
     }
 

@@ -1,6 +1,6 @@
 // A disk in memory, which can tell its past.
-ghost use Rattle.std.specs.Prelude.{◌≡◌, ◌+◌, ◌<◌, ◌≤◌, ◌^◌, [], ◌∷◌, ◌++◌, length, OnOk, OnErr};
-ghost use Rattle.disk.specs.Contents.{put, IsOnDisk};
+ghost use Rattle.std.specs.Prelude.{◌≡◌, ◌+◌, ◌<◌, ◌≤◌, ◌^◌, [], ◌∷◌, ◌++◌, length, take, drop, IsOk, IfOk, OnOk, OnErr};
+ghost use Rattle.disk.specs.Contents.{put, IsOnDisk, CountsFailure};
 ghost use Rattle.disk.specs.History.{present};
 ghost use Rattle.disk.specs.Memory.{history_of, noted_write};
 
@@ -128,11 +128,23 @@ impl Disk for MemoryDisk {
 
     ghost failures = { λ d. d.failures };
 
-    fn len(&mut self) -> Result<u64, DiskFault> {
+    fn len(&mut self) -> Result<u64, DiskFault>
+        ensures length { IfOk result (λ n. n ≡ length (present (history_of self.old)).now) }
+        ensures same { history_of self.new ≡ history_of self.old }
+        ensures counts { CountsFailure self.old.failures self.new.failures result }
+        ensures never_fails { IsOk result }
+    {
         Ok(self.bytes.len() as u64)
     }
 
-    fn read_at(&mut self, place: u64, buffer: &mut [u8]) -> Result<(), DiskFault> {
+    fn read_at(&mut self, place: u64, buffer: &mut [u8]) -> Result<(), DiskFault>
+        requires fits { place + length buffer.old < 2 ^ 64 }
+        requires within { place + length buffer.old ≤ length (present (history_of self.old)).now }
+        ensures read { OnOk result (buffer.new ≡ take (length buffer.old) (drop place (present (history_of self.old)).now)) }
+        ensures same { history_of self.new ≡ history_of self.old }
+        ensures counts { CountsFailure self.old.failures self.new.failures result }
+        ensures never_fails { IsOk result }
+    {
         let start = place as usize;
         buffer.copy_from_slice(&self.bytes[start..start + buffer.len()]);
         Ok(())

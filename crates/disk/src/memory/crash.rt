@@ -43,10 +43,8 @@ impl MemoryDisk {
             failures: 0,
         }
     }
-}
 
-impl MemoryDisk {
-    // Undoes the newest event, if it is a write.
+    // The disk as it was before its newest event, if that is a write.
     pub(crate) fn without_newest_write(self) -> MemoryDisk
         ensures { (result ≡ self) ⊎ IsTakenBack self result }
     {
@@ -64,6 +62,7 @@ impl MemoryDisk {
     }
 }
 
+// Undoes the newest event, if it is a write.
 fn undo_newest(file: &mut Vec<u8>, events: &mut Vec<Event>)
     ensures { ((file.new.items ≡ file.old.items) × (events.new.items ≡ events.old.items))
         ⊎ ((write : Overwrite) × (events.old.items ≡ events.new.items ++ Event.Wrote write ∷ [])

@@ -1,4 +1,4 @@
-use Rattle.std.proofs.Common.{◌≡◌, rules, arith}
+use Rattle.std.proofs.Common.{◌≡◌, IsTrue, rules, arith}
 use Rattle.disk.proofs.TakenBack.{allowed_after, filled_after}
 use Rattle.disk.proofs.fused.FusedDisk.left.Goals as goal
 
@@ -10,4 +10,5 @@ returns-then-not-has_stopped_write-clause-allowed c =
 pub returns-then-not-has_stopped_write-clause-filled : goal.returns-then-not-has_stopped_write-clause-filled
 returns-then-not-has_stopped_write-clause-filled c =
     let same : c.into_inner-disk.result ≡ c.args.self.disk.disk = search rules in
-    rw (← same) (filled_after c.args.fill _ _ _ c.without_newest_write.ensures c.left.ensures.filled)
+    let stopped : IsTrue c.args.self.ends_in_stopped_write = search rules in
+    rw (← same) (filled_after c.args.fill _ _ _ _ stopped c.without_newest_write.ensures c.left.ensures.filled)

@@ -3,4 +3,4 @@ use Rattle.disk.specs.MemoryLaws.{present_of}
 use Rattle.disk.proofs.memory.MemoryDiskDisk.len.Goals as goal
 
 pub returns-clause-length : goal.returns-clause-length
-returns-clause-length c _ = rw present_of (search rules)
+returns-clause-length c = rw present_of (search rules)
