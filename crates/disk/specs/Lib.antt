@@ -1,3 +1,12 @@
 pub mod Contents
+pub mod ContentsLaws
+pub mod Crash
+pub mod CrashLaws
 pub mod Failures
 pub mod History
+pub mod HistoryLaws
+pub mod Memory
+pub mod MemoryLaws
+pub mod Overwrite
+pub mod Put
+pub mod Wrapped

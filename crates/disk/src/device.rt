@@ -1,5 +1,6 @@
 // The trait, with the rules of a disk that may crash.
-ghost use Rattle.std.specs.Prelude.{◌≡◌, ◌⊎◌, ◌+◌, ◌<◌, ◌≤◌, ◌^◌, List, ℕ, length, take, drop, IfOk, OnOk, OnErr};
+ghost use Rattle.std.specs.Prelude.{◌≡◌, ◌⊎◌, ◌+◌, ◌-◌, ◌<◌, ◌≤◌, ◌^◌, List, ℕ, length, take, drop, IfOk, OnOk, OnErr};
+ghost use Rattle.disk.specs.Contents.{CountsFailure};
 
 use thiserror::Error;
 
@@ -7,6 +8,26 @@ use thiserror::Error;
 #[derive(Clone, Copy, Debug, PartialEq, Eq, Error)]
 #[error("the device failed")]
 pub struct DiskFault;
+
+// Counts a failed call, and is its answer.
+pub(crate) fn one_more_failed(failures: &mut u64) -> DiskFault
+    ensures rises { failures.old < 2 ^ 64 - 1 → failures.new ≡ failures.old + 1 }
+    ensures stays { 2 ^ 64 - 1 ≤ failures.old → failures.new ≡ failures.old }
+{
+    *failures = failures.saturating_add(1);
+    DiskFault
+}
+
+// Counts a call where it failed, and passes its answer on.
+pub(crate) fn counted<T>(failures: &mut u64, outcome: Result<T, DiskFault>) -> Result<T, DiskFault>
+    ensures same { result ≡ outcome }
+    ensures counts { CountsFailure failures.old failures.new result }
+{
+    if outcome.is_err() {
+        one_more_failed(failures);
+    }
+    outcome
+}
 
 /// A disk with one file, whose bytes may be read, overwritten and added to. There is no cut.
 ///

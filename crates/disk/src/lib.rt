@@ -3,5 +3,16 @@
 #![tactic(auto)]
 
 mod device;
+mod failing;
+mod fused;
+mod memory;
+mod switch;
 
 pub use device::{Disk, DiskFault};
+pub use failing::FailingDisk;
+pub use fused::FusedDisk;
+pub use memory::{Fill, MemoryDisk};
+pub use switch::Switch;
+
+#[cfg(test)]
+mod tests;

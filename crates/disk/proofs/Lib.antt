@@ -1,0 +1,2 @@
+pub mod TakenBack
+pub mod Undo

@@ -1,0 +1,89 @@
+// A disk with one call that fails.
+ghost use Rattle.std.specs.Prelude.{◌≡◌};
+
+use crate::device::{Disk, DiskFault, counted, one_more_failed};
+use crate::switch::Switch;
+use std::marker::Model;
+
+/// A disk on which one call fails, the one after as many more as its `Switch` says, and does nothing. It goes on after
+/// that.
+#[derive(Drop)]
+pub struct FailingDisk<D: Disk> {
+    pub(crate) disk: D,
+    switch: Switch,
+    failures: u64,
+}
+
+impl<D: Disk> Model for FailingDisk<D> {
+    ghost use Rattle.disk.specs.Wrapped.{Wrapped};
+
+    ghost Value = { Wrapped D };
+
+    ghost view = { λ d. record { disk = d.disk; failures = d.failures } };
+}
+
+impl<D: Disk> FailingDisk<D> {
+    pub fn new(disk: D, switch: Switch) -> FailingDisk<D>
+        ensures { result ≡ record { disk = disk; failures = 0 } }
+    {
+        FailingDisk {
+            disk,
+            switch,
+            failures: 0,
+        }
+    }
+
+    /// The disk inside.
+    pub fn into_inner(self) -> D
+        ensures { result ≡ self.disk }
+    {
+        let FailingDisk {
+            disk,
+            switch: _,
+            failures: _,
+        } = self;
+        disk
+    }
+}
+
+impl<D: Disk> Disk for FailingDisk<D> {
+    ghost is_modelled = { D.is_modelled };
+
+    ghost history = { λ d. D.history d.disk };
+
+    ghost failures = { λ d. d.failures };
+
+    fn len(&mut self) -> Result<u64, DiskFault> {
+        if self.switch.fails_call() {
+            return Err(one_more_failed(&mut self.failures));
+        }
+        let outcome = self.disk.len();
+        counted(&mut self.failures, outcome)
+    }
+
+    fn read_at(&mut self, place: u64, buffer: &mut [u8]) -> Result<(), DiskFault> {
+        if self.switch.fails_call() {
+            return Err(one_more_failed(&mut self.failures));
+        }
+        let outcome = self.disk.read_at(place, buffer);
+        counted(&mut self.failures, outcome)
+    }
+
+    fn write_at(&mut self, place: u64, bytes: &[u8]) -> Result<(), DiskFault> {
+        if self.switch.fails_call() {
+            return Err(one_more_failed(&mut self.failures));
+        }
+        let outcome = self.disk.write_at(place, bytes);
+        counted(&mut self.failures, outcome)
+    }
+
+    fn sync(&mut self) -> Result<(), DiskFault> {
+        if self.switch.fails_call() {
+            return Err(one_more_failed(&mut self.failures));
+        }
+        let outcome = self.disk.sync();
+        counted(&mut self.failures, outcome)
+    }
+
+    ghost agrees = { λ d m. D.agrees d.disk m };
+}

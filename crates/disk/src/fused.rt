@@ -1,0 +1,128 @@
+// A disk that stops.
+ghost use Rattle.std.specs.Prelude.{◌≡◌, ◌+◌, ◌<◌, ◌≤◌, ◌^◌, false, [], length, OnOk};
+ghost use Rattle.disk.specs.Contents.{MayLeave, IsWritten, IsWithinWrite, CountsFailure};
+ghost use Rattle.disk.specs.Crash.{IsLeftBehind};
+ghost use Rattle.disk.specs.History.{present, GoesOn};
+ghost use Rattle.disk.specs.Memory.{history_of};
+
+use crate::device::{Disk, DiskFault, counted, one_more_failed};
+use crate::failing::FailingDisk;
+use crate::memory::{Fill, MemoryDisk};
+use crate::switch::Switch;
+use std::marker::Model;
+
+/// A disk in memory that stops: as many calls pass as its `Switch` says, and then each call fails. What a crash then
+/// leaves of it is `left`.
+///
+/// Of the writes that fail, the first one was under way as the device stopped, and is in the file all the same: so
+/// what is left may have it, in part or whole. Where there is no memory for it, the device stopped before it.
+#[derive(Drop)]
+pub struct FusedDisk {
+    disk: FailingDisk<MemoryDisk>,
+    switch: Switch,
+    failures: u64,
+    /// Whether the newest event is a write that was stopped.
+    ends_in_stopped_write: bool,
+}
+
+impl Model for FusedDisk {
+    ghost use Rattle.disk.specs.Memory.{Kept};
+    ghost use Rattle.disk.specs.Wrapped.{Wrapped, Fused};
+
+    ghost Value = { Fused (Wrapped Kept) };
+
+    ghost view = { λ d. record { disk = d.disk; failures = d.failures; ends_in_stopped_write = d.ends_in_stopped_write } };
+}
+
+impl FusedDisk {
+    pub fn new(disk: FailingDisk<MemoryDisk>, switch: Switch) -> FusedDisk
+        ensures { result ≡ record { disk = disk; failures = 0; ends_in_stopped_write = false } }
+    {
+        FusedDisk {
+            disk,
+            switch,
+            failures: 0,
+            ends_in_stopped_write: false,
+        }
+    }
+
+    /// What a crash now leaves, as a sound disk with an empty record. It takes no memory.
+    ///
+    /// A stopped write that a later arming has forgotten is taken back, if nothing was written or synced since: what
+    /// is left is then filled as the disk was before it.
+    pub fn left(self, fill: Fill) -> MemoryDisk
+        ensures allowed { MayLeave (present (history_of self.disk.disk)) result.bytes }
+        ensures filled { IsLeftBehind fill (history_of self.disk.disk) self.ends_in_stopped_write result.bytes }
+        ensures sound { result ≡ record { bytes = result.bytes; events = []; failures = 0 } }
+    {
+        let FusedDisk {
+            disk,
+            switch,
+            failures: _,
+            ends_in_stopped_write,
+        } = self;
+        let disk = disk.into_inner();
+        if ends_in_stopped_write && !switch.has_stopped_write() {
+            return disk.without_newest_write().left(fill);
+        }
+        disk.left(fill)
+    }
+}
+
+impl Disk for FusedDisk {
+    ghost use Rattle.disk.specs.MemoryLaws.{Agrees-moments_of};
+    ghost use Rattle.disk.specs.Memory.{history_of};
+
+    ghost is_modelled = { Unit {0} };
+
+    ghost history = { λ d. history_of d.disk.disk };
+
+    ghost failures = { λ d. d.failures };
+
+    fn len(&mut self) -> Result<u64, DiskFault> {
+        if self.switch.stops_call() {
+            return Err(one_more_failed(&mut self.failures));
+        }
+        let outcome = self.disk.len();
+        counted(&mut self.failures, outcome)
+    }
+
+    fn read_at(&mut self, place: u64, buffer: &mut [u8]) -> Result<(), DiskFault> {
+        if self.switch.stops_call() {
+            return Err(one_more_failed(&mut self.failures));
+        }
+        let outcome = self.disk.read_at(place, buffer);
+        counted(&mut self.failures, outcome)
+    }
+
+    fn write_at(&mut self, place: u64, bytes: &[u8]) -> Result<(), DiskFault>
+        requires fits { place + length bytes.now < 2 ^ 64 }
+        requires within { place ≤ length (present (history_of self.old.disk.disk)).now }
+        ensures written { OnOk result (IsWritten place bytes.now (present (history_of self.old.disk.disk)) (present (history_of self.new.disk.disk))) }
+        ensures goes_on { GoesOn (history_of self.old.disk.disk) (history_of self.new.disk.disk) (IsWithinWrite place (length bytes.now) (present (history_of self.old.disk.disk))) }
+        ensures counts { CountsFailure self.old.failures self.new.failures result }
+        ensures passed { OnOk result (self.new.ends_in_stopped_write ≡ false) }
+    {
+        if self.switch.stops_call() {
+            if self.switch.stops_first_write() {
+                let failing = &mut self.disk;
+                self.ends_in_stopped_write = failing.disk.write_at(place, bytes).is_ok();
+            }
+            return Err(one_more_failed(&mut self.failures));
+        }
+        let outcome = self.disk.write_at(place, bytes);
+        self.ends_in_stopped_write &= outcome.is_err();
+        counted(&mut self.failures, outcome)
+    }
+
+    fn sync(&mut self) -> Result<(), DiskFault> {
+        if self.switch.stops_call() {
+            return Err(one_more_failed(&mut self.failures));
+        }
+        let outcome = self.disk.sync();
+        self.ends_in_stopped_write &= outcome.is_err();
+        counted(&mut self.failures, outcome)
+    }
+
+    ghost agrees = { λ d _. Agrees-moments_of d.disk.disk.bytes d.disk.disk.events };
+}
