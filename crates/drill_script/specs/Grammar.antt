@@ -26,6 +26,16 @@ command_of line.Gate = GateCommand
 command_of line.Open = OpenCommand
 command_of (line.Pixel count x y) = PixelCommand count x y
 
+-- the line holds bytes, for which memory is taken
+abbrev pub HoldsBytes : Command → Type 0
+HoldsBytes (NewCommand width height key_interval name) = Unit {0}
+HoldsBytes (HostCommand time bytes) = Unit {0}
+HoldsBytes TakeCommand = ⊥
+HoldsBytes BodyCommand = ⊥
+HoldsBytes GateCommand = ⊥
+HoldsBytes OpenCommand = ⊥
+HoldsBytes (PixelCommand count x y) = ⊥
+
 -- a word: one byte or more, and no space
 abbrev pub IsWord : List ℕ → Type 0
 IsWord word = (word ≢ []) × AllByRecursion (λ byte. byte ≢ 32) word

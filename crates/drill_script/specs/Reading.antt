@@ -1,5 +1,5 @@
 -- Reading the words of a line from the first to the last.
-use Rattle.std.specs.Prelude.{◌≡◌, ℕ, ◌^◌, ◌==◌, ◌&&◌, nat_lt, Bool, List, [], ◌∷◌, ◌++◌, length, codes, Option, Some, None, option_and_then, Result, Ok, Err, if◌then◌else◌}
+use Rattle.std.specs.Prelude.{◌≡◌, ℕ, ◌^◌, IfSome, ◌==◌, ◌&&◌, nat_lt, List, [], ◌∷◌, ◌++◌, length, codes, Option, Some, None, option_and_then, Result, Ok, Err, if◌then◌else◌}
 use Rattle.std.specs.List.{slice_split, list_all, list_any}
 use Rattle.std.specs.Char.{is_ascii_digit}
 use Rattle.std.specs.Str.{bytes_eq}
@@ -9,7 +9,8 @@ use Rattle.drill_script.specs.declared.fault.LineFault.{LineFault}
 use Rattle.drill_script.specs.declared.fault.LineFault.TheVariants.{Bad, NoMemory}
 use Rattle.drill_script.specs.declared.words.Kind.{Kind}
 use Rattle.drill_script.specs.declared.words.Kind.TheVariants as kind
-use Rattle.drill_script.specs.Grammar.{Command, NewCommand, HostCommand, TakeCommand, BodyCommand, GateCommand, OpenCommand, PixelCommand, decimal}
+use Rattle.drill_script.specs.declared.line.Line.{Line}
+use Rattle.drill_script.specs.Grammar.{Command, command_of, HoldsBytes, NewCommand, HostCommand, TakeCommand, BodyCommand, GateCommand, OpenCommand, PixelCommand, decimal}
 
 -- What a call that takes no memory answered, seen by view, and the words that it left, are what reading gives.
 abbrev pub Reads : {A B : Type 0} → (A → B) → Result A LineFault → List (List ℕ) → Option (B × List (List ℕ)) → Type 0
@@ -22,6 +23,12 @@ abbrev pub ReadsInMemory : {A B : Type 0} → (A → B) → Result A LineFault �
 ReadsInMemory view (Ok x) after read = read ≡ Some (view x, after)
 ReadsInMemory view (Err Bad) after read = read ≡ None
 ReadsInMemory view (Err NoMemory) after read = Unit {0}
+
+-- What reading a whole line answered is what its words say.
+abbrev pub GivesLine : Result Line LineFault → Option Command → Type 0
+GivesLine (Ok line) read = read ≡ Some (command_of line)
+GivesLine (Err Bad) read = read ≡ None
+GivesLine (Err NoMemory) read = IfSome read HoldsBytes
 
 infixl 10 ◌>>=◌
 abbrev pub ◌>>=◌ : {A B : Type 0} → Option A → (A → Option B) → Option B
@@ -57,22 +64,24 @@ name_at words = do
   if list_any (λ byte. byte == 10) word.0 then None else Some word
 
 -- all the words that are left, joined
-unfoldable pub joined_at : List (List ℕ) → Option (List ℕ)
-joined_at [] = Some []
+unfoldable pub joined_at : List (List ℕ) → Option (List ℕ × List (List ℕ))
+joined_at [] = Some ([], [])
 joined_at ([] ∷ rest) = None
 joined_at ((byte ∷ bytes) ∷ rest) = do
   after ← joined_at rest
-  Some ((byte ∷ bytes) ++ after)
+  Some ((byte ∷ bytes) ++ after.0, after.1)
 
--- the bytes that hexadecimal digits spell
+-- what decoding hexadecimal digits gave, if anything
 abbrev pub spelled_by : Result (List ℕ) FromHexError → Option (List ℕ)
 spelled_by (Ok bytes) = Some bytes
 spelled_by (Err fault) = None
 
-unfoldable pub hex_at : List (List ℕ) → Option (List ℕ)
+-- the bytes that the words left spell, one word or more
+unfoldable pub hex_at : List (List ℕ) → Option (List ℕ × List (List ℕ))
 hex_at words = do
   digits ← joined_at words
-  if length digits == 0 then None else spelled_by (decode_of digits)
+  bytes ← (if length digits.0 == 0 then None else spelled_by (decode_of digits.0))
+  Some (bytes, digits.1)
 
 -- the kind of line that begins with a word
 unfoldable pub kind_by : List ℕ → Option Kind
@@ -100,7 +109,7 @@ unfoldable pub host_at : List (List ℕ) → Option (Command × List (List ℕ))
 host_at words = do
   time ← number_at (2 ^ 32) words
   bytes ← hex_at time.1
-  Some (HostCommand time.0 bytes, [])
+  Some (HostCommand time.0 bytes.0, bytes.1)
 
 -- what follows `pixel`
 unfoldable pub pixel_at : List (List ℕ) → Option (Command × List (List ℕ))
@@ -119,6 +128,16 @@ rest_at kind.Body words = Some (BodyCommand, words)
 rest_at kind.Gate words = Some (GateCommand, words)
 rest_at kind.Open words = Some (OpenCommand, words)
 rest_at kind.Pixel words = pixel_at words
+
+-- a line of this kind takes memory
+abbrev pub TakesMemory : Kind → Type 0
+TakesMemory kind.New = Unit {0}
+TakesMemory kind.Host = Unit {0}
+TakesMemory kind.Take = ⊥
+TakesMemory kind.Body = ⊥
+TakesMemory kind.Gate = ⊥
+TakesMemory kind.Open = ⊥
+TakesMemory kind.Pixel = ⊥
 
 -- a whole line leaves no word
 abbrev pub ended : Command × List (List ℕ) → Option Command

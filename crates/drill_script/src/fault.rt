@@ -3,7 +3,8 @@
 ghost use Rattle.std.specs.Prelude.{◌≡◌};
 ghost use Rattle.drill_script.specs.declared.fault.LineFault.TheVariants.{NoMemory};
 
-use std::alloc::{AllocError, AllocFailed};
+use hex::FromHexError;
+use std::alloc::AllocError;
 use thiserror::Error;
 
 /// Why a line could not be read.
@@ -22,5 +23,20 @@ impl From<AllocError> for LineFault {
 
     fn from(_fault: AllocError) -> LineFault {
         LineFault::NoMemory
+    }
+}
+
+impl From<FromHexError> for LineFault {
+    ghost use Rattle.drill_script.specs.Faults.{IsOfHex};
+
+    ghost from_gives = { IsOfHex };
+
+    fn from(fault: FromHexError) -> LineFault {
+        match fault {
+            FromHexError::OutOfMemory => LineFault::NoMemory,
+            FromHexError::InvalidHexCharacter { .. }
+            | FromHexError::OddLength
+            | FromHexError::InvalidStringLength => LineFault::Bad,
+        }
     }
 }

@@ -6,10 +6,10 @@
 mod fault;
 mod line;
 mod reading;
-mod words;
-
 #[cfg(test)]
 mod tests;
+mod words;
 
 pub use fault::LineFault;
 pub use line::Line;
+pub use reading::{read_line, spells_one_line};

@@ -11,7 +11,10 @@ pub enum Line {
         name: Vec<u8>,
     },
     /// `host T HEX`: these bytes came from the host, T milliseconds after the start.
-    Host { time: u32, bytes: Vec<u8> },
+    Host {
+        time: u32,
+        bytes: Vec<u8>,
+    },
     /// `take`: the accepted messages go into a block.
     Take,
     /// `body`: the block is written behind its gate.
@@ -21,5 +24,9 @@ pub enum Line {
     /// `open`: the recording is closed and opened again.
     Open,
     /// `pixel N X Y`: the colour at (X, Y) after N messages.
-    Pixel { count: u64, x: u16, y: u16 },
+    Pixel {
+        count: u64,
+        x: u16,
+        y: u16,
+    },
 }
