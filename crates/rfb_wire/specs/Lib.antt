@@ -1,0 +1,3 @@
+pub use Rattle.pixel_format.specs.Reading
+pub mod Grammar
+pub mod Host

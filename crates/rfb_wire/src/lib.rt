@@ -1,0 +1,8 @@
+//! Messages of the remote framebuffer protocol (RFC 6143, sections 7.5 to 7.7).
+#![tactic(auto)]
+
+mod fault;
+mod message;
+
+pub use fault::WireFault;
+pub use message::{Area, Encoding, HostMessage, Rectangle};
