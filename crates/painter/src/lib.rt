@@ -1,0 +1,11 @@
+//! Screens that are painted by the messages of a host (RFC 6143, section 7.7).
+#![tactic(auto)]
+
+mod pixel;
+mod rectangle;
+mod screen;
+
+pub use screen::Screen;
+
+#[cfg(test)]
+mod tests;

@@ -1,0 +1,1 @@
+pub struct Screen { width: u16 }
