@@ -2,10 +2,10 @@
 
 ghost use Rattle.std.specs.Prelude.{◌≡◌, ◌+◌, ◌*◌, ◌<◌, ◌≤◌, ℕ, length, if◌then◌else◌};
 ghost use Rattle.painter.specs.Pixels.{color_in};
-ghost use Rattle.painter.specs.Picture.{is_in, raw_picture};
+ghost use Rattle.painter.specs.Picture.{is_in, raw_picture, painted_message};
 
 use crate::pixel::{Pixel, paint_row};
-use rfb_wire::Area;
+use rfb_wire::{Area, Encoding, HostMessage};
 
 // Paints a Raw rectangle (RFC 6143, section 7.7.1), row by row.
 fn paint_raw(pixels: &mut [Pixel], width: u16, area: Area, data: &[u8])
@@ -21,5 +21,22 @@ fn paint_raw(pixels: &mut [Pixel], width: u16, area: Area, data: &[u8])
         let start = (top + row) * width + left;
         let from = 4 * (row * w);
         paint_row(&mut pixels[start..start + w], &data[from..from + 4 * w]);
+    }
+}
+
+/// Paints the rectangles of a message in their order, over places that are kept by rows.
+pub(crate) fn paint_message(pixels: &mut [Pixel], message: &HostMessage)
+    requires { length pixels.old ≡ message.now.height * message.now.width }
+    ensures { (x y : ℕ) → x < message.now.width → color_in pixels.new message.now.width x y
+        ≡ painted_message message.now (color_in pixels.old message.now.width) x y }
+{
+    let (width, _) = message.size();
+    let bytes = message.bytes();
+    let rectangles = message.rectangles();
+    for rectangle in rectangles {
+        let data = &bytes[rectangle.start..rectangle.end];
+        match rectangle.encoding {
+            Encoding::Raw => paint_raw(pixels, width, rectangle.area, data),
+        }
     }
 }
