@@ -28,20 +28,19 @@ raw_only encodings.Raw area bytes before = refl
 abbrev pub no_rectangle : Rectangle
 no_rectangle = record { area = record { x = 0; y = 0; w = 0; h = 0 }; encoding = encodings.Raw; start = 0; end = 0 }
 
--- a place once a Raw rectangle was painted
-pub raw_painted : (bytes : List ℕ) (rectangles : List Rectangle) (i : ℕ) (r : Rectangle) (before : Picture) (old new : Color) (x y : ℕ) → i < length rectangles → r ≡ get_or rectangles i no_rectangle
-    → old ≡ painted_rectangles bytes (take i rectangles) before x y
-    → new ≡ cond (is_in r.area x y) (raw_picture r.area (slice_range bytes r.start r.end) x y) old
-    → new ≡ painted_rectangles bytes (take (i + 1) rectangles) before x y
+-- the first i + 1 rectangles: the last of them is painted over what the others left
+pub last_painted : (bytes : List ℕ) (rectangles : List Rectangle) (i : ℕ) (before : Picture) → i < length rectangles
+    → painted_rectangles bytes (take (i + 1) rectangles) before ≡ painted_rectangle bytes (get_or rectangles i no_rectangle) (painted_rectangles bytes (take i rectangles) before)
+last_painted bytes rectangles i before lt =
+    ap (λ (rs : List Rectangle). painted_rectangles bytes rs before) (take_more rectangles i no_rectangle lt)
+    ∙ one_more bytes (take i rectangles) (get_or rectangles i no_rectangle) before
+
+-- a Raw rectangle at a place
+pub raw_painted : (bytes : List ℕ) (r : Rectangle) (before : Picture) (x y : ℕ)
+    → painted_rectangle bytes r before x y ≡ cond (is_in r.area x y) (raw_picture r.area (slice_range bytes r.start r.end) x y) (before x y)
 unfolding painted_rectangle
-raw_painted bytes rectangles i r before old new x y lt is was now =
-    let shown : raw_picture r.area (slice_range bytes r.start r.end) x y ≡ picture_of r.encoding r.area (slice_range bytes r.start r.end) (painted_rectangles bytes (take i rectangles) before) x y
-      = sym (ap (λ (p : Picture). p x y) (raw_only r.encoding r.area (slice_range bytes r.start r.end) (painted_rectangles bytes (take i rectangles) before))) in
-    let more : take (i + 1) rectangles ≡ take i rectangles ++ r ∷ [] = take_more rectangles i no_rectangle lt ∙ ap (λ (q : Rectangle). take i rectangles ++ q ∷ []) (sym is) in
-    let last : painted_rectangles bytes (take (i + 1) rectangles) before x y ≡ painted_rectangle bytes r (painted_rectangles bytes (take i rectangles) before) x y
-      = ap (λ (rs : List Rectangle). painted_rectangles bytes rs before x y) more ∙ ap (λ (p : Picture). p x y) (one_more bytes (take i rectangles) r before) in
-    now ∙ ap (λ (c : Color). cond (is_in r.area x y) (raw_picture r.area (slice_range bytes r.start r.end) x y) c) was
-    ∙ ap (λ (c : Color). cond (is_in r.area x y) c (painted_rectangles bytes (take i rectangles) before x y)) shown ∙ sym last
+raw_painted bytes r before x y =
+    ap (λ (p : Picture). cond (is_in r.area x y) (p x y) (before x y)) (raw_only r.encoding r.area (slice_range bytes r.start r.end) before)
 
 -- ---- screens
 
@@ -75,3 +74,8 @@ one_message_more (first ∷ messages) message before = one_message_more messages
 pub no_messages : (before : Picture) → painted_over before [] ≡ before
 unfolding painted_over
 no_messages before = refl
+
+-- the same of messages
+pub last_message : (messages : List Host) (i : ℕ) (before : Picture) (d : Host) → i < length messages
+    → painted_over before (take (i + 1) messages) ≡ painted_message (get_or messages i d) (painted_over before (take i messages))
+last_message messages i before d lt = ap (painted_over before) (take_more messages i d lt) ∙ one_message_more (take i messages) (get_or messages i d) before
