@@ -1,3 +1,6 @@
 pub use Rattle.pixel_format.specs.Reading
 pub mod Grammar
+pub mod Message
 pub mod Host
+pub mod Stream
+pub mod Progress

@@ -3,6 +3,8 @@
 
 mod fault;
 mod message;
+mod progress;
+mod step;
 
 pub use fault::WireFault;
 pub use message::{Area, Encoding, HostMessage, Rectangle};
