@@ -1,2 +1,4 @@
 pub mod Placed
 pub mod Resume
+pub mod Local
+pub mod Turns

@@ -65,11 +65,15 @@ pub record BeginsAt (at : ℕ) (stage : Stage) : Type 0 where
   pub start : start_of stage ≡ at
   pub some : 0 < wants_of stage
 
--- The reader stands at a field that has begun and isn't whole. What the message says, whatever comes,
--- is what the bytes from the field on say, behind the rectangles that are whole.
+-- The reader stands at a field that has begun. What the message says, whatever comes, is what the bytes
+-- from the field on say, behind the rectangles that are whole.
+pub record Linked (width height : ℕ) (bytes : List ℕ) (rectangles : List Rectangle) (stage : Stage) : Type 0 where
+  pub link : (more : List ℕ) → unlimited_at width height (bytes ++ more)
+    ≡ behind rectangles (resume width height stage (drop (start_of stage) bytes ++ more))
+  pub begun : start_of stage ≤ length bytes
+  pub short : length bytes ≤ message_limit
+
+-- and the field isn't whole
 pub record IsAt (width height : ℕ) (p : Progress) : Type 0 where
-  pub link : (more : List ℕ) → unlimited_at width height (p.bytes.items ++ more)
-    ≡ behind p.rectangles.items (resume width height p.stage (drop (start_of p.stage) p.bytes.items ++ more))
-  pub begun : start_of p.stage ≤ length p.bytes.items
+  pub linked : Linked width height p.bytes.items p.rectangles.items p.stage
   pub unfinished : length p.bytes.items < start_of p.stage + wants_of p.stage
-  pub short : length p.bytes.items ≤ message_limit

@@ -1,5 +1,9 @@
 //! Why bytes are refused.
 
+ghost use Rattle.std.specs.Prelude.{◌≡◌};
+ghost use Rattle.rfb_wire.specs.declared.fault.WireFault.TheVariants as faults;
+
+use std::alloc::{AllocError, AllocFailed};
 use thiserror::Error;
 
 /// What is wrong with the bytes of a peer, at the first field that is refused.
@@ -20,4 +24,20 @@ pub enum WireFault {
     /// There is no memory for what the bytes say.
     #[error("no memory")]
     NoMemory,
+}
+
+impl From<AllocError> for WireFault {
+    ghost from_gives = { λ _ f. f ≡ faults.NoMemory };
+
+    fn from(_fault: AllocError) -> WireFault {
+        WireFault::NoMemory
+    }
+}
+
+impl<T: Drop> From<AllocFailed<T>> for WireFault {
+    ghost from_gives = { λ _ f. f ≡ faults.NoMemory };
+
+    fn from(_fault: AllocFailed<T>) -> WireFault {
+        WireFault::NoMemory
+    }
 }

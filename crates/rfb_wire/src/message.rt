@@ -1,7 +1,7 @@
 //! Recorded messages of a host.
 
 ghost use Rattle.std.specs.Prelude.{◌≡◌, All, IfOk};
-ghost use Rattle.rfb_wire.specs.Host.{IsRecorded, IsPlaced};
+ghost use Rattle.rfb_wire.specs.Host.{host_of, IsRecorded, IsPlaced};
 
 use pixel_format::NoMemory;
 use std::alloc::Global;
@@ -64,6 +64,24 @@ impl Model for HostMessage {
 }
 
 impl HostMessage {
+    // The message whose parts these are.
+    pub(crate) fn from_parts(
+        width: u16,
+        height: u16,
+        bytes: Vec<u8>,
+        rectangles: Vec<Rectangle>,
+    ) -> HostMessage
+        requires { IsRecorded (host_of width height bytes.items rectangles.items) }
+        ensures { result ≡ host_of width height bytes.items rectangles.items }
+    {
+        HostMessage {
+            width,
+            height,
+            bytes,
+            rectangles,
+        }
+    }
+
     /// The message's bytes as they came.
     pub fn bytes(&self) -> &[u8]
         ensures value { result.now ≡ self.now.bytes }
