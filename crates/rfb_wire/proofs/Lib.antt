@@ -2,3 +2,4 @@ pub mod Placed
 pub mod Resume
 pub mod Local
 pub mod Turns
+pub mod Streams

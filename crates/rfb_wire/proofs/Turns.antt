@@ -1,7 +1,8 @@
 -- What a reader's turn does: what it keeps says what the grammar says.
-use Rattle.std.proofs.Common.{◌≡◌, ℕ, zero, suc, ◌+◌, ◌*◌, ◌<◌, ◌≤◌, Bool, true, false, List, [], ◌∷◌, ◌++◌, length, take, drop, nat_eq, slice_index, refl, sym, ap, ◌∙◌, inl, inr, arith, append_assoc, length-append, add_assoc}
+use Rattle.std.proofs.Common.{◌≡◌, ℕ, zero, suc, ◌+◌, ◌*◌, ◌<◌, ◌≤◌, Bool, true, false, List, [], ◌∷◌, ◌++◌, length, take, drop, nat_eq, slice_index, refl, sym, ap, ◌∙◌, ◌⊎◌, inl, inr, arith, append_assoc, length-append, add_assoc}
 use Rattle.std.specs.Prelude.{if◌then◌else◌}
-use Rattle.std.proofs.lemmas.List.{append-nil, drop_all, drop-append-le, take_at, length-drop}
+use Rattle.std.proofs.lemmas.List.{append-nil, drop_all, drop-append-le, take_at, take-append-drop, length-drop}
+use Rattle.rfb_wire.specs.Host.{host_of, IsRecorded}
 use Rattle.pixel_format.specs.Reading.{Reading, Got, More, Bad, ◌>>=◌, field, guard, within, Extends}
 use Rattle.pixel_format.proofs.Readings.{field-whole, field-short, within-short, within-long, true_or_false}
 use Rattle.rfb_wire.specs.declared.message.Area.{Area}
@@ -11,7 +12,8 @@ use Rattle.rfb_wire.specs.declared.fault.WireFault.TheVariants as faults
 use Rattle.rfb_wire.specs.declared.progress.Stage.{Stage}
 use Rattle.rfb_wire.specs.declared.progress.Stage.TheVariants as stages
 use Rattle.rfb_wire.specs.Grammar.{update_at, message_at, Message, Recorded, raw_at, rectangle_at, rectangles_at, message_limit}
-use Rattle.rfb_wire.specs.Progress.{wants_of, start_of, unlimited_at, behind, others_at, resume, go_on, step_on, Linked}
+use Rattle.rfb_wire.specs.Progress.{wants_of, start_of, unlimited_at, behind, others_at, resume, go_on, step_on, Linked, IsAt}
+use Rattle.rfb_wire.specs.declared.progress.Progress.{Progress}
 use Rattle.rfb_wire.specs.declared.progress.Step.{Step}
 use Rattle.rfb_wire.specs.Stream.{UnlessMemory}
 use Rattle.std.specs.Prelude.{Option, Some, None}
@@ -137,3 +139,43 @@ unless_memory faults.OutsideScreen P p = p
 unless_memory (faults.Encoding n) P p = p
 unless_memory faults.TooLong P p = p
 unless_memory faults.NoMemory P p = tt
+
+unless_memory_map : (f : WireFault) (P Q : Type 0) → (P → Q) → UnlessMemory f P → UnlessMemory f Q
+unless_memory_map faults.UnknownType P Q m p = m p
+unless_memory_map faults.OutsideScreen P Q m p = m p
+unless_memory_map (faults.Encoding n) P Q m p = m p
+unless_memory_map faults.TooLong P Q m p = m p
+unless_memory_map faults.NoMemory P Q m p = tt
+
+-- a piece of which nothing is taken
+pub turn_long : (width height : ℕ) (kept piece : List ℕ) (rectangles : List Rectangle) (stage : Stage) (f : WireFault) → Linked width height kept rectangles stage
+    → length kept < start_of stage + wants_of stage → 0 < length piece
+    → (f ≡ faults.NoMemory) ⊎ ((f ≡ faults.TooLong) × (length kept ≡ message_limit))
+    → UnlessMemory f (message_at message_limit width height (kept ++ piece) ≡ Bad f)
+turn_long width height kept piece rectangles stage f l short one (inl e) = rw e tt
+turn_long width height kept piece rectangles stage f l short one (inr e) =
+    rw e.0 (message-long message_limit width height kept piece (omega arith) e.1 (linked_waits width height kept rectangles stage l short) one)
+
+-- a fault in the bytes that are taken is one of the whole piece
+pub turn_faults : (width height n : ℕ) (kept piece taken : List ℕ) (f : WireFault) → taken ≡ kept ++ take n piece → length taken ≤ message_limit
+    → UnlessMemory f (unlimited_at width height taken ≡ Bad f) → UnlessMemory f (message_at message_limit width height (kept ++ piece) ≡ Bad f)
+turn_faults width height n kept piece taken f is short fault =
+    unless_memory_map f (unlimited_at width height taken ≡ Bad f) (message_at message_limit width height (kept ++ piece) ≡ Bad f)
+      (λ e.
+        let first : message_at message_limit width height taken ≡ Bad f = message-short message_limit width height taken short ∙ e in
+        let local = rw first at (message_local message_limit width height taken (drop n piece)) in
+        let all : taken ++ drop n piece ≡ kept ++ piece = rw (is, append_assoc, take-append-drop) refl in
+        ap (message_at message_limit width height) (sym all) ∙ local)
+      fault
+
+-- what is whole within the limit is recorded
+pub whole_recorded : (width height : ℕ) (bytes whole : List ℕ) (rectangles : List Rectangle) → bytes ≡ whole → length whole ≤ message_limit
+    → unlimited_at width height whole ≡ Got (Recorded rectangles) [] → IsRecorded (host_of width height bytes rectangles)
+whole_recorded width height bytes whole rectangles is short e =
+    ap (message_at message_limit width height) is ∙ message-short message_limit width height whole short ∙ e
+
+-- where a field isn't whole, the message waits
+pub at_waits : (width height : ℕ) (p : Progress) → IsAt width height p → message_at message_limit width height p.bytes.items ≡ More
+at_waits width height p at =
+    message-short message_limit width height p.bytes.items at.linked.short
+    ∙ linked_waits width height p.bytes.items p.rectangles.items p.stage at.linked at.unfinished

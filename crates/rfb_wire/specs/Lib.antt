@@ -4,3 +4,4 @@ pub mod Message
 pub mod Host
 pub mod Stream
 pub mod Progress
+pub mod Reader

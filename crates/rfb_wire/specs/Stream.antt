@@ -53,12 +53,6 @@ pub record Goes (width height : ℕ) (kept : List ℕ) (passed : ℕ) (old new :
   pub stands : StandsFor kept passed rest
   pub waits : message_at message_limit width height rest ≡ More
 
--- the messages before the stream's first fault are given
-pub record Faults (width height : ℕ) (f : WireFault) (old new : List Host) (stream : List ℕ) : Type 0 where
-  pub rest : List ℕ
-  pub gives : Gives width height old new stream rest
-  pub fault : message_at message_limit width height rest ≡ Bad f
-
 -- what holds of a fault that the bytes caused
 abbrev pub UnlessMemory : WireFault → Type 0 → Type 0
 UnlessMemory faults.UnknownType P = P
@@ -66,3 +60,10 @@ UnlessMemory faults.OutsideScreen P = P
 UnlessMemory (faults.Encoding n) P = P
 UnlessMemory faults.TooLong P = P
 UnlessMemory faults.NoMemory P = Unit {0}
+
+-- The messages before the place where a reader stops are given. Unless memory ran out there, a fault of
+-- the stream stands at that place.
+pub record Stops (width height : ℕ) (f : WireFault) (old new : List Host) (stream : List ℕ) : Type 0 where
+  pub rest : List ℕ
+  pub gives : Gives width height old new stream rest
+  pub fault : UnlessMemory f (message_at message_limit width height rest ≡ Bad f)

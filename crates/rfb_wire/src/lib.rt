@@ -4,7 +4,9 @@
 mod fault;
 mod message;
 mod progress;
+mod reader;
 mod step;
 
 pub use fault::WireFault;
 pub use message::{Area, Encoding, HostMessage, Rectangle};
+pub use reader::ServerReader;

@@ -5,7 +5,7 @@ ghost use Rattle.std.specs.Option.{option_to_list};
 ghost use Rattle.pixel_format.specs.Reading.{Got, Bad};
 ghost use Rattle.rfb_wire.specs.Grammar.{message_at, Recorded, message_limit};
 ghost use Rattle.rfb_wire.specs.Host.{host_of, IsRecorded};
-ghost use Rattle.rfb_wire.specs.Stream.{Gives, UnlessMemory};
+ghost use Rattle.rfb_wire.specs.Stream.{Gives, Stops, UnlessMemory};
 
 use crate::fault::WireFault;
 use crate::message::{Area, HostMessage, Rectangle};
@@ -133,6 +133,58 @@ impl Progress {
             stage: _,
         } = whole;
         out.push(HostMessage::from_parts(width, height, bytes, rectangles))?;
+        Ok(())
+    }
+
+    // Takes bytes up to the end of a field, or up to the limit, and answers how many. The message is
+    // given once it is whole.
+    fn turn(
+        &mut self,
+        alloc: Global,
+        width: u16,
+        height: u16,
+        piece: &[u8],
+        out: &mut Vec<HostMessage>,
+    ) -> Result<usize, WireFault>
+        requires at { IsAt width height self.old }
+        requires some { 0 < length piece.now }
+        ensures taken { IfOk result (λ n. (0 < n) × (n ≤ length piece.now)) }
+        ensures at { OnOk result (IsAt width height self.new) }
+        ensures gives { IfOk result (λ n. Gives width height out.old.items out.new.items
+            (self.old.bytes.items ++ take n piece.now) self.new.bytes.items) }
+        ensures faults { IfErr result (λ f. UnlessMemory f
+            (message_at message_limit width height (self.old.bytes.items ++ piece.now) ≡ Bad f)) }
+        ensures err { OnErr result (out.new.items ≡ out.old.items) }
+    {
+        let end = self.stage.start() + self.stage.wants();
+        let taken = take(&mut self.bytes, end, piece)?;
+        if self.bytes.len() == end && self.advance(width, height)? {
+            self.give(alloc, width, height, out)?;
+        }
+        Ok(taken)
+    }
+
+    /// Takes a piece of the stream, and gives each message that is whole now.
+    pub fn read(
+        &mut self,
+        alloc: Global,
+        width: u16,
+        height: u16,
+        piece: &[u8],
+        out: &mut Vec<HostMessage>,
+    ) -> Result<(), WireFault>
+        requires { IsAt width height self.old }
+        ensures at { OnOk result (IsAt width height self.new) }
+        ensures gives { OnOk result (Gives width height out.old.items out.new.items
+            (self.old.bytes.items ++ piece.now) self.new.bytes.items) }
+        ensures faults { IfErr result (λ f. Stops width height f out.old.items out.new.items
+            (self.old.bytes.items ++ piece.now)) }
+    {
+        let mut rest = piece;
+        while !rest.is_empty() {
+            let taken = self.turn(alloc, width, height, rest, out)?;
+            rest = &rest[taken..];
+        }
         Ok(())
     }
 }
