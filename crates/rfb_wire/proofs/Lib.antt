@@ -3,3 +3,4 @@ pub mod Resume
 pub mod Local
 pub mod Turns
 pub mod Streams
+pub mod Whole

@@ -10,7 +10,7 @@ use Rattle.rfb_wire.specs.Host.{Host, IsRecorded}
 use Rattle.rfb_wire.specs.Stream.{IsFor, bytes_of, Reads, BeginsNone, FaultOf, StandsFor, Gives, Goes, Stops, UnlessMemory}
 use Rattle.rfb_wire.proofs.Local.{message_local}
 
-flat_append : (a b : List Host) → flat_map bytes_of (a ++ b) ≡ flat_map bytes_of a ++ flat_map bytes_of b
+pub flat_append : (a b : List Host) → flat_map bytes_of (a ++ b) ≡ flat_map bytes_of a ++ flat_map bytes_of b
 flat_append [] b = refl
 flat_append (m ∷ a) b = ap (λ z. m.bytes ++ z) (flat_append a b) ∙ sym (append_assoc m.bytes (flat_map bytes_of a) (flat_map bytes_of b))
 
@@ -126,7 +126,7 @@ pub gives_more : (width height : ℕ) (old mid new : List Host) (kept front take
 gives_more width height old mid new kept front taken bytes after a b =
     subst (λ z. Gives width height old new z after) (append_assoc kept front taken) (gives_then width height old mid new (kept ++ front) bytes taken after a b)
 
-empty_list : (xs : List ℕ) → length xs ≡ 0 → xs ≡ []
+pub empty_list : (xs : List ℕ) → length xs ≡ 0 → xs ≡ []
 empty_list [] e = refl
 empty_list (x ∷ xs) e = absurd (omega arith)
 

@@ -1,4 +1,5 @@
 pub use Rattle.pixel_format.specs.Reading
+pub mod Fault
 pub mod Grammar
 pub mod Message
 pub mod Host

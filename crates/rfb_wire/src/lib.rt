@@ -7,6 +7,6 @@ mod progress;
 mod reader;
 mod step;
 
-pub use fault::WireFault;
+pub use fault::{BytesFault, WireFault};
 pub use message::{Area, Encoding, HostMessage, Rectangle};
 pub use reader::ServerReader;
