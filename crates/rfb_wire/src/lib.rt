@@ -10,3 +10,6 @@ mod step;
 pub use fault::{BytesFault, WireFault};
 pub use message::{Area, Encoding, HostMessage, Rectangle};
 pub use reader::ServerReader;
+
+#[cfg(test)]
+mod tests;
