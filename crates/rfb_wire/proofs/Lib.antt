@@ -4,3 +4,4 @@ pub mod Local
 pub mod Turns
 pub mod Streams
 pub mod Whole
+pub mod Messages
