@@ -1,6 +1,6 @@
 -- Reading a list of bytes from its front, field by field. The bytes begin with a whole thing, or
 -- with a fault, or are too few for either.
-use Rattle.std.specs.Prelude.{ℕ, Bool, List, length, take, drop, ◌++◌, nat_lt, if◌then◌else◌}
+use Rattle.std.specs.Prelude.{◌≡◌, ℕ, Bool, List, length, take, drop, ◌++◌, nat_lt, if◌then◌else◌}
 
 pub data Reading (A E : Type 0) : Type 0 where
   -- a value, and the bytes behind it
@@ -34,3 +34,12 @@ beyond limit fault bytes (Bad e) = Bad e
 
 unfoldable pub within : {A E : Type 0} → ℕ → E → (List ℕ → Reading A E) → List ℕ → Reading A E
 within limit fault read bytes = beyond limit fault bytes (read (take limit bytes))
+
+-- what bytes say, they say whatever follows them
+abbrev pub Extends : {A E : Type 0} → Reading A E → List ℕ → Reading A E → Type 0
+Extends (Got x rest) more longer = longer ≡ Got x (rest ++ more)
+Extends More more longer = Unit {0}
+Extends (Bad e) more longer = longer ≡ Bad e
+
+abbrev pub IsLocal : {A E : Type 0} → (List ℕ → Reading A E) → Type 0
+IsLocal read = (bytes more : List ℕ) → Extends (read bytes) more (read (bytes ++ more))

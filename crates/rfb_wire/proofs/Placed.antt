@@ -47,11 +47,11 @@ raw_got area at bytes r rest e =
       length_is = rw (is, rest_is) (omega (arith, l))
     }
 
-inside_width : (width height : ℕ) (a : Area) → is_inside width height a ≡ true → a.x + a.w ≤ width
+pub inside_width : (width height : ℕ) (a : Area) → is_inside width height a ≡ true → a.x + a.w ≤ width
 unfolding is_inside
 inside_width width height a e = leb-true (a.x + a.w) width (both (nat_le (a.x + a.w) width) (nat_le (a.y + a.h) height) e).0
 
-inside_height : (width height : ℕ) (a : Area) → is_inside width height a ≡ true → a.y + a.h ≤ height
+pub inside_height : (width height : ℕ) (a : Area) → is_inside width height a ≡ true → a.y + a.h ≤ height
 unfolding is_inside
 inside_height width height a e = leb-true (a.y + a.h) height (both (nat_le (a.x + a.w) width) (nat_le (a.y + a.h) height) e).1
 

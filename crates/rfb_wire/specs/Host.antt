@@ -12,6 +12,9 @@ pub record Host : Type 0 where
   pub bytes : List ℕ
   pub rectangles : List Rectangle
 
+abbrev pub host_of : ℕ → ℕ → List ℕ → List Rectangle → Host
+host_of width height bytes rectangles = record { width = width; height = height; bytes = bytes; rectangles = rectangles }
+
 -- the bytes are one recorded message, of these rectangles
 abbrev pub IsRecorded : Host → Type 0
 IsRecorded m = message_at message_limit m.width m.height m.bytes ≡ Got (Recorded m.rectangles) []

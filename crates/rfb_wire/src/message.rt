@@ -1,8 +1,9 @@
 //! Recorded messages of a host.
 
-ghost use Rattle.std.specs.Prelude.{◌≡◌, All, IfOk};
-ghost use Rattle.rfb_wire.specs.Host.{IsRecorded, IsPlaced};
+ghost use Rattle.std.specs.Prelude.{◌≡◌, All, IfOk, Err};
 
+use crate::fault::{BytesFault, WireFault};
+use crate::reader::ServerReader;
 use pixel_format::NoMemory;
 use std::alloc::Global;
 use std::marker::Model;
@@ -64,6 +65,55 @@ impl Model for HostMessage {
 }
 
 impl HostMessage {
+    ghost use Rattle.rfb_wire.specs.declared.fault.WireFault.{WireFault};
+    ghost use Rattle.rfb_wire.specs.Host.{Host, host_of, IsRecorded, IsPlaced};
+    ghost use Rattle.rfb_wire.specs.Stream.{IsFor, FaultOf, UnlessMemory};
+
+    // The message whose parts these are.
+    pub(crate) fn from_parts(
+        width: u16,
+        height: u16,
+        bytes: Vec<u8>,
+        rectangles: Vec<Rectangle>,
+    ) -> HostMessage
+        requires { IsRecorded (host_of width height bytes.items rectangles.items) }
+        ensures { result ≡ host_of width height bytes.items rectangles.items }
+    {
+        HostMessage {
+            width,
+            height,
+            bytes,
+            rectangles,
+        }
+    }
+
+    /// The message that is all of the bytes, for a screen of this size. Where they aren't exactly one
+    /// recorded message, the fault is that of a reader which is fed them, else `NotOne`.
+    pub fn from_bytes(
+        alloc: Global,
+        width: u16,
+        height: u16,
+        bytes: &[u8],
+    ) -> Result<HostMessage, BytesFault>
+        ensures ok { IfOk result (λ m. IsFor width height m × (m.bytes ≡ bytes.now)) }
+        ensures not_one { result ≡ Err BytesFault.NotOne → (m : Host) → IsFor width height m → m.bytes ≡ bytes.now → ⊥ }
+        ensures no_fault { result ≡ Err BytesFault.NotOne → (f : WireFault) → FaultOf width height bytes.now f → ⊥ }
+        ensures wire { (f : WireFault) → result ≡ Err (BytesFault.Wire f) → UnlessMemory f (FaultOf width height bytes.now f) }
+    {
+        let mut reader = ServerReader::new(alloc, width, height);
+        let mut messages = Vec::new(alloc);
+        if let Err(fault) = reader.feed(bytes, &mut messages) {
+            return Err(BytesFault::Wire(fault));
+        }
+        let Some(message) = messages.pop() else {
+            return Err(BytesFault::NotOne);
+        };
+        if message.bytes().len() != bytes.len() {
+            return Err(BytesFault::NotOne);
+        }
+        Ok(message)
+    }
+
     /// The message's bytes as they came.
     pub fn bytes(&self) -> &[u8]
         ensures value { result.now ≡ self.now.bytes }
