@@ -1,0 +1,244 @@
+-- What reading gives is what the words say.
+use Rattle.std.proofs.Common.{◌≡◌, ◌≢◌, ℕ, ◌^◌, true, false, cond, eqb, ltb, List, [], ◌∷◌, ◌++◌, length, Option, Some, None, Result, Ok, Err, refl, sym, ap, subst, ◌∙◌, arith}
+use Rattle.std.specs.Prelude.{codes}
+use Rattle.std.specs.Char.{is_ascii_digit, IsAsciiDigit}
+use Rattle.std.specs.List.{AllByRecursion, concat, list_all, list_any}
+use Rattle.std.specs.Str.{bytes_eq}
+use Rattle.std.proofs.lemmas.Bool.{and_parts, or_parts, ltb-true, eqb-false}
+use Rattle.std.proofs.lemmas.Bool.Decides.{nat_tests}
+use Rattle.std.proofs.lemmas.Option.{some_pair_parts, same_Some}
+use Rattle.std.proofs.lemmas.Slice.Eq.{bytes_eq-Decides}
+use Rattle.hex.specs.Hex.{decode_of}
+use Rattle.hex.specs.declared.error.FromHexError.{FromHexError}
+use Rattle.drill_script.specs.declared.words.Kind.{Kind}
+use Rattle.drill_script.specs.declared.words.Kind.TheVariants as kind
+use Rattle.drill_script.specs.Grammar.{Command, NewCommand, HostCommand, TakeCommand, BodyCommand, GateCommand, OpenCommand, PixelCommand, decimal, IsNumber, IsName, IsHex, Says}
+use Rattle.drill_script.specs.Reading.{◌>>=◌, word_at, number_of, number_at, name_at, joined_at, spelled_by, hex_at, kind_by, new_at, host_at, pixel_at, rest_at, ended, command_at}
+use Rattle.drill_script.proofs.Steps.{bind_some, test_some, test_none, chosen}
+
+-- no word is empty
+abbrev pub AreSome : List (List ℕ) → Type 0
+AreSome words = AllByRecursion (λ word. word ≢ []) words
+
+pub word_takes : (words : List (List ℕ)) (x : List ℕ × List (List ℕ)) → word_at words ≡ Some x → (words ≡ x.0 ∷ x.1) × (x.0 ≢ [])
+word_takes [] x e = absurd cc
+word_takes ([] ∷ rest) x e = absurd cc
+word_takes ((b ∷ bs) ∷ rest) x e =
+    let parts = some_pair_parts (b ∷ bs) x.0 rest x.1 e in
+    (ap (λ (w : List ℕ). w ∷ rest) parts.0 ∙ ap (λ (r : List (List ℕ)). x.0 ∷ r) parts.1, λ none. let clash : b ∷ bs ≡ [] = parts.0 ∙ none in absurd cc)
+
+-- the first word, and what the words after it are
+then_words : (word : List ℕ) {words rest others : List (List ℕ)} → words ≡ word ∷ rest → rest ≡ others → words ≡ word ∷ others
+then_words word first next = first ∙ ap (λ (r : List (List ℕ)). word ∷ r) next
+
+-- ---- numbers
+
+digits_are : (word : List ℕ) → list_all is_ascii_digit word ≡ true → AllByRecursion IsAsciiDigit word
+digits_are [] p = tt
+digits_are (c ∷ cs) p =
+    let parts = and_parts (is_ascii_digit c) (list_all is_ascii_digit cs) p in
+    let digit : is_ascii_digit c ≡ true = parts.0 in
+    (grind (arith, nat_tests), digits_are cs parts.1)
+
+number_is : (limit : ℕ) (word : List ℕ) (n : ℕ) → number_of limit word ≡ Some n → IsNumber limit word n
+number_is limit [] n e = absurd cc
+number_is limit (c ∷ cs) n e =
+    let t = test_some _ (decimal (c ∷ cs)) n e in
+    let parts = and_parts (list_all is_ascii_digit (c ∷ cs)) (ltb (decimal (c ∷ cs)) limit) t.0 in
+    record { some = λ none. absurd cc; digits = digits_are (c ∷ cs) parts.0; value = t.1; fits = rw (← t.1) (ltb-true _ _ parts.1) }
+
+pub record TakesNumber (limit : ℕ) (words : List (List ℕ)) (x : ℕ × List (List ℕ)) : Type 0 where
+  pub word : List ℕ
+  pub first : words ≡ word ∷ x.1
+  pub number : IsNumber limit word x.0
+
+pub number_takes : (limit : ℕ) (words : List (List ℕ)) (x : ℕ × List (List ℕ)) → number_at limit words ≡ Some x → TakesNumber limit words x
+unfolding number_at
+number_takes limit words x e =
+    let a = bind_some (word_at words) (λ word. number_of limit word.0 >>= λ n. Some (n, word.1)) x e in
+    let b = bind_some (number_of limit a.0.0) (λ n. Some (n, a.0.1)) x a.2 in
+    let parts = some_pair_parts b.0 x.0 a.0.1 x.1 b.2 in
+    record {
+      word = a.0.0;
+      first = (word_takes words a.0 a.1).0 ∙ ap (λ (r : List (List ℕ)). a.0.0 ∷ r) parts.1;
+      number = subst (λ (n : ℕ). IsNumber limit a.0.0 n) parts.0 (number_is limit a.0.0 b.0 b.1);
+    }
+
+-- ---- names
+
+no_newline : (word : List ℕ) → list_any (λ byte. eqb byte 10) word ≡ false → IsName word
+no_newline [] p = tt
+no_newline (c ∷ cs) p =
+    let parts = or_parts (eqb c 10) (list_any (λ byte. eqb byte 10) cs) p in
+    (eqb-false c 10 parts.0, no_newline cs parts.1)
+
+pub record TakesName (words : List (List ℕ)) (x : List ℕ × List (List ℕ)) : Type 0 where
+  pub first : words ≡ x.0 ∷ x.1
+  pub some : x.0 ≢ []
+  pub name : IsName x.0
+
+pub name_takes : (words : List (List ℕ)) (x : List ℕ × List (List ℕ)) → name_at words ≡ Some x → TakesName words x
+unfolding name_at
+name_takes words x e =
+    let a = bind_some (word_at words) (λ word. cond (list_any (λ byte. eqb byte 10) word.0) None (Some word)) x e in
+    let t = test_none (list_any (λ byte. eqb byte 10) a.0.0) (Some a.0) x a.2 in
+    let same : a.0 ≡ x = same_Some a.0 x t.1 in
+    let w = word_takes words a.0 a.1 in
+    subst (λ (y : List ℕ × List (List ℕ)). TakesName words y) same (record { first = w.0; some = w.1; name = no_newline a.0.0 t.0 })
+
+-- ---- bytes
+
+pub record TakesJoined (words : List (List ℕ)) (x : List ℕ × List (List ℕ)) : Type 0 where
+  pub joined : concat words ≡ x.0
+  pub rest : x.1 ≡ []
+  pub some : AreSome words
+
+pub joined_takes : (words : List (List ℕ)) (x : List ℕ × List (List ℕ)) → joined_at words ≡ Some x → TakesJoined words x
+unfolding joined_at
+joined_takes [] x e =
+    let parts = some_pair_parts [] x.0 [] x.1 e in
+    record { joined = parts.0; rest = sym parts.1; some = tt }
+joined_takes ([] ∷ ws) x e = absurd cc
+joined_takes ((b ∷ bs) ∷ ws) x e =
+    let a = bind_some (joined_at ws) (λ after. Some ((b ∷ bs) ++ after.0, after.1)) x e in
+    let parts = some_pair_parts ((b ∷ bs) ++ a.0.0) x.0 a.0.1 x.1 a.2 in
+    let after = joined_takes ws a.0 a.1 in
+    record {
+      joined = ap (λ (r : List ℕ). (b ∷ bs) ++ r) after.joined ∙ parts.0;
+      rest = sym parts.1 ∙ after.rest;
+      some = (λ none. absurd cc, after.some);
+    }
+
+spelled_is : (r : Result (List ℕ) FromHexError) (bytes : List ℕ) → spelled_by r ≡ Some bytes → r ≡ Ok bytes
+spelled_is (Ok found) bytes e = ap (λ (b : List ℕ). Ok b) (same_Some found bytes e)
+spelled_is (Err fault) bytes e = absurd cc
+
+pub record TakesHex (words : List (List ℕ)) (x : List ℕ × List (List ℕ)) : Type 0 where
+  pub hex : IsHex words x.0
+  pub rest : x.1 ≡ []
+  pub some : AreSome words
+
+pub hex_takes : (words : List (List ℕ)) (x : List ℕ × List (List ℕ)) → hex_at words ≡ Some x → TakesHex words x
+unfolding hex_at
+hex_takes words x e =
+    let a = bind_some (joined_at words) (λ digits. cond (eqb (length digits.0) 0) None (spelled_by (decode_of digits.0)) >>= λ bytes. Some (bytes, digits.1)) x e in
+    let b = bind_some (cond (eqb (length a.0.0) 0) None (spelled_by (decode_of a.0.0))) (λ bytes. Some (bytes, a.0.1)) x a.2 in
+    let t = test_none (eqb (length a.0.0) 0) (spelled_by (decode_of a.0.0)) b.0 b.1 in
+    let parts = some_pair_parts b.0 x.0 a.0.1 x.1 b.2 in
+    let j = joined_takes words a.0 a.1 in
+    record {
+      hex = record {
+        some = λ none. eqb-false (length a.0.0) 0 t.0 (ap length (sym j.joined ∙ ap concat none));
+        spelled = rw j.joined (spelled_is (decode_of a.0.0) b.0 t.1 ∙ ap (λ (bs : List ℕ). Ok bs) parts.0);
+      };
+      rest = sym parts.1 ∙ j.rest;
+      some = j.some;
+    }
+
+-- ---- the first word
+
+-- what a line of a kind begins with
+abbrev pub keyword : Kind → List ℕ
+keyword kind.New = codes "new"
+keyword kind.Host = codes "host"
+keyword kind.Take = codes "take"
+keyword kind.Body = codes "body"
+keyword kind.Gate = codes "gate"
+keyword kind.Open = codes "open"
+keyword kind.Pixel = codes "pixel"
+
+named : (word : List ℕ) (it kind : Kind) → bytes_eq word (keyword it) ≡ true → Some it ≡ Some kind → word ≡ keyword kind
+named word it kind test e = (bytes_eq-Decides word (keyword it)).0 test ∙ ap keyword (same_Some it kind e)
+
+abbrev one_of : List Kind → List ℕ → Option Kind
+one_of [] word = None
+one_of (it ∷ others) word = cond (bytes_eq word (keyword it)) (Some it) (one_of others word)
+
+one_named : (kinds : List Kind) (word : List ℕ) (kind : Kind) → one_of kinds word ≡ Some kind → word ≡ keyword kind
+one_named [] word kind e = absurd cc
+one_named (it ∷ others) word kind e =
+    chosen (word ≡ keyword kind) (bytes_eq word (keyword it)) (Some it) (one_of others word) (Some kind) e (λ test same. named word it kind test same) (λ test same. one_named others word kind same)
+
+pub kind_named : (word : List ℕ) (it : Kind) → kind_by word ≡ Some it → word ≡ keyword it
+unfolding kind_by
+kind_named word it e = one_named (kind.New ∷ kind.Host ∷ kind.Take ∷ kind.Body ∷ kind.Gate ∷ kind.Open ∷ kind.Pixel ∷ []) word it e
+
+-- ---- the rest of a line
+
+-- a line that ended
+pub ended_is : (x : Command × List (List ℕ)) (command : Command) → ended x ≡ Some command → (x.1 ≡ []) × (x.0 ≡ command)
+ended_is (said, []) command e = (refl, same_Some said command e)
+ended_is (said, word ∷ words) command e = absurd cc
+
+-- the words say the command, and none of them is empty
+abbrev pub Told : List (List ℕ) → Command → Type 0
+Told words command = Says words command × AreSome words
+
+new_told : (words : List (List ℕ)) (x : Command × List (List ℕ)) → new_at words ≡ Some x → x.1 ≡ [] → Told (codes "new" ∷ words) x.0
+unfolding new_at
+new_told words x e none =
+    let a = bind_some (number_at (2 ^ 16) words) (λ width. number_at (2 ^ 16) width.1 >>= λ height. number_at (2 ^ 16) height.1 >>= λ key_interval. name_at key_interval.1 >>= λ name. Some (NewCommand width.0 height.0 key_interval.0 name.0, name.1)) x e in
+    let b = bind_some (number_at (2 ^ 16) a.0.1) (λ height. number_at (2 ^ 16) height.1 >>= λ key_interval. name_at key_interval.1 >>= λ name. Some (NewCommand a.0.0 height.0 key_interval.0 name.0, name.1)) x a.2 in
+    let d = bind_some (number_at (2 ^ 16) b.0.1) (λ key_interval. name_at key_interval.1 >>= λ name. Some (NewCommand a.0.0 b.0.0 key_interval.0 name.0, name.1)) x b.2 in
+    let f = bind_some (name_at d.0.1) (λ name. Some (NewCommand a.0.0 b.0.0 d.0.0 name.0, name.1)) x d.2 in
+    let w = number_takes (2 ^ 16) words a.0 a.1 in
+    let h = number_takes (2 ^ 16) a.0.1 b.0 b.1 in
+    let k = number_takes (2 ^ 16) b.0.1 d.0 d.1 in
+    let n = name_takes d.0.1 f.0 f.1 in
+    let parts = some_pair_parts (NewCommand a.0.0 b.0.0 d.0.0 f.0.0) x.0 f.0.1 x.1 f.2 in
+    let all : words ≡ w.word ∷ h.word ∷ k.word ∷ f.0.0 ∷ [] =
+    then_words w.word w.first (then_words h.word h.first (then_words k.word k.first (then_words f.0.0 n.first (parts.1 ∙ none)))) in
+    subst (λ (ws : List (List ℕ)). Told (codes "new" ∷ ws) x.0) (sym all) (subst (λ (c : Command). Told (codes "new" ∷ w.word ∷ h.word ∷ k.word ∷ f.0.0 ∷ []) c) parts.0
+    ((w.word, h.word, k.word, refl, w.number, h.number, k.number, n.name), (λ empty. absurd cc, (w.number.some, (h.number.some, (k.number.some, (n.some, tt)))))))
+
+host_told : (words : List (List ℕ)) (x : Command × List (List ℕ)) → host_at words ≡ Some x → x.1 ≡ [] → Told (codes "host" ∷ words) x.0
+unfolding host_at
+host_told words x e none =
+    let a = bind_some (number_at (2 ^ 32) words) (λ time. hex_at time.1 >>= λ bytes. Some (HostCommand time.0 bytes.0, bytes.1)) x e in
+    let b = bind_some (hex_at a.0.1) (λ bytes. Some (HostCommand a.0.0 bytes.0, bytes.1)) x a.2 in
+    let t = number_takes (2 ^ 32) words a.0 a.1 in
+    let hex = hex_takes a.0.1 b.0 b.1 in
+    let parts = some_pair_parts (HostCommand a.0.0 b.0.0) x.0 b.0.1 x.1 b.2 in
+    subst (λ (ws : List (List ℕ)). Told (codes "host" ∷ ws) x.0) (sym t.first) (subst (λ (c : Command). Told (codes "host" ∷ t.word ∷ a.0.1) c) parts.0
+    ((t.word, a.0.1, refl, t.number, hex.hex), (λ empty. absurd cc, (t.number.some, hex.some))))
+
+pixel_told : (words : List (List ℕ)) (x : Command × List (List ℕ)) → pixel_at words ≡ Some x → x.1 ≡ [] → Told (codes "pixel" ∷ words) x.0
+unfolding pixel_at
+pixel_told words x e none =
+    let a = bind_some (number_at (2 ^ 64) words) (λ count. number_at (2 ^ 16) count.1 >>= λ x. number_at (2 ^ 16) x.1 >>= λ y. Some (PixelCommand count.0 x.0 y.0, y.1)) x e in
+    let b = bind_some (number_at (2 ^ 16) a.0.1) (λ x. number_at (2 ^ 16) x.1 >>= λ y. Some (PixelCommand a.0.0 x.0 y.0, y.1)) x a.2 in
+    let d = bind_some (number_at (2 ^ 16) b.0.1) (λ y. Some (PixelCommand a.0.0 b.0.0 y.0, y.1)) x b.2 in
+    let n = number_takes (2 ^ 64) words a.0 a.1 in
+    let column = number_takes (2 ^ 16) a.0.1 b.0 b.1 in
+    let row = number_takes (2 ^ 16) b.0.1 d.0 d.1 in
+    let parts = some_pair_parts (PixelCommand a.0.0 b.0.0 d.0.0) x.0 d.0.1 x.1 d.2 in
+    let all : words ≡ n.word ∷ column.word ∷ row.word ∷ [] =
+    then_words n.word n.first (then_words column.word column.first (then_words row.word row.first (parts.1 ∙ none))) in
+    subst (λ (ws : List (List ℕ)). Told (codes "pixel" ∷ ws) x.0) (sym all) (subst (λ (c : Command). Told (codes "pixel" ∷ n.word ∷ column.word ∷ row.word ∷ []) c) parts.0
+    ((n.word, column.word, row.word, refl, n.number, column.number, row.number), (λ empty. absurd cc, (n.number.some, (column.number.some, (row.number.some, tt))))))
+
+bare_told : (word : List ℕ) (said : Command) (words : List (List ℕ)) (x : Command × List (List ℕ)) → word ≢ [] → Says (word ∷ []) said → Some (said, words) ≡ Some x → x.1 ≡ []
+    → Told (word ∷ words) x.0
+bare_told word said words x some says e none =
+    let parts = some_pair_parts said x.0 words x.1 e in
+    subst (λ (ws : List (List ℕ)). Told (word ∷ ws) x.0) (sym (parts.1 ∙ none)) (subst (λ (c : Command). Told (word ∷ []) c) parts.0 (says, (some, tt)))
+
+pub rest_told : (it : Kind) (words : List (List ℕ)) (x : Command × List (List ℕ)) → rest_at it words ≡ Some x → x.1 ≡ [] → Told (keyword it ∷ words) x.0
+rest_told kind.New words x e none = new_told words x e none
+rest_told kind.Host words x e none = host_told words x e none
+rest_told kind.Take words x e none = bare_told (codes "take") TakeCommand words x (λ empty. absurd cc) refl e none
+rest_told kind.Body words x e none = bare_told (codes "body") BodyCommand words x (λ empty. absurd cc) refl e none
+rest_told kind.Gate words x e none = bare_told (codes "gate") GateCommand words x (λ empty. absurd cc) refl e none
+rest_told kind.Open words x e none = bare_told (codes "open") OpenCommand words x (λ empty. absurd cc) refl e none
+rest_told kind.Pixel words x e none = pixel_told words x e none
+
+-- what a line is read as is what its words say
+pub command_told : (words : List (List ℕ)) (command : Command) → command_at words ≡ Some command → Told words command
+unfolding command_at
+command_told words command e =
+    let a = bind_some (word_at words) (λ first. kind_by first.0 >>= λ it. rest_at it first.1 >>= ended) command e in
+    let b = bind_some (kind_by a.0.0) (λ it. rest_at it a.0.1 >>= ended) command a.2 in
+    let d = bind_some (rest_at b.0 a.0.1) ended command b.2 in
+    let over = ended_is d.0 command d.2 in
+    let all : words ≡ keyword b.0 ∷ a.0.1 = (word_takes words a.0 a.1).0 ∙ ap (λ (w : List ℕ). w ∷ a.0.1) (kind_named a.0.0 b.0 b.1) in
+    subst (λ (ws : List (List ℕ)). Told ws command) (sym all) (subst (λ (c : Command). Told (keyword b.0 ∷ a.0.1) c) over.1 (rest_told b.0 a.0.1 d.0 d.1 over.0))

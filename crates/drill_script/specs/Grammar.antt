@@ -1,0 +1,87 @@
+-- The lines of a drill script: what a text has to be to say one.
+use Rattle.std.specs.Prelude.{◌≡◌, ◌≢◌, ℕ, ◌+◌, ◌-◌, ◌*◌, ◌^◌, ◌<◌, List, [], ◌∷◌, length, codes, Ok}
+use Rattle.std.specs.List.{AllByRecursion, concat, join_with_byte}
+use Rattle.std.specs.Char.{IsAsciiDigit}
+use Rattle.hex.specs.Hex.{decode_of}
+use Rattle.drill_script.specs.declared.line.Line.{Line}
+use Rattle.drill_script.specs.declared.line.Line.TheVariants as line
+
+-- what a line says; its bytes are lists, wherever they lie in memory
+pub data Command : Type 0 where
+  NewCommand : (width height key_interval : ℕ) (name : List ℕ) → Command
+  HostCommand : (time : ℕ) (bytes : List ℕ) → Command
+  TakeCommand : Command
+  BodyCommand : Command
+  GateCommand : Command
+  OpenCommand : Command
+  PixelCommand : (count x y : ℕ) → Command
+
+-- what a line that was read says
+abbrev pub command_of : Line → Command
+command_of (line.New width height key_interval name) = NewCommand width height key_interval name.items
+command_of (line.Host time bytes) = HostCommand time bytes.items
+command_of line.Take = TakeCommand
+command_of line.Body = BodyCommand
+command_of line.Gate = GateCommand
+command_of line.Open = OpenCommand
+command_of (line.Pixel count x y) = PixelCommand count x y
+
+-- the line holds bytes, for which memory is taken
+abbrev pub HoldsBytes : Command → Type 0
+HoldsBytes (NewCommand width height key_interval name) = Unit {0}
+HoldsBytes (HostCommand time bytes) = Unit {0}
+HoldsBytes TakeCommand = ⊥
+HoldsBytes BodyCommand = ⊥
+HoldsBytes GateCommand = ⊥
+HoldsBytes OpenCommand = ⊥
+HoldsBytes (PixelCommand count x y) = ⊥
+
+-- a word: one byte or more, and no space
+abbrev pub IsWord : List ℕ → Type 0
+IsWord word = (word ≢ []) × AllByRecursion (λ byte. byte ≢ 32) word
+
+-- the text is these words, with single spaces between them
+pub record IsTextOf (words : List (List ℕ)) (text : List ℕ) : Type 0 where
+  pub some : words ≢ []
+  pub each : AllByRecursion IsWord words
+  pub joined : join_with_byte 32 words ≡ text
+
+-- the value of decimal digits, the first of them the greatest
+abbrev pub decimal : List ℕ → ℕ
+decimal [] = 0
+decimal (digit ∷ digits) = (digit - 48) * 10 ^ length digits + decimal digits
+
+-- a number below a limit: decimal digits alone, one or more
+pub record IsNumber (limit : ℕ) (word : List ℕ) (n : ℕ) : Type 0 where
+  pub some : word ≢ []
+  pub digits : AllByRecursion IsAsciiDigit word
+  pub value : decimal word ≡ n
+  pub fits : n < limit
+
+-- a name is one word, of any bytes but a newline
+abbrev pub IsName : List ℕ → Type 0
+IsName name = AllByRecursion (λ byte. byte ≢ 10) name
+
+-- one word of hexadecimal digits or more, which spell the bytes once they are joined
+pub record IsHex (words : List (List ℕ)) (bytes : List ℕ) : Type 0 where
+  pub some : words ≢ []
+  pub spelled : decode_of (concat words) ≡ Ok bytes
+
+-- the words say the command
+abbrev pub Says : List (List ℕ) → Command → Type 0
+Says words (NewCommand width height key_interval name) =
+    (w : List ℕ) × (h : List ℕ) × (k : List ℕ) × (words ≡ codes "new" ∷ w ∷ h ∷ k ∷ name ∷ [])
+    × IsNumber (2 ^ 16) w width × IsNumber (2 ^ 16) h height × IsNumber (2 ^ 16) k key_interval × IsName name
+Says words (HostCommand time bytes) =
+    (t : List ℕ) × (hex : List (List ℕ)) × (words ≡ codes "host" ∷ t ∷ hex) × IsNumber (2 ^ 32) t time × IsHex hex bytes
+Says words TakeCommand = words ≡ codes "take" ∷ []
+Says words BodyCommand = words ≡ codes "body" ∷ []
+Says words GateCommand = words ≡ codes "gate" ∷ []
+Says words OpenCommand = words ≡ codes "open" ∷ []
+Says words (PixelCommand count x y) =
+    (n : List ℕ) × (column : List ℕ) × (row : List ℕ) × (words ≡ codes "pixel" ∷ n ∷ column ∷ row ∷ [])
+    × IsNumber (2 ^ 64) n count × IsNumber (2 ^ 16) column x × IsNumber (2 ^ 16) row y
+
+-- the text spells the command: its words say it
+abbrev pub Spells : List ℕ → Command → Type 0
+Spells text command = (words : List (List ℕ)) × IsTextOf words text × Says words command

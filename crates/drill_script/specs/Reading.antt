@@ -1,0 +1,153 @@
+-- Reading the words of a line from the first to the last.
+use Rattle.std.specs.Prelude.{◌≡◌, ℕ, ◌^◌, IfSome, ◌==◌, ◌&&◌, nat_lt, List, [], ◌∷◌, ◌++◌, length, codes, Option, Some, None, option_and_then, Result, Ok, Err, if◌then◌else◌}
+use Rattle.std.specs.List.{slice_split, list_all, list_any}
+use Rattle.std.specs.Char.{is_ascii_digit}
+use Rattle.std.specs.Str.{bytes_eq}
+use Rattle.hex.specs.Hex.{decode_of}
+use Rattle.hex.specs.declared.error.FromHexError.{FromHexError}
+use Rattle.drill_script.specs.declared.fault.LineFault.{LineFault}
+use Rattle.drill_script.specs.declared.fault.LineFault.TheVariants.{Bad, NoMemory}
+use Rattle.drill_script.specs.declared.words.Kind.{Kind}
+use Rattle.drill_script.specs.declared.words.Kind.TheVariants as kind
+use Rattle.drill_script.specs.declared.line.Line.{Line}
+use Rattle.drill_script.specs.Grammar.{Command, command_of, HoldsBytes, NewCommand, HostCommand, TakeCommand, BodyCommand, GateCommand, OpenCommand, PixelCommand, decimal}
+
+-- What a call that takes no memory answered, seen by view, and the words that it left, are what reading gives.
+abbrev pub Reads : {A B : Type 0} → (A → B) → Result A LineFault → List (List ℕ) → Option (B × List (List ℕ)) → Type 0
+Reads view (Ok x) after read = read ≡ Some (view x, after)
+Reads view (Err Bad) after read = read ≡ None
+Reads view (Err NoMemory) after read = ⊥
+
+-- The same of a call that takes memory, and may find none.
+abbrev pub ReadsInMemory : {A B : Type 0} → (A → B) → Result A LineFault → List (List ℕ) → Option (B × List (List ℕ)) → Type 0
+ReadsInMemory view (Ok x) after read = read ≡ Some (view x, after)
+ReadsInMemory view (Err Bad) after read = read ≡ None
+ReadsInMemory view (Err NoMemory) after read = Unit {0}
+
+-- What reading a whole line answered is what its words say.
+abbrev pub GivesLine : Result Line LineFault → Option Command → Type 0
+GivesLine (Ok line) read = read ≡ Some (command_of line)
+GivesLine (Err Bad) read = read ≡ None
+GivesLine (Err NoMemory) read = IfSome read HoldsBytes
+
+infixl 10 ◌>>=◌
+abbrev pub ◌>>=◌ : {A B : Type 0} → Option A → (A → Option B) → Option B
+o >>= f = option_and_then f o
+
+-- the parts of a text that spaces part, an empty one where two of them meet
+abbrev pub parts : List ℕ → List (List ℕ)
+parts text = slice_split (λ byte. byte == 32) text
+
+-- the next word, and the parts after it
+abbrev pub word_at : List (List ℕ) → Option (List ℕ × List (List ℕ))
+word_at [] = None
+word_at ([] ∷ rest) = None
+word_at ((byte ∷ bytes) ∷ rest) = Some (byte ∷ bytes, rest)
+
+-- the number that a word writes, where it's below the limit
+abbrev pub number_of : ℕ → List ℕ → Option ℕ
+number_of limit [] = None
+number_of limit (digit ∷ digits) =
+    if list_all is_ascii_digit (digit ∷ digits) && nat_lt (decimal (digit ∷ digits)) limit then Some (decimal (digit ∷ digits)) else None
+
+-- the next word, a number
+unfoldable pub number_at : ℕ → List (List ℕ) → Option (ℕ × List (List ℕ))
+number_at limit words = do
+  word ← word_at words
+  n ← number_of limit word.0
+  Some (n, word.1)
+
+-- the next word, a name
+unfoldable pub name_at : List (List ℕ) → Option (List ℕ × List (List ℕ))
+name_at words = do
+  word ← word_at words
+  if list_any (λ byte. byte == 10) word.0 then None else Some word
+
+-- all the words that are left, joined
+unfoldable pub joined_at : List (List ℕ) → Option (List ℕ × List (List ℕ))
+joined_at [] = Some ([], [])
+joined_at ([] ∷ rest) = None
+joined_at ((byte ∷ bytes) ∷ rest) = do
+  after ← joined_at rest
+  Some ((byte ∷ bytes) ++ after.0, after.1)
+
+-- what decoding hexadecimal digits gave, if anything
+abbrev pub spelled_by : Result (List ℕ) FromHexError → Option (List ℕ)
+spelled_by (Ok bytes) = Some bytes
+spelled_by (Err fault) = None
+
+-- the bytes that the words left spell, one word or more
+unfoldable pub hex_at : List (List ℕ) → Option (List ℕ × List (List ℕ))
+hex_at words = do
+  digits ← joined_at words
+  bytes ← (if length digits.0 == 0 then None else spelled_by (decode_of digits.0))
+  Some (bytes, digits.1)
+
+-- the kind of line that begins with a word
+unfoldable pub kind_by : List ℕ → Option Kind
+kind_by word =
+    if bytes_eq word (codes "new") then Some kind.New
+    else if bytes_eq word (codes "host") then Some kind.Host
+    else if bytes_eq word (codes "take") then Some kind.Take
+    else if bytes_eq word (codes "body") then Some kind.Body
+    else if bytes_eq word (codes "gate") then Some kind.Gate
+    else if bytes_eq word (codes "open") then Some kind.Open
+    else if bytes_eq word (codes "pixel") then Some kind.Pixel
+    else None
+
+-- what follows `new`
+unfoldable pub new_at : List (List ℕ) → Option (Command × List (List ℕ))
+new_at words = do
+  width ← number_at (2 ^ 16) words
+  height ← number_at (2 ^ 16) width.1
+  key_interval ← number_at (2 ^ 16) height.1
+  name ← name_at key_interval.1
+  Some (NewCommand width.0 height.0 key_interval.0 name.0, name.1)
+
+-- what follows `host`, all the words that are left
+unfoldable pub host_at : List (List ℕ) → Option (Command × List (List ℕ))
+host_at words = do
+  time ← number_at (2 ^ 32) words
+  bytes ← hex_at time.1
+  Some (HostCommand time.0 bytes.0, bytes.1)
+
+-- what follows `pixel`
+unfoldable pub pixel_at : List (List ℕ) → Option (Command × List (List ℕ))
+pixel_at words = do
+  count ← number_at (2 ^ 64) words
+  x ← number_at (2 ^ 16) count.1
+  y ← number_at (2 ^ 16) x.1
+  Some (PixelCommand count.0 x.0 y.0, y.1)
+
+-- what follows a line's first word, and the words that it leaves
+abbrev pub rest_at : Kind → List (List ℕ) → Option (Command × List (List ℕ))
+rest_at kind.New words = new_at words
+rest_at kind.Host words = host_at words
+rest_at kind.Take words = Some (TakeCommand, words)
+rest_at kind.Body words = Some (BodyCommand, words)
+rest_at kind.Gate words = Some (GateCommand, words)
+rest_at kind.Open words = Some (OpenCommand, words)
+rest_at kind.Pixel words = pixel_at words
+
+-- a line of this kind takes memory
+abbrev pub TakesMemory : Kind → Type 0
+TakesMemory kind.New = Unit {0}
+TakesMemory kind.Host = Unit {0}
+TakesMemory kind.Take = ⊥
+TakesMemory kind.Body = ⊥
+TakesMemory kind.Gate = ⊥
+TakesMemory kind.Open = ⊥
+TakesMemory kind.Pixel = ⊥
+
+-- a whole line leaves no word
+abbrev pub ended : Command × List (List ℕ) → Option Command
+ended (command, []) = Some command
+ended (command, word ∷ words) = None
+
+-- what a line of these words says
+unfoldable pub command_at : List (List ℕ) → Option Command
+command_at words = do
+  first ← word_at words
+  kind ← kind_by first.0
+  said ← rest_at kind first.1
+  ended said

@@ -1,0 +1,177 @@
+//! Reading one line.
+
+ghost use Rattle.std.specs.Prelude.{◌≡◌, ◌==◌, ◌^◌, ℕ, List, IfOk};
+ghost use Rattle.std.specs.Char.{is_ascii_digit};
+ghost use Rattle.std.specs.List.{list_all, list_any};
+ghost use Rattle.drill_script.specs.Grammar.{Command, command_of, HoldsBytes, Spells};
+ghost use Rattle.drill_script.specs.Reading.{parts, Reads, ReadsInMemory, GivesLine, TakesMemory, command_at, number_of, number_at, name_at, joined_at, hex_at, new_at, host_at, pixel_at, rest_at};
+
+use crate::fault::LineFault;
+use crate::line::Line;
+use crate::words::{Kind, Words, kind_of};
+use std::alloc::Global;
+
+fn is_number(word: &[u8]) -> bool
+    ensures { result ≡ list_all is_ascii_digit word.now }
+{
+    word.iter().all(|digit| digit.is_ascii_digit())
+}
+
+// The number that a word writes in decimal digits, where it fits.
+fn number(word: &[u8]) -> Option<u64>
+    ensures { result ≡ number_of (2 ^ 64) word.now }
+{
+    if !is_number(word) {
+        return None;
+    }
+    str::from_utf8(word).ok()?.parse().ok()
+}
+
+#[tactic(auto, unfolding(crate::specs::Reading::number_at))]
+fn u64_word(words: &mut Words) -> Result<u64, LineFault>
+    ensures { Reads (λ n. n) result words.new (number_at (2 ^ 64) words.old) }
+{
+    number(words.word()?).ok_or(LineFault::Bad)
+}
+
+#[tactic(auto, unfolding(crate::specs::Reading::number_at))]
+fn u32_word(words: &mut Words) -> Result<u32, LineFault>
+    ensures { Reads (λ n. n) result words.new (number_at (2 ^ 32) words.old) }
+{
+    u32::try_from(u64_word(words)?).map_err(|_| LineFault::Bad)
+}
+
+#[tactic(auto, unfolding(crate::specs::Reading::number_at))]
+fn u16_word(words: &mut Words) -> Result<u16, LineFault>
+    ensures { Reads (λ n. n) result words.new (number_at (2 ^ 16) words.old) }
+{
+    u16::try_from(u64_word(words)?).map_err(|_| LineFault::Bad)
+}
+
+fn has_newline(word: &[u8]) -> bool
+    ensures { result ≡ list_any (λ byte. byte == 10) word.now }
+{
+    word.iter().any(|byte| *byte == b'\n')
+}
+
+#[tactic(auto, unfolding(crate::specs::Reading::name_at))]
+fn name_word(alloc: Global, words: &mut Words) -> Result<Vec<u8>, LineFault>
+    ensures { ReadsInMemory (λ name. name.items) result words.new (name_at words.old) }
+{
+    let name = words.word()?;
+    if has_newline(name) {
+        return Err(LineFault::Bad);
+    }
+    Ok(Vec::from_slice(alloc, name)?)
+}
+
+// The words that are left, joined.
+fn joined_words(alloc: Global, words: &mut Words) -> Result<Vec<u8>, LineFault>
+    ensures { ReadsInMemory (λ joined. joined.items) result words.new (joined_at words.old) }
+{
+    let mut joined = Vec::new(alloc);
+    while !words.is_over() {
+        joined.extend_from_slice(words.word()?)?;
+    }
+    Ok(joined)
+}
+
+// The bytes that the words left spell.
+#[tactic(auto, unfolding(crate::specs::Reading::hex_at))]
+fn hex_words(alloc: Global, words: &mut Words) -> Result<Vec<u8>, LineFault>
+    ensures { ReadsInMemory (λ bytes. bytes.items) result words.new (hex_at words.old) }
+{
+    let digits = joined_words(alloc, words)?;
+    if digits.is_empty() {
+        return Err(LineFault::Bad);
+    }
+    Ok(hex::decode(alloc, digits.as_slice())?)
+}
+
+#[tactic(auto, unfolding(crate::specs::Reading::new_at))]
+fn new_line(alloc: Global, words: &mut Words) -> Result<Line, LineFault>
+    ensures { ReadsInMemory command_of result words.new (new_at words.old) }
+{
+    let width = u16_word(words)?;
+    let height = u16_word(words)?;
+    let key_interval = u16_word(words)?;
+    let name = name_word(alloc, words)?;
+    Ok(Line::New {
+        width,
+        height,
+        key_interval,
+        name,
+    })
+}
+
+#[tactic(auto, unfolding(crate::specs::Reading::host_at))]
+fn host_line(alloc: Global, words: &mut Words) -> Result<Line, LineFault>
+    ensures { ReadsInMemory command_of result words.new (host_at words.old) }
+{
+    let time = u32_word(words)?;
+    let bytes = hex_words(alloc, words)?;
+    Ok(Line::Host { time, bytes })
+}
+
+#[tactic(auto, unfolding(crate::specs::Reading::pixel_at))]
+fn pixel_line(words: &mut Words) -> Result<Line, LineFault>
+    ensures { Reads command_of result words.new (pixel_at words.old) }
+{
+    let count = u64_word(words)?;
+    let x = u16_word(words)?;
+    let y = u16_word(words)?;
+    Ok(Line::Pixel { count, x, y })
+}
+
+fn rest_of_line(alloc: Global, kind: Kind, words: &mut Words) -> Result<Line, LineFault>
+    ensures read { ReadsInMemory command_of result words.new (rest_at kind words.old) }
+    ensures memory { result ≡ Err LineFault.NoMemory → TakesMemory kind }
+{
+    match kind {
+        Kind::New => new_line(alloc, words),
+        Kind::Host => host_line(alloc, words),
+        Kind::Take => Ok(Line::Take),
+        Kind::Body => Ok(Line::Body),
+        Kind::Gate => Ok(Line::Gate),
+        Kind::Open => Ok(Line::Open),
+        Kind::Pixel => pixel_line(words),
+    }
+}
+
+#[tactic(auto, unfolding(crate::specs::Reading::command_at))]
+fn line(alloc: Global, text: &[u8]) -> Result<Line, LineFault>
+    ensures { GivesLine result (command_at (parts text.now)) }
+{
+    let mut words = Words::of(text);
+    let kind = kind_of(words.word()?).ok_or(LineFault::Bad)?;
+    let line = rest_of_line(alloc, kind, &mut words)?;
+    if !words.is_over() {
+        return Err(LineFault::Bad);
+    }
+    Ok(line)
+}
+
+/// Reads one line, without its newline.
+///
+/// A line is words with single spaces between them: a space at either end, or two together, make it
+/// bad. Numbers are decimal digits alone and fit their type. HEX is one word of hexadecimal digits or
+/// more, joined before they are judged. A name is one word of any bytes. What follows the first word
+/// is as the variants of [`Line`] say.
+///
+/// Only `new` and `host` take memory.
+pub fn read_line(alloc: Global, text: &[u8]) -> Result<Line, LineFault>
+    // What is read is what the text spells.
+    ensures spelled { IfOk result (λ line. Spells text.now (command_of line)) }
+    ensures only { (command : Command) → Spells text.now command → IfOk result (λ line. command_of line ≡ command) }
+
+    // A text that spells a line is not bad, and wants memory only for bytes that it holds.
+    ensures bad { (command : Command) → result ≡ Err LineFault.Bad → Spells text.now command → ⊥ }
+    ensures memory { (command : Command) → result ≡ Err LineFault.NoMemory → Spells text.now command → HoldsBytes command }
+{
+    line(alloc, text)
+}
+
+/// A text spells one line at most.
+pub fn spells_one_line()
+    ensures { (text : List ℕ) (a b : Command) → Spells text a → Spells text b → a ≡ b }
+{}

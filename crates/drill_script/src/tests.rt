@@ -1,0 +1,88 @@
+use super::*;
+use std::test::Fail;
+
+#[test]
+fn each_kind_of_line(rt: HostRuntime) -> Result<(), Fail> {
+    let name = vec![in rt.alloc(); b'x']?;
+    assert_eq!(rt;
+        read_line(rt.alloc(), b"new 1 65535 4 x"),
+        Ok(Line::New {
+            width: 1,
+            height: 65535,
+            key_interval: 4,
+            name
+        })
+    );
+    let bytes = vec![in rt.alloc(); 0x02, 0xab]?;
+    assert_eq!(rt;
+        read_line(rt.alloc(), b"host 4294967295 0 2 Ab"),
+        Ok(Line::Host {
+            time: 4_294_967_295,
+            bytes
+        })
+    );
+    assert_eq!(rt; read_line(rt.alloc(), b"take"), Ok(Line::Take));
+    assert_eq!(rt; read_line(rt.alloc(), b"body"), Ok(Line::Body));
+    assert_eq!(rt; read_line(rt.alloc(), b"gate"), Ok(Line::Gate));
+    assert_eq!(rt; read_line(rt.alloc(), b"open"), Ok(Line::Open));
+    assert_eq!(rt;
+        read_line(rt.alloc(), b"pixel 18446744073709551615 007 0"),
+        Ok(Line::Pixel {
+            count: u64::MAX,
+            x: 7,
+            y: 0
+        })
+    );
+    spells_one_line();
+    Ok(())
+}
+
+#[test]
+fn names_of_any_bytes(rt: HostRuntime) -> Result<(), Fail> {
+    let name = vec![in rt.alloc(); 0xff, b'\r']?;
+    assert_eq!(rt;
+        read_line(rt.alloc(), b"new 0 0 0 \xff\r"),
+        Ok(Line::New {
+            width: 0,
+            height: 0,
+            key_interval: 0,
+            name
+        })
+    );
+    Ok(())
+}
+
+#[test]
+fn texts_that_are_no_line(rt: HostRuntime) {
+    let texts: [&[u8]; 22] = [
+        b"",
+        b" ",
+        b"shut",
+        b"Take",
+        b"take ",
+        b" take",
+        b"take\r",
+        b"take 1",
+        b"new 1 1 4",
+        b"new 1 1 4 x y",
+        b"new 65536 1 4 x",
+        b"new +1 1 4 x",
+        b"new 1  1 4 x",
+        b"new 1 1 4 x\n",
+        b"host 0",
+        b"host 0 0",
+        b"host 0 0g",
+        b"host 0 00  00",
+        b"host 4294967296 00",
+        b"pixel 18446744073709551616 0 0",
+        b"pixel 0 0 65536",
+        b"pixel 0 -1 0",
+    ];
+    for text in texts {
+        assert_eq!(rt;
+            read_line(rt.alloc(), text),
+            Err(LineFault::Bad),
+            "{text:?}"
+        );
+    }
+}

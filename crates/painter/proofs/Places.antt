@@ -1,0 +1,48 @@
+-- Places in an area, and elements of a list after a part of it was written.
+use Rattle.std.proofs.Common.{◌≡◌, ℕ, ◌+◌, ◌*◌, ◌<◌, ◌≤◌, Bool, true, false, ltb, leb, List, ◌++◌, length, take, drop, get_or, ◌⊎◌, inl, inr, refl, sym, ap, ◌∙◌, arith, rules}
+use Rattle.std.proofs.lemmas.Bool.{and_parts, ltb-true, leb-true, lt-ltb, le-leb, cases_Bool, false_from_ne_true}
+use Rattle.std.proofs.lemmas.List.{get_or-take, get_or-drop, get_or-append_right, length-take-le, length-append, places}
+use borrow.Rule.Slice.PartMut.{put_mid}
+use Rattle.std.proofs.lemmas.Nat.{mul-add-lt}
+use Rattle.rfb_wire.specs.declared.message.Area.{Area}
+use Rattle.painter.specs.Picture.{is_in}
+
+-- the place lies in the area, as a fact
+pub record IsIn (area : Area) (x y : ℕ) : Type 0 where
+  pub left : area.x ≤ x
+  pub right : x < area.x + area.w
+  pub top : area.y ≤ y
+  pub bottom : y < area.y + area.h
+
+pub in_is : (area : Area) (x y : ℕ) → is_in area x y ≡ true → IsIn area x y
+in_is area x y e =
+    let parts = and_parts _ _ e in
+    let columns = and_parts _ _ parts.0 in
+    let rows = and_parts _ _ parts.1 in
+    record { left = leb-true _ _ columns.0; right = ltb-true _ _ columns.1; top = leb-true _ _ rows.0; bottom = ltb-true _ _ rows.1 }
+
+pub is_in_true : (area : Area) (x y : ℕ) → IsIn area x y → is_in area x y ≡ true
+is_in_true area x y h = rw (le-leb area.x x h.left, lt-ltb x (area.x + area.w) h.right, le-leb area.y y h.top, lt-ltb y (area.y + area.h) h.bottom) refl
+
+-- two areas that agree on a place
+pub same_in : (a b : Area) (x y : ℕ) → (IsIn a x y → IsIn b x y) → (IsIn b x y → IsIn a x y) → is_in a x y ≡ is_in b x y
+same_in a b x y to from =
+    elim (cases_Bool (is_in a x y)) [
+      | inl in_a ↦ in_a ∙ sym (is_in_true b x y (to (in_is a x y in_a)))
+      | inr out ↦ out ∙ sym (false_from_ne_true (is_in b x y) (λ in_b. let clash = is_in_true a x y (from (in_is b x y in_b)) in absurd cc))
+    ]
+
+-- ---- an element after the part from a on was written
+
+pub below_part : {X : Type 0} (a k : ℕ) (xs ys : List X) (i : ℕ) (d : X) → a ≤ length xs → i < a → get_or (put_mid a k xs ys) i d ≡ get_or xs i d
+below_part a k xs ys i d fits lt = search (rules, places)
+
+pub in_part : {X : Type 0} (a k : ℕ) (xs ys : List X) (i : ℕ) (d : X) → a ≤ length xs → i < length ys → get_or (put_mid a k xs ys) (a + i) d ≡ get_or ys i d
+in_part a k xs ys i d fits lt = search (rules, places)
+
+pub above_part : {X : Type 0} (a k : ℕ) (xs ys : List X) (i : ℕ) (d : X) → a ≤ length xs → length ys ≡ k → a + k ≤ i → get_or (put_mid a k xs ys) i d ≡ get_or xs i d
+above_part a k xs ys i d fits len le = search (rules, places)
+
+-- a place of a higher row stands before each row below it
+pub row_before : (width x y z : ℕ) → x < width → y < z → y * width + x < z * width
+row_before width x y z in_row lt = omega (arith, mul-add-lt y width x z lt in_row)

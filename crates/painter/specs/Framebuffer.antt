@@ -1,0 +1,33 @@
+-- A screen: a colour for each of its places.
+use Rattle.std.specs.Prelude.{◌≡◌, ℕ, ◌+◌, ◌*◌, ◌<◌, List, length, map, slice_index_or}
+use Rattle.pixel_format.specs.declared.Color.{Color}
+use Rattle.rfb_wire.specs.Host.{Host}
+use Rattle.painter.specs.Picture.{Picture, black, painted}
+
+-- its size, and the colours of its places by rows, from the top and the left
+pub record Framebuffer : Type 0 where
+  pub width : ℕ
+  pub height : ℕ
+  pub places : List Color
+
+-- the colour at a place
+abbrev pub color_at : Framebuffer → Picture
+color_at screen x y = slice_index_or screen.places (y * screen.width + x) (black x y)
+
+-- the message is for a screen of this size
+pub record IsFor (screen : Framebuffer) (message : Host) : Type 0 where
+  pub width : message.width ≡ screen.width
+  pub height : message.height ≡ screen.height
+
+-- the two screens are of one size
+pub record SameSize (old new : Framebuffer) : Type 0 where
+  pub width : new.width ≡ old.width
+  pub height : new.height ≡ old.height
+
+-- the screen has this picture at each of its places
+abbrev pub Has : Framebuffer → Picture → Type 0
+Has screen picture = (x y : ℕ) → x < screen.width → y < screen.height → color_at screen x y ≡ picture x y
+
+-- the screen shows what the messages paint
+abbrev pub Shows : Framebuffer → List Host → Type 0
+Shows screen messages = Has screen (painted messages)

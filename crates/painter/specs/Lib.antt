@@ -1,0 +1,3 @@
+pub mod Picture
+pub mod Pixels
+pub mod Framebuffer

@@ -1,0 +1,52 @@
+//! Pixels as a screen keeps them.
+
+ghost use Rattle.std.specs.Prelude.{◌≡◌, ◌<◌, ◌*◌, ℕ, length};
+ghost use Rattle.pixel_format.specs.Pixel.{host_color};
+ghost use Rattle.painter.specs.Pixels.{color_of, pixel_color_at};
+ghost use Rattle.painter.specs.Picture.{pixel_at};
+
+use pixel_format::{Color, host_pixel};
+
+/// The colour of a place, a byte for each channel.
+#[derive(Clone, Copy)]
+pub(crate) struct Pixel {
+    pub(crate) r: u8,
+    pub(crate) g: u8,
+    pub(crate) b: u8,
+}
+
+pub(crate) const BLACK: Pixel = Pixel { r: 0, g: 0, b: 0 };
+
+// The colour of a pixel.
+pub(crate) fn color_of_pixel(pixel: Pixel) -> Color
+    ensures { result ≡ color_of pixel }
+{
+    Color {
+        r: u16::from(pixel.r),
+        g: u16::from(pixel.g),
+        b: u16::from(pixel.b),
+    }
+}
+
+// The pixel that four bytes of the host format are: blue, green, red, and one that plays no part.
+fn host_pixel_of(bytes: &[u8]) -> Pixel
+    requires { length bytes.now ≡ 4 }
+    ensures { color_of result ≡ host_color bytes.now }
+{
+    host_pixel();
+    Pixel {
+        r: bytes[2],
+        g: bytes[1],
+        b: bytes[0],
+    }
+}
+
+/// Writes a row of places from as many pixels of the host format.
+pub(crate) fn paint_row(row: &mut [Pixel], data: &[u8])
+    requires { length data.now ≡ 4 * length row.old }
+    ensures { (k : ℕ) → k < length row.old → pixel_color_at row.new k ≡ host_color (pixel_at data.now k) }
+{
+    for (k, pixel) in row.iter_mut().enumerate() {
+        *pixel = host_pixel_of(&data[4 * k..4 * k + 4]);
+    }
+}

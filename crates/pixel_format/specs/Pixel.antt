@@ -1,0 +1,34 @@
+-- The colour of a pixel (RFC 6143, section 7.4).
+use Rattle.std.specs.Prelude.{ℕ, ◌+◌, ◌*◌, ◌/◌, ◌%◌, ◌^◌, Bool, List, [], ◌∷◌, if◌then◌else◌}
+use Rattle.pixel_format.specs.declared.Color.{Color}
+use Rattle.pixel_format.specs.Format.{Channel, Format, host_format}
+
+-- the number that bytes are, the lowest byte first
+abbrev pub little_endian : List ℕ → ℕ
+little_endian [] = 0
+little_endian (b ∷ bytes) = b + 256 * little_endian bytes
+
+-- the number that bytes are, the highest byte first, where `high` is that of the bytes before them
+abbrev pub big_endian : ℕ → List ℕ → ℕ
+big_endian high [] = high
+big_endian high (b ∷ bytes) = big_endian (256 * high + b) bytes
+
+-- the number of a pixel: its bytes in the format's order
+abbrev pub pixel_number : Format → List ℕ → ℕ
+pixel_number f bytes = if f.big_endian then big_endian 0 bytes else little_endian bytes
+
+-- the value of a channel in a pixel's number
+abbrev pub channel_value : Channel → ℕ → ℕ
+channel_value c number = number / 2 ^ c.shift % (c.max + 1)
+
+-- the colour of a pixel
+unfoldable pub pixel_color : Format → List ℕ → Color
+pixel_color f bytes = record {
+  r = channel_value f.red (pixel_number f bytes);
+  g = channel_value f.green (pixel_number f bytes);
+  b = channel_value f.blue (pixel_number f bytes)
+}
+
+-- the colour of a pixel of a host
+abbrev pub host_color : List ℕ → Color
+host_color bytes = pixel_color host_format bytes

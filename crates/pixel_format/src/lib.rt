@@ -1,0 +1,22 @@
+//! Pixel formats of the remote framebuffer protocol, and the colours of their pixels (RFC 6143,
+//! section 7.4).
+#![tactic(auto)]
+
+mod format;
+
+pub use format::{PixelFormat, host_pixel};
+
+/// The fault of want of memory.
+pub type NoMemory = std::alloc::AllocError;
+
+/// A colour: how much of red, green and blue, each from 0 to its channel's maximum. A colour of a
+/// screen has channels of at most 255.
+#[derive(Clone, Copy, Debug, PartialEq, Eq)]
+pub struct Color {
+    pub r: u16,
+    pub g: u16,
+    pub b: u16,
+}
+
+#[cfg(test)]
+mod tests;

@@ -1,0 +1,8 @@
+use Rattle.rfb_wire.proofs.Streams.{waits_begins_none, fault_begins_none}
+use Rattle.rfb_wire.proofs.laws.a_rest_begins_none.Goals as goal
+
+pub returns-clause-waits : goal.returns-clause-waits
+returns-clause-waits c = waits_begins_none
+
+pub returns-clause-fault : goal.returns-clause-fault
+returns-clause-fault c = fault_begins_none

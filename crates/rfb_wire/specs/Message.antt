@@ -1,0 +1,53 @@
+-- What a recorded message of a host is (RFC 6143, sections 7.6 and 7.7): a relation between the size
+-- of a screen, the message's bytes, and where its rectangles stand in them.
+use Rattle.std.specs.Prelude.{◌≡◌, ℕ, ◌+◌, ◌*◌, ◌≤◌, List, [], ◌∷◌, ◌++◌, length}
+use Rattle.rfb_wire.specs.declared.message.Area.{Area}
+use Rattle.rfb_wire.specs.declared.message.Rectangle.{Rectangle}
+use Rattle.rfb_wire.specs.declared.message.Encoding.{Encoding}
+use Rattle.rfb_wire.specs.declared.message.Encoding.TheVariants as encodings
+use Rattle.rfb_wire.specs.Grammar.{area_of, encoding_number}
+
+-- the number of an encoding (section 7.7)
+abbrev pub number_of : Encoding → ℕ
+number_of encodings.Raw = 0
+
+-- the data of a rectangle of this area: Raw data are four bytes for each place (section 7.7.1)
+abbrev pub AreData : Encoding → Area → List ℕ → Type 0
+AreData encodings.Raw area bytes = length bytes ≡ 4 * (area.w * area.h)
+
+-- A rectangle that begins at a place of its message: a header of 12 bytes, which names an area within
+-- the screen and an encoding, and the data (section 7.6.1).
+pub record IsRectangle (width height at : ℕ) (r : Rectangle) (bytes : List ℕ) : Type 0 where
+  pub header : List ℕ
+  pub content : List ℕ
+  pub bytes_are : bytes ≡ header ++ content
+  pub header_length : length header ≡ 12
+  pub area_is : r.area ≡ area_of header
+  pub encoding_is : number_of r.encoding ≡ encoding_number header
+  pub within_width : r.area.x + r.area.w ≤ width
+  pub within_height : r.area.y + r.area.h ≤ height
+  pub content_is : AreData r.encoding r.area content
+  pub start_is : r.start ≡ at + 12
+  pub end_is : r.end ≡ r.start + length content
+
+-- rectangles one behind the other
+abbrev pub AreRectangles : ℕ → ℕ → ℕ → List Rectangle → List ℕ → Type 0
+AreRectangles width height at [] bytes = bytes ≡ []
+AreRectangles width height at (r ∷ rs) bytes =
+  (first : List ℕ) × (rest : List ℕ) × (bytes ≡ first ++ rest) × IsRectangle width height at r first × AreRectangles width height r.end rs rest
+
+-- FramebufferUpdate: type 0, a byte of padding, the number of rectangles, and the rectangles (section
+-- 7.6.1)
+pub record IsUpdate (width height : ℕ) (bytes : List ℕ) (rs : List Rectangle) : Type 0 where
+  pub padding : ℕ
+  pub high : ℕ
+  pub low : ℕ
+  pub body : List ℕ
+  pub bytes_are : bytes ≡ 0 ∷ padding ∷ high ∷ low ∷ body
+  pub count_is : length rs ≡ 256 * high + low
+  pub body_is : AreRectangles width height 4 rs body
+
+-- a recorded message, with at most so many bytes if it is an update
+pub record IsMessage (limit width height : ℕ) (bytes : List ℕ) (rs : List Rectangle) : Type 0 where
+  pub update : IsUpdate width height bytes rs
+  pub short : length bytes ≤ limit

@@ -1,0 +1,20 @@
+//! Messages of the remote framebuffer protocol (RFC 6143, sections 7.5 to 7.7).
+#![tactic(auto)]
+
+mod fault;
+mod laws;
+mod message;
+mod progress;
+mod reader;
+mod step;
+
+pub use fault::{BytesFault, WireFault};
+pub use laws::{
+    a_rest_begins_none, grammar_reads_messages, no_message_begins_another, one_reading_of_a_stream,
+    one_reading_of_bytes,
+};
+pub use message::{Area, Encoding, HostMessage, Rectangle};
+pub use reader::ServerReader;
+
+#[cfg(test)]
+mod tests;

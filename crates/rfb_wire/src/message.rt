@@ -1,0 +1,154 @@
+//! Recorded messages of a host.
+
+ghost use Rattle.std.specs.Prelude.{◌≡◌, All, IfOk, Err};
+
+use crate::fault::{BytesFault, WireFault};
+use crate::reader::ServerReader;
+use pixel_format::NoMemory;
+use std::alloc::Global;
+use std::marker::Model;
+
+/// A rectangle of places: its upper left corner, its width and its height.
+#[derive(Clone, Copy, Debug, PartialEq, Eq)]
+pub struct Area {
+    pub x: u16,
+    pub y: u16,
+    pub w: u16,
+    pub h: u16,
+}
+
+/// How the pixels of a rectangle are written (RFC 6143, section 7.7).
+#[derive(Clone, Copy, Debug, PartialEq, Eq)]
+pub enum Encoding {
+    /// All pixels by rows, from the top and the left (section 7.7.1).
+    Raw,
+}
+
+/// A rectangle of an update: its area of the screen, and where in the message's bytes its data begin
+/// and end.
+#[derive(Clone, Copy, Debug, PartialEq, Eq)]
+pub struct Rectangle {
+    pub area: Area,
+    pub encoding: Encoding,
+    pub start: usize,
+    pub end: usize,
+}
+
+/// One recorded message of a host, valid in the host format for a screen of its size: its bytes as
+/// they came and, for an update, where its rectangles stand in them.
+#[derive(Drop)]
+pub struct HostMessage {
+    width: u16,
+    height: u16,
+    bytes: Vec<u8>,
+    rectangles: Vec<Rectangle>,
+}
+
+impl Model for HostMessage {
+    ghost use Rattle.rfb_wire.specs.Host.{Host, IsRecorded};
+
+    ghost Value = { Host };
+
+    ghost view = { λ m. record {
+        width = m.width;
+        height = m.height;
+        bytes = m.bytes.items;
+        rectangles = m.rectangles.items
+    } };
+
+    ghost invariant = { λ m. IsRecorded (record {
+        width = m.width;
+        height = m.height;
+        bytes = m.bytes.items;
+        rectangles = m.rectangles.items
+    }) };
+}
+
+impl HostMessage {
+    ghost use Rattle.rfb_wire.specs.declared.fault.WireFault.{WireFault};
+    ghost use Rattle.rfb_wire.specs.Host.{Host, host_of, IsRecorded, IsPlaced};
+    ghost use Rattle.rfb_wire.specs.Stream.{IsFor, FaultOf, UnlessMemory};
+
+    // The message whose parts these are.
+    pub(crate) fn from_parts(
+        width: u16,
+        height: u16,
+        bytes: Vec<u8>,
+        rectangles: Vec<Rectangle>,
+    ) -> HostMessage
+        requires { IsRecorded (host_of width height bytes.items rectangles.items) }
+        ensures { result ≡ host_of width height bytes.items rectangles.items }
+    {
+        HostMessage {
+            width,
+            height,
+            bytes,
+            rectangles,
+        }
+    }
+
+    /// The message that is all of the bytes, for a screen of this size. Where they aren't exactly one
+    /// recorded message, the fault is that of a reader which is fed them, else `NotOne`.
+    pub fn from_bytes(
+        alloc: Global,
+        width: u16,
+        height: u16,
+        bytes: &[u8],
+    ) -> Result<HostMessage, BytesFault>
+        ensures ok { IfOk result (λ m. IsFor width height m × (m.bytes ≡ bytes.now)) }
+        ensures not_one { result ≡ Err BytesFault.NotOne → (m : Host) → IsFor width height m → m.bytes ≡ bytes.now → ⊥ }
+        ensures no_fault { result ≡ Err BytesFault.NotOne → (f : WireFault) → FaultOf width height bytes.now f → ⊥ }
+        ensures wire { (f : WireFault) → result ≡ Err (BytesFault.Wire f) → UnlessMemory f (FaultOf width height bytes.now f) }
+    {
+        let mut reader = ServerReader::new(alloc, width, height);
+        let mut messages = Vec::new(alloc);
+        if let Err(fault) = reader.feed(bytes, &mut messages) {
+            return Err(BytesFault::Wire(fault));
+        }
+        let Some(message) = messages.pop() else {
+            return Err(BytesFault::NotOne);
+        };
+        if message.bytes().len() != bytes.len() {
+            return Err(BytesFault::NotOne);
+        }
+        Ok(message)
+    }
+
+    /// The message's bytes as they came.
+    pub fn bytes(&self) -> &[u8]
+        ensures value { result.now ≡ self.now.bytes }
+    {
+        &self.bytes
+    }
+
+    /// The width and height of the screen that the message is for.
+    pub fn size(&self) -> (u16, u16)
+        ensures { result ≡ (self.now.width, self.now.height) }
+    {
+        (self.width, self.height)
+    }
+
+    /// The rectangles of an update, in their order; none of another message. Each lies within the
+    /// screen.
+    pub fn rectangles(&self) -> &[Rectangle]
+        ensures value { result.now ≡ self.now.rectangles }
+        ensures recorded { IsRecorded self.now }
+        ensures placed { All (IsPlaced self.now) self.now.rectangles }
+    {
+        &self.rectangles
+    }
+
+    /// The same message again.
+    pub fn copy(&self, alloc: Global) -> Result<HostMessage, NoMemory>
+        ensures { IfOk result (λ m. m ≡ self.now) }
+    {
+        let bytes = Vec::from_slice(alloc, &self.bytes)?;
+        let rectangles = Vec::from_slice(alloc, &self.rectangles)?;
+        Ok(HostMessage {
+            width: self.width,
+            height: self.height,
+            bytes,
+            rectangles,
+        })
+    }
+}

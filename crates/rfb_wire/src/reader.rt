@@ -1,0 +1,88 @@
+//! The reader of a host's stream.
+
+ghost use Rattle.std.specs.Prelude.{◌≡◌, ℕ, List, [], ◌++◌, Option, Some, None, Ok, Err, OnOk, IfErr, OnErr};
+ghost use Rattle.rfb_wire.specs.declared.fault.WireFault.{WireFault};
+ghost use Rattle.rfb_wire.specs.Stream.{Goes, Stops, FaultOf, StandsFor};
+
+use crate::fault::WireFault;
+use crate::message::HostMessage;
+use crate::progress::Progress;
+use std::alloc::Global;
+use std::marker::Model;
+
+/// Reads a host's messages from its stream, which comes in pieces of any length (RFC 6143, section
+/// 7.6), for a screen of one size. Each byte is looked at once, and memory is taken for bytes that
+/// have come alone.
+#[derive(Drop)]
+pub struct ServerReader {
+    width: u16,
+    height: u16,
+    alloc: Global,
+    progress: Progress,
+    fault: Option<WireFault>,
+}
+
+impl Model for ServerReader {
+    ghost use Rattle.rfb_wire.specs.Reader.{Reader};
+    ghost use Rattle.rfb_wire.specs.Progress.{IsAt};
+
+    ghost Value = { Reader };
+
+    ghost view = { λ r. record {
+        width = r.width;
+        height = r.height;
+        kept = r.progress.bytes.items;
+        passed = 0;
+        fault = r.fault
+    } };
+
+    ghost invariant = { λ r. IsAt r.width r.height r.progress };
+}
+
+impl ServerReader {
+    /// A reader at the start of a stream, for a screen of this size.
+    pub fn new(alloc: Global, width: u16, height: u16) -> ServerReader
+        ensures { result ≡ record { width = width; height = height; kept = []; passed = 0; fault = None } }
+    {
+        ServerReader {
+            width,
+            height,
+            alloc,
+            progress: Progress::new(alloc),
+            fault: None,
+        }
+    }
+
+    /// Takes the next piece of the stream, and appends each message that is whole now. A fault is
+    /// answered at the last byte of the field that holds it, once the messages before it are
+    /// appended; from then on each call answers the same fault and does nothing else, also where
+    /// memory ran out.
+    pub fn feed(&mut self, piece: &[u8], out: &mut Vec<HostMessage>) -> Result<(), WireFault>
+        // The messages that are whole are given, and the reader stands for the rest.
+        ensures goes { OnOk result ((rest : List ℕ) → StandsFor self.old.kept self.old.passed rest
+            → Goes self.old.width self.old.height self.new.kept self.new.passed out.old.items out.new.items (rest ++ piece.now)) }
+        // It does not wait at a fault.
+        ensures none { OnOk result ((rest : List ℕ) → (f : WireFault) → StandsFor self.old.kept self.old.passed rest
+            → FaultOf self.old.width self.old.height (rest ++ piece.now) f → ⊥) }
+        // A fault stands in the stream, and the messages before it are given.
+        ensures faults { IfErr result (λ f. self.old.fault ≡ None → (rest : List ℕ) → StandsFor self.old.kept self.old.passed rest
+            → Stops self.old.width self.old.height f out.old.items out.new.items (rest ++ piece.now)) }
+        ensures going { OnOk result (self.new.fault ≡ None) }
+        ensures stopped { IfErr result (λ f. self.new.fault ≡ Some f) }
+        ensures for_good { (f : WireFault) → self.old.fault ≡ Some f
+            → (result ≡ Err f) × (self.new ≡ self.old) × (out.new.items ≡ out.old.items) }
+        ensures emptied { OnErr result (self.old.fault ≡ None → self.new.kept ≡ []) }
+        ensures size { (self.new.width ≡ self.old.width) × (self.new.height ≡ self.old.height) }
+    {
+        if let Some(fault) = self.fault {
+            return Err(fault);
+        }
+        let read = self.progress.read(self.alloc, self.width, self.height, piece, out);
+        if let Err(fault) = read {
+            self.fault = Some(fault);
+            self.progress = Progress::new(self.alloc);
+            return Err(fault);
+        }
+        Ok(())
+    }
+}
