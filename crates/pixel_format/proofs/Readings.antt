@@ -1,5 +1,5 @@
 -- Laws of reading: what a reading that gave a value says of its parts.
-use Rattle.std.proofs.Common.{◌≡◌, ℕ, ◌<◌, ◌≤◌, ◌+◌, ◌⊎◌, inl, inr, Bool, true, false, List, [], ◌∷◌, ◌++◌, length, take, drop, nat_lt, ◌-◌, refl, sym, subst, ap, arith}
+use Rattle.std.proofs.Common.{◌≡◌, ℕ, ◌<◌, ◌≤◌, ◌+◌, ◌⊎◌, inl, inr, Bool, true, false, List, ◌++◌, length, take, drop, nat_lt, ◌-◌, refl, sym, subst, ap, arith}
 use Rattle.std.proofs.lemmas.Bool.{ltb-true, ltb-false, le-ltb, lt-ltb}
 use Rattle.std.proofs.lemmas.List.{take-append-le, drop-append-le, take_at, drop_at, take_all, drop_all, append-nil, take-append-drop, append_assoc, length-append}
 use Rattle.std.proofs.Math.Seq.{take-append-add, drop-append-add}
@@ -36,12 +36,13 @@ true_or_false false = inr refl
 pub field_got : {E : Type 0} (n : ℕ) (bytes f rest : List ℕ) → field {E = E} n bytes ≡ Got f rest → FieldIs n bytes f rest
 unfolding field
 field_got n bytes f rest e = elim (true_or_false (nat_lt (length bytes) n)) [
-    inl short ↦ (let e' = rw short at e in absurd (cc))
+  | inl short ↦ (let e' = rw short at e in absurd (cc))
   | inr long ↦
       (let e' = rw long at e in
-       let a : f ≡ take n bytes = cc in
-       let b : rest ≡ drop n bytes = cc in
-       record { enough = ltb-false (length bytes) n long; is = a; rest_is = b }) ]
+      let a : f ≡ take n bytes = cc in
+      let b : rest ≡ drop n bytes = cc in
+      record { enough = ltb-false (length bytes) n long; is = a; rest_is = b })
+]
 
 -- what was read within a limit was read of the bytes up to the limit
 pub record Within {A E : Type 0} (limit : ℕ) (read : List ℕ → Reading A E) (bytes : List ℕ) (x : A) (after : List ℕ) : Type 0 where
@@ -56,8 +57,9 @@ beyond_got limit fault bytes (Got y rest) x after e =
     let a : after ≡ rest ++ drop limit bytes = cc in
     (rest, ap (λ z. Got z rest) same, a)
 beyond_got limit fault bytes More x after e = elim (true_or_false (nat_lt limit (length bytes))) [
-    inl t ↦ (let e' = rw t at e in absurd (cc))
-  | inr t ↦ (let e' = rw t at e in absurd (cc)) ]
+  | inl t ↦ (let e' = rw t at e in absurd (cc))
+  | inr t ↦ (let e' = rw t at e in absurd (cc))
+]
 beyond_got limit fault bytes (Bad g) x after e = absurd (cc)
 
 pub within_got : {A E : Type 0} (limit : ℕ) (fault : E) (read : List ℕ → Reading A E) (bytes : List ℕ) (x : A) (after : List ℕ)
@@ -82,11 +84,12 @@ field-short n bytes short = rw (lt-ltb (length bytes) n short) refl
 pub field_local : (E : Type 0) (n : ℕ) → IsLocal (field {E = E} n)
 unfolding field
 field_local E n bytes more = elim (true_or_false (nat_lt (length bytes) n)) [
-    inl short ↦ rw short tt
+  | inl short ↦ rw short tt
   | inr long ↦
       (let enough : n ≤ length bytes = ltb-false (length bytes) n long in
-       let longer : nat_lt (length (bytes ++ more)) n ≡ false = le-ltb (length (bytes ++ more)) n (omega (arith, length-append bytes more)) in
-       rw (long, longer, take-append-le n bytes more enough, drop-append-le n bytes more enough) refl) ]
+      let longer : nat_lt (length (bytes ++ more)) n ≡ false = le-ltb (length (bytes ++ more)) n (omega (arith, length-append bytes more)) in
+      rw (long, longer, take-append-le n bytes more enough, drop-append-le n bytes more enough) refl)
+]
 
 -- two readings in a row
 pub bind_local : {A B E : Type 0} (r longer : Reading A E) (more : List ℕ) (f g : A → List ℕ → Reading B E) → Extends r more longer
@@ -123,11 +126,12 @@ beyond_local : {A E : Type 0} (limit : ℕ) (fault : E) (bytes more : List ℕ) 
 beyond_local limit fault bytes more (Got x rest) long =
     rw (drop-append-le limit bytes more long, append_assoc) refl
 beyond_local limit fault bytes more More long = elim (true_or_false (nat_lt limit (length bytes))) [
-    inl t ↦
+  | inl t ↦
       (let over = ltb-true limit (length bytes) t in
-       let longer : nat_lt limit (length (bytes ++ more)) ≡ true = lt-ltb limit (length (bytes ++ more)) (omega (arith, length-append bytes more, over)) in
-       rw (t, longer) refl)
-  | inr t ↦ rw t tt ]
+      let longer : nat_lt limit (length (bytes ++ more)) ≡ true = lt-ltb limit (length (bytes ++ more)) (omega (arith, length-append bytes more, over)) in
+      rw (t, longer) refl)
+  | inr t ↦ rw t tt
+]
 beyond_local limit fault bytes more (Bad e) long = refl
 
 -- a reading of bytes below the limit, and the reading of more bytes up to it
@@ -140,15 +144,16 @@ below_local limit fault bytes more upto beyond_it (Bad g) longer all out e = rw 
 pub within_local : {A E : Type 0} (limit : ℕ) (fault : E) (read : List ℕ → Reading A E) → IsLocal read → IsLocal (within limit fault read)
 unfolding within
 within_local limit fault read local bytes more = elim (true_or_false (nat_lt (length bytes) limit)) [
-    inr t ↦
+  | inr t ↦
       (let long : limit ≤ length bytes = ltb-false (length bytes) limit t in
-       rw (take-append-le limit bytes more long) (beyond_local limit fault bytes more (read (take limit bytes)) long))
+      rw (take-append-le limit bytes more long) (beyond_local limit fault bytes more (read (take limit bytes)) long))
   | inl t ↦
       (let less : length bytes < limit = ltb-true (length bytes) limit t in
-       let small : length bytes ≤ limit = omega arith in
-       let k : ℕ = limit - length bytes in
-       let is : limit ≡ length bytes + k = omega arith in
-       let upto : take limit (bytes ++ more) ≡ bytes ++ take k more = subst (λ (z : ℕ). take z (bytes ++ more) ≡ bytes ++ take k more) (sym is) (take-append-add bytes more k) in
-       let out : drop limit (bytes ++ more) ≡ drop k more = subst (λ (z : ℕ). drop z (bytes ++ more) ≡ drop k more) (sym is) (drop-append-add bytes more k) in
-       rw (take_all limit bytes small, beyond-short limit fault bytes (read bytes) small, upto)
-         (below_local limit fault bytes more (take k more) (drop k more) (read bytes) (read (bytes ++ take k more)) (take-append-drop k more) out (local bytes (take k more)))) ]
+      let small : length bytes ≤ limit = omega arith in
+      let k : ℕ = limit - length bytes in
+      let is : limit ≡ length bytes + k = omega arith in
+      let upto : take limit (bytes ++ more) ≡ bytes ++ take k more = subst (λ (z : ℕ). take z (bytes ++ more) ≡ bytes ++ take k more) (sym is) (take-append-add bytes more k) in
+      let out : drop limit (bytes ++ more) ≡ drop k more = subst (λ (z : ℕ). drop z (bytes ++ more) ≡ drop k more) (sym is) (drop-append-add bytes more k) in
+      rw (take_all limit bytes small, beyond-short limit fault bytes (read bytes) small, upto)
+      (below_local limit fault bytes more (take k more) (drop k more) (read bytes) (read (bytes ++ take k more)) (take-append-drop k more) out (local bytes (take k more))))
+]

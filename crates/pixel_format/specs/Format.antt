@@ -1,6 +1,6 @@
 -- What a pixel format is (RFC 6143, section 7.4).
 use Rattle.std.specs.Prelude.{◌≡◌, ℕ, ◌+◌, ◌*◌, ◌/◌, ◌^◌, ◌<◌, ◌≤◌, ◌⊎◌, Bool, bit_and}
-use Rattle.std.specs.Prelude.{true, false}
+use Rattle.std.specs.Prelude.{false}
 
 -- where a channel stands in a pixel's number, and the greatest value that it takes
 pub record Channel : Type 0 where
@@ -46,5 +46,5 @@ host_format = record {
   big_endian = false;
   red = record { max = 255; shift = 16 };
   green = record { max = 255; shift = 8 };
-  blue = record { max = 255; shift = 0 }
+  blue = record { max = 255; shift = 0 };
 }

@@ -1,5 +1,5 @@
 -- The colour of a pixel (RFC 6143, section 7.4).
-use Rattle.std.specs.Prelude.{ℕ, ◌+◌, ◌*◌, ◌/◌, ◌%◌, ◌^◌, Bool, List, [], ◌∷◌, if◌then◌else◌}
+use Rattle.std.specs.Prelude.{ℕ, ◌+◌, ◌*◌, ◌/◌, ◌%◌, ◌^◌, List, [], ◌∷◌, if◌then◌else◌}
 use Rattle.pixel_format.specs.declared.Color.{Color}
 use Rattle.pixel_format.specs.Format.{Channel, Format, host_format}
 
@@ -26,7 +26,7 @@ unfoldable pub pixel_color : Format → List ℕ → Color
 pixel_color f bytes = record {
   r = channel_value f.red (pixel_number f bytes);
   g = channel_value f.green (pixel_number f bytes);
-  b = channel_value f.blue (pixel_number f bytes)
+  b = channel_value f.blue (pixel_number f bytes);
 }
 
 -- the colour of a pixel of a host

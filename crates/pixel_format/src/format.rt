@@ -30,21 +30,21 @@ impl Model for PixelFormat {
     ghost Value = { Format };
 
     ghost view = { λ f. record {
-        bits = f.bits;
-        depth = f.depth;
-        big_endian = f.big_endian;
-        red = record { max = f.red.max; shift = f.red.shift };
-        green = record { max = f.green.max; shift = f.green.shift };
-        blue = record { max = f.blue.max; shift = f.blue.shift }
+      bits = f.bits;
+      depth = f.depth;
+      big_endian = f.big_endian;
+      red = record { max = f.red.max; shift = f.red.shift };
+      green = record { max = f.green.max; shift = f.green.shift };
+      blue = record { max = f.blue.max; shift = f.blue.shift };
     } };
 
     ghost invariant = { λ f. IsValid (record {
-        bits = f.bits;
-        depth = f.depth;
-        big_endian = f.big_endian;
-        red = record { max = f.red.max; shift = f.red.shift };
-        green = record { max = f.green.max; shift = f.green.shift };
-        blue = record { max = f.blue.max; shift = f.blue.shift }
+      bits = f.bits;
+      depth = f.depth;
+      big_endian = f.big_endian;
+      red = record { max = f.red.max; shift = f.red.shift };
+      green = record { max = f.green.max; shift = f.green.shift };
+      blue = record { max = f.blue.max; shift = f.blue.shift };
     }) };
 }
 
@@ -58,7 +58,10 @@ impl PixelFormat {
             bits: 32,
             depth: 24,
             big_endian: false,
-            red: Channel { max: 255, shift: 16 },
+            red: Channel {
+                max: 255,
+                shift: 16,
+            },
             green: Channel { max: 255, shift: 8 },
             blue: Channel { max: 255, shift: 0 },
         }
@@ -116,5 +119,4 @@ fn value_of(channel: Channel, number: u32) -> u16
 pub fn host_pixel()
     ensures { (blue green red unused : ℕ) → blue < 256 → green < 256 → red < 256
         → host_color (blue ∷ green ∷ red ∷ unused ∷ []) ≡ record { r = red; g = green; b = blue } }
-{
-}
+{}

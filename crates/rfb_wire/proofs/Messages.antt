@@ -1,17 +1,17 @@
 -- What the grammar reads is a message, and each message is what it reads.
-use Rattle.std.proofs.Common.{◌≡◌, ℕ, zero, suc, ◌+◌, ◌*◌, ◌<◌, ◌≤◌, ◌⊎◌, inl, inr, Bool, true, false, List, [], ◌∷◌, ◌++◌, ◌-◌, length, take, drop, nat_le, nat_eq, slice_index, ◌&&◌, refl, sym, ap, ◌∙◌, subst, arith, append_assoc, length-append, eqb-true, eq-eqb}
+use Rattle.std.proofs.Common.{◌≡◌, ℕ, zero, suc, ◌+◌, ◌*◌, ◌≤◌, inl, inr, true, List, [], ◌∷◌, ◌++◌, ◌-◌, length, take, drop, nat_eq, slice_index, refl, sym, ap, ◌∙◌, subst, arith, append_assoc, eqb-true, eq-eqb}
 use Rattle.std.specs.Prelude.{if◌then◌else◌}
-use Rattle.std.proofs.lemmas.Bool.{leb-true, le-leb}
-use Rattle.std.proofs.lemmas.List.{length-take, length-take-le, length-drop, take-append-drop, take_all, append-nil}
-use Rattle.pixel_format.specs.Reading.{Reading, Got, More, Bad, ◌>>=◌, field, guard, within}
-use Rattle.pixel_format.proofs.Readings.{BindsTo, bind_got, guard_got, FieldIs, field_got, field-whole, Within, within_got, within-short, true_or_false}
+use Rattle.std.proofs.lemmas.Bool.{le-leb}
+use Rattle.std.proofs.lemmas.List.{length-take-le, length-drop, take-append-drop, take_all, append-nil}
+use Rattle.pixel_format.specs.Reading.{Got, Bad, ◌>>=◌, field, guard, within}
+use Rattle.pixel_format.proofs.Readings.{bind_got, guard_got, FieldIs, field_got, field-whole, within_got, within-short, true_or_false}
 use Rattle.rfb_wire.specs.declared.message.Area.{Area}
 use Rattle.rfb_wire.specs.declared.message.Rectangle.{Rectangle}
 use Rattle.rfb_wire.specs.declared.message.Encoding.{Encoding}
 use Rattle.rfb_wire.specs.declared.message.Encoding.TheVariants as encodings
 use Rattle.rfb_wire.specs.declared.fault.WireFault.{WireFault}
 use Rattle.rfb_wire.specs.declared.fault.WireFault.TheVariants as faults
-use Rattle.rfb_wire.specs.Grammar.{area_of, encoding_number, is_inside, raw_at, data_at, rectangle_at, rectangles_at, update_at, message_at, Message, Recorded, u16_at}
+use Rattle.rfb_wire.specs.Grammar.{area_of, encoding_number, is_inside, raw_at, data_at, rectangle_at, rectangles_at, update_at, message_at, Recorded, u16_at}
 use Rattle.rfb_wire.specs.Message.{number_of, AreData, IsRectangle, AreRectangles, IsUpdate, IsMessage}
 use Rattle.rfb_wire.proofs.Placed.{inside_width, inside_height}
 
@@ -42,8 +42,9 @@ data_read : (number : ℕ) (area : Area) (at : ℕ) (bytes : List ℕ) (r : Rect
     → (number ≡ 0) × RawRead area at bytes r rest
 unfolding data_at
 data_read number area at bytes r rest e = elim (true_or_false (nat_eq number 0)) [
-    inl t ↦ (let e' = rw t at e in (eqb-true number 0 t, raw_read area at bytes r rest e'))
-  | inr t ↦ (let e' = rw t at e in absurd (cc)) ]
+  | inl t ↦ (let e' = rw t at e in (eqb-true number 0 t, raw_read area at bytes r rest e'))
+  | inr t ↦ (let e' = rw t at e in absurd (cc))
+]
 
 -- a rectangle that is read, and the bytes that it takes
 record RectangleRead (width height at : ℕ) (bytes : List ℕ) (r : Rectangle) (rest : List ℕ) : Type 0 where
@@ -64,22 +65,22 @@ rectangle_read width height at bytes r rest e =
     let area_width : area.x + area.w ≤ width = inside_width width height area g.0 in
     let area_height : area.y + area.h ≤ height = inside_height width height area g.0 in
     let whole : IsRectangle width height at (record { area = area; encoding = encodings.Raw; start = at + 12; end = at + 12 + 4 * (area.w * area.h) }) (b.value ++ raw.content) = record {
-        header = b.value;
-        content = raw.content;
-        bytes_are = refl;
-        header_length = f.1;
-        area_is = refl;
-        encoding_is = sym d.0;
-        within_width = area_width;
-        within_height = area_height;
-        content_is = raw.content_is;
-        start_is = refl;
-        end_is = ap (λ z. at + 12 + z) (sym raw.content_is)
-      } in
+      header = b.value;
+      content = raw.content;
+      bytes_are = refl;
+      header_length = f.1;
+      area_is = refl;
+      encoding_is = sym d.0;
+      within_width = area_width;
+      within_height = area_height;
+      content_is = raw.content_is;
+      start_is = refl;
+      end_is = ap (λ z. at + 12 + z) (sym raw.content_is);
+    } in
     record {
       first = b.value ++ raw.content;
       bytes_are = f.0 ∙ ap (λ z. b.value ++ z) raw.bytes_are ∙ sym (append_assoc b.value raw.content rest);
-      is = subst (λ (z : Rectangle). IsRectangle width height at z (b.value ++ raw.content)) (sym raw.is) whole
+      is = subst (λ (z : Rectangle). IsRectangle width height at z (b.value ++ raw.content)) (sym raw.is) whole;
     }
 
 record RectanglesRead (width height count at : ℕ) (bytes : List ℕ) (rs : List Rectangle) (rest : List ℕ) : Type 0 where
@@ -107,7 +108,7 @@ rectangles_read width height (suc count) at bytes rs rest e =
       body = r.first ++ others.body;
       bytes_are = r.bytes_are ∙ ap (λ z. r.first ++ z) (others.bytes_are ∙ ap (λ z. others.body ++ z) rest_is) ∙ sym (append_assoc r.first others.body rest);
       count_is = ap suc others.count_is;
-      are = (r.first, others.body, refl, r.is, others.are)
+      are = (r.first, others.body, refl, r.is, others.are);
     })
 
 -- a list of so many numbers
@@ -144,10 +145,11 @@ update_read width height bytes rs rest type e =
     let one = one_number b.value t.1 in
     let three = three_numbers h.value k.1 in
     let bytes_are : bytes ≡ (slice_index b.value 0 ∷ slice_index h.value 0 ∷ slice_index h.value 1 ∷ slice_index h.value 2 ∷ all.body) ++ rest =
-        t.0 ∙ ap (λ z. z ++ b.rest) one
-        ∙ ap (λ z. slice_index b.value 0 ∷ z) (k.0 ∙ ap (λ z. z ++ h.rest) three ∙ ap (λ z. slice_index h.value 0 ∷ slice_index h.value 1 ∷ slice_index h.value 2 ∷ z) (all.bytes_are ∙ ap (λ z. all.body ++ z) rest_is)) in
-    let zero_type : slice_index b.value 0 ≡ 0 = sym (ap (λ z. slice_index z 0) bytes_are) ∙ type in
-    (slice_index b.value 0 ∷ slice_index h.value 0 ∷ slice_index h.value 1 ∷ slice_index h.value 2 ∷ all.body, bytes_are,
+    t.0 ∙ ap (λ z. z ++ b.rest) one
+    ∙ ap (λ z. slice_index b.value 0 ∷ z) (k.0 ∙ ap (λ z. z ++ h.rest) three ∙ ap (λ z. slice_index h.value 0 ∷ slice_index h.value 1 ∷ slice_index h.value 2 ∷ z) (all.bytes_are ∙ ap (λ z. all.body ++ z) rest_is)) in
+    let zero_type : slice_index b.value 0 ≡ 0 = sym (ap (λ z. slice_index z 0) bytes_are) ∙ type in (
+      slice_index b.value 0 ∷ slice_index h.value 0 ∷ slice_index h.value 1 ∷ slice_index h.value 2 ∷ all.body,
+      bytes_are,
       record {
         padding = slice_index h.value 0;
         high = slice_index h.value 1;
@@ -155,8 +157,9 @@ update_read width height bytes rs rest type e =
         body = all.body;
         bytes_are = ap (λ z. z ∷ slice_index h.value 0 ∷ slice_index h.value 1 ∷ slice_index h.value 2 ∷ all.body) zero_type;
         count_is = ap length (sym is) ∙ all.count_is;
-        body_is = subst (λ (z : List Rectangle). AreRectangles width height 4 z all.body) is all.are
-      })
+        body_is = subst (λ (z : List Rectangle). AreRectangles width height 4 z all.body) is all.are;
+      },
+    )
 
 pub read_is_message : (limit width height : ℕ) (bytes : List ℕ) (rs : List Rectangle) → message_at limit width height bytes ≡ Got (Recorded rs) []
     → IsMessage limit width height bytes rs
@@ -167,20 +170,21 @@ read_is_message limit width height bytes rs e =
     let one = one_number b.value t.1 in
     let bytes_are : bytes ≡ slice_index b.value 0 ∷ b.rest = t.0 ∙ ap (λ z. z ++ b.rest) one in
     elim (true_or_false (nat_eq (slice_index b.value 0) 0)) [
-        inl is ↦
+      | inl is ↦
           (let e' = rw is at b.then in
-           let w = within_got limit faults.TooLong (update_at width height) bytes (Recorded rs) [] e' in
-           let ends = nothing_behind w.rest (drop limit bytes) (sym w.after_is) in
-           let lengths : length (drop limit bytes) ≡ 0 = ap length ends.1 in
-           let over : length bytes - limit ≡ 0 = sym (length-drop limit bytes) ∙ lengths in
-           let short : length bytes ≤ limit = omega arith in
-           let all : take limit bytes ≡ bytes = take_all limit bytes short in
-           let update : update_at width height bytes ≡ Got (Recorded rs) [] = ap (update_at width height) (sym all) ∙ w.first ∙ ap (λ z. Got (Recorded rs) z) ends.0 in
-           let type : slice_index bytes 0 ≡ 0 = ap (λ z. slice_index z 0) bytes_are ∙ eqb-true (slice_index b.value 0) 0 is in
-           let u = update_read width height bytes rs [] type update in
-           let front : u.0 ≡ bytes = sym (u.1 ∙ append-nil u.0) in
-           record { update = subst (λ z. IsUpdate width height z rs) front u.2; short = short })
-      | inr is ↦ (let e' = rw is at b.then in absurd (cc)) ]
+          let w = within_got limit faults.TooLong (update_at width height) bytes (Recorded rs) [] e' in
+          let ends = nothing_behind w.rest (drop limit bytes) (sym w.after_is) in
+          let lengths : length (drop limit bytes) ≡ 0 = ap length ends.1 in
+          let over : length bytes - limit ≡ 0 = sym (length-drop limit bytes) ∙ lengths in
+          let short : length bytes ≤ limit = omega arith in
+          let all : take limit bytes ≡ bytes = take_all limit bytes short in
+          let update : update_at width height bytes ≡ Got (Recorded rs) [] = ap (update_at width height) (sym all) ∙ w.first ∙ ap (λ z. Got (Recorded rs) z) ends.0 in
+          let type : slice_index bytes 0 ≡ 0 = ap (λ z. slice_index z 0) bytes_are ∙ eqb-true (slice_index b.value 0) 0 is in
+          let u = update_read width height bytes rs [] type update in
+          let front : u.0 ≡ bytes = sym (u.1 ∙ append-nil u.0) in
+          record { update = subst (λ z. IsUpdate width height z rs) front u.2; short = short })
+      | inr is ↦ (let e' = rw is at b.then in absurd (cc))
+    ]
 
 -- an area within the screen
 inside_is : (width height : ℕ) (a : Area) → a.x + a.w ≤ width → a.y + a.h ≤ height → is_inside width height a ≡ true
@@ -247,9 +251,12 @@ unfolding update_at
 update_again width height bytes rs is =
     let body : rectangles_at width height (length rs) 4 (is.body ++ []) ≡ Got rs [] = rectangles_again width height 4 rs is.body [] is.body_is in
     let whole : rectangles_at width height (256 * is.high + is.low) 4 is.body ≡ Got rs [] =
-        ap (λ n. rectangles_at width height n 4 is.body) (sym is.count_is) ∙ ap (rectangles_at width height (length rs) 4) (sym (append-nil is.body)) ∙ body in
-    rw (is.bytes_are, field-whole {E = WireFault} 1 (0 ∷ []) (is.padding ∷ is.high ∷ is.low ∷ is.body) refl,
-      field-whole {E = WireFault} 3 (is.padding ∷ is.high ∷ is.low ∷ []) is.body refl) (rw whole refl)
+    ap (λ n. rectangles_at width height n 4 is.body) (sym is.count_is) ∙ ap (rectangles_at width height (length rs) 4) (sym (append-nil is.body)) ∙ body in
+    rw (
+      is.bytes_are,
+      field-whole {E = WireFault} 1 (0 ∷ []) (is.padding ∷ is.high ∷ is.low ∷ is.body) refl,
+      field-whole {E = WireFault} 3 (is.padding ∷ is.high ∷ is.low ∷ []) is.body refl,
+    ) (rw whole refl)
 
 pub message_is_read : (limit width height : ℕ) (bytes : List ℕ) (rs : List Rectangle) → IsMessage limit width height bytes rs
     → message_at limit width height bytes ≡ Got (Recorded rs) []
@@ -257,5 +264,5 @@ unfolding message_at
 message_is_read limit width height bytes rs is =
     let u = is.update in
     let type : field {E = WireFault} 1 bytes ≡ Got (0 ∷ []) (u.padding ∷ u.high ∷ u.low ∷ u.body) =
-        ap (field {E = WireFault} 1) u.bytes_are ∙ field-whole {E = WireFault} 1 (0 ∷ []) (u.padding ∷ u.high ∷ u.low ∷ u.body) refl in
+    ap (field {E = WireFault} 1) u.bytes_are ∙ field-whole {E = WireFault} 1 (0 ∷ []) (u.padding ∷ u.high ∷ u.low ∷ u.body) refl in
     rw type (within-short limit faults.TooLong (update_at width height) bytes is.short ∙ update_again width height bytes rs u)

@@ -1,19 +1,18 @@
 -- The rectangles of a recorded message lie within the screen, and their data within the message.
-use Rattle.std.proofs.Common.{◌≡◌, ℕ, zero, suc, ◌+◌, ◌*◌, ◌≤◌, Bool, true, false, List, [], ◌∷◌, ◌++◌, length, take, drop, nat_le, nat_eq, slice_index, ◌&&◌, refl, sym, ap, ◌∙◌, subst, arith, length-drop, length-append, inl, inr}
+use Rattle.std.proofs.Common.{◌≡◌, ℕ, zero, suc, ◌+◌, ◌*◌, ◌≤◌, Bool, true, false, List, [], ◌∷◌, length, take, nat_le, nat_eq, slice_index, ◌&&◌, refl, ap, subst, arith, length-drop, inl, inr}
 use Rattle.std.specs.List.{AllByRecursion}
-use Rattle.std.specs.Prelude.{All, min}
+use Rattle.std.specs.Prelude.{All}
 use Rattle.std.proofs.lemmas.List.{length-take}
 use Rattle.std.proofs.lemmas.Bool.{leb-true}
 use Rattle.std.specs.Prelude.{if◌then◌else◌}
 use Rattle.std.proofs.lemmas.List.Elements.{All-from_recursion}
-use Rattle.pixel_format.specs.Reading.{Reading, Got, Bad, ◌>>=◌, field, guard, within}
-use Rattle.pixel_format.proofs.Readings.{BindsTo, bind_got, guard_got, FieldIs, field_got, Within, within_got, true_or_false}
+use Rattle.pixel_format.specs.Reading.{Got, Bad, ◌>>=◌, field, guard, within}
+use Rattle.pixel_format.proofs.Readings.{bind_got, guard_got, FieldIs, field_got, within_got, true_or_false}
 use Rattle.rfb_wire.specs.declared.message.Area.{Area}
 use Rattle.rfb_wire.specs.declared.message.Rectangle.{Rectangle}
 use Rattle.rfb_wire.specs.declared.message.Encoding.TheVariants as encodings
-use Rattle.rfb_wire.specs.declared.fault.WireFault.{WireFault}
 use Rattle.rfb_wire.specs.declared.fault.WireFault.TheVariants as faults
-use Rattle.rfb_wire.specs.Grammar.{area_of, encoding_number, is_inside, raw_at, data_at, rectangle_at, rectangles_at, update_at, message_at, Message, Recorded, message_limit, u16_at}
+use Rattle.rfb_wire.specs.Grammar.{area_of, encoding_number, is_inside, raw_at, data_at, rectangle_at, rectangles_at, update_at, message_at, Recorded, message_limit, u16_at}
 use Rattle.rfb_wire.specs.Host.{Host, IsPlaced, IsRecorded}
 
 both : (a b : Bool) → (a && b) ≡ true → (a ≡ true) × (b ≡ true)
@@ -44,7 +43,7 @@ raw_got area at bytes r rest e =
       area_is = ap (λ (x : Rectangle). x.area) is;
       start_is = ap (λ (x : Rectangle). x.start) is;
       end_is = rw is refl;
-      length_is = rw (is, rest_is) (omega (arith, l))
+      length_is = rw (is, rest_is) (omega (arith, l));
     }
 
 pub inside_width : (width height : ℕ) (a : Area) → is_inside width height a ≡ true → a.x + a.w ≤ width
@@ -59,8 +58,9 @@ inside_height width height a e = leb-true (a.y + a.h) height (both (nat_le (a.x 
 data_got : (number : ℕ) (area : Area) (at : ℕ) (bytes : List ℕ) (r : Rectangle) (rest : List ℕ) → data_at number area at bytes ≡ Got r rest → RawIs area at bytes r rest
 unfolding data_at
 data_got number area at bytes r rest e = elim (true_or_false (nat_eq number 0)) [
-    inl t ↦ (let e' = rw t at e in raw_got area at bytes r rest e')
-  | inr t ↦ (let e' = rw t at e in absurd (cc)) ]
+  | inl t ↦ (let e' = rw t at e in raw_got area at bytes r rest e')
+  | inr t ↦ (let e' = rw t at e in absurd (cc))
+]
 
 -- a rectangle read at a place of a message
 pub record RectangleIs (m : Host) (at : ℕ) (bytes : List ℕ) (r : Rectangle) (rest : List ℕ) : Type 0 where
@@ -82,9 +82,9 @@ rectangle_got m at bytes r rest room e =
         within_height = rw d.area_is (inside_height m.width m.height (area_of b.value) g.0);
         ordered = omega (arith, d.end_is);
         in_bytes = omega (arith, whole, room);
-        raw = λ _. rw (d.area_is) d.end_is
+        raw = λ _. rw (d.area_is) d.end_is;
       };
-      length_is = whole
+      length_is = whole;
     }
 
 rectangles_got : (m : Host) (count at : ℕ) (bytes : List ℕ) (rs : List Rectangle) (rest : List ℕ) → at + length bytes ≤ length m.bytes
@@ -122,8 +122,9 @@ unfolding message_at
 recorded_placed m e =
     let b = bind_got (field 1 m.bytes) (λ type rest. if nat_eq (slice_index type 0) 0 then within message_limit faults.TooLong (update_at m.width m.height) m.bytes else Bad faults.UnknownType) (Recorded m.rectangles) [] e in
     All-from_recursion (IsPlaced m) m.rectangles (elim (true_or_false (nat_eq (slice_index b.value 0) 0)) [
-        inl t ↦
+      | inl t ↦
           (let e' = rw t at b.then in
-           let w = within_got message_limit faults.TooLong (update_at m.width m.height) m.bytes (Recorded m.rectangles) [] e' in
-           update_got m (take message_limit m.bytes) m.rectangles w.rest (rw length-take (omega arith)) w.first)
-      | inr t ↦ (let e' = rw t at b.then in absurd (cc)) ])
+          let w = within_got message_limit faults.TooLong (update_at m.width m.height) m.bytes (Recorded m.rectangles) [] e' in
+          update_got m (take message_limit m.bytes) m.rectangles w.rest (rw length-take (omega arith)) w.first)
+      | inr t ↦ (let e' = rw t at b.then in absurd (cc))
+    ])

@@ -1,8 +1,7 @@
 -- What follows from a whole field: one equation for each stage.
-use Rattle.std.proofs.Common.{◌≡◌, ℕ, zero, suc, ◌+◌, ◌*◌, Bool, true, false, List, [], ◌∷◌, ◌++◌, length, nat_eq, slice_index, refl, sym, ap, ◌∙◌, arith, append_assoc}
-use Rattle.std.specs.Prelude.{if◌then◌else◌}
+use Rattle.std.proofs.Common.{◌≡◌, ℕ, ◌+◌, ◌*◌, true, false, List, [], ◌∷◌, ◌++◌, length, nat_eq, slice_index, refl, ap, ◌∙◌, append_assoc}
 use Rattle.std.specs.Int.{w32, cast_signed}
-use Rattle.pixel_format.specs.Reading.{Reading, Got, More, Bad, ◌>>=◌, field, guard}
+use Rattle.pixel_format.specs.Reading.{Reading, Got, More, Bad, ◌>>=◌, guard}
 use Rattle.pixel_format.proofs.Readings.{field-whole}
 use Rattle.rfb_wire.specs.declared.message.Area.{Area}
 use Rattle.rfb_wire.specs.declared.message.Rectangle.{Rectangle}
@@ -11,7 +10,7 @@ use Rattle.rfb_wire.specs.declared.fault.WireFault.{WireFault}
 use Rattle.rfb_wire.specs.declared.fault.WireFault.TheVariants as faults
 use Rattle.rfb_wire.specs.declared.progress.Stage.TheVariants as stages
 use Rattle.rfb_wire.specs.Grammar.{area_of, encoding_number, is_inside, raw_at, data_at, rectangle_at, rectangles_at, update_at, Message, Recorded, u16_at}
-use Rattle.rfb_wire.specs.Progress.{unlimited_at, put, behind, others_at, resume}
+use Rattle.rfb_wire.specs.Progress.{unlimited_at, behind, others_at, resume}
 
 pub behind_nil : (r : Reading Message WireFault) → behind [] r ≡ r
 behind_nil (Got (Recorded rs) rest) = refl
@@ -44,7 +43,7 @@ head_of_update width height f more whole = rw (field-whole {E = WireFault} 3 f m
 
 pub data_of_raw : (width height at : ℕ) (area : Area) (others : ℕ) (content more : List ℕ) → length content ≡ 4 * (area.w * area.h)
     → resume width height (stages.RawData at area others) (content ++ more)
-      ≡ behind (record { area = area; encoding = encodings.Raw; start = at; end = at + 4 * (area.w * area.h) } ∷ []) (others_at width height others (at + 4 * (area.w * area.h)) more)
+    ≡ behind (record { area = area; encoding = encodings.Raw; start = at; end = at + 4 * (area.w * area.h) } ∷ []) (others_at width height others (at + 4 * (area.w * area.h)) more)
 unfolding resume raw_at
 data_of_raw width height at area others content more whole =
     rw (field-whole {E = WireFault} (4 * (area.w * area.h)) content more whole) refl
@@ -58,7 +57,7 @@ others_behind r (Bad f) = refl
 
 first_and_others : (width height others : ℕ) (q : Reading Rectangle WireFault)
     → ((q >>= λ first rest. rectangles_at width height others first.end rest >>= λ rs after. Got (first ∷ rs) after) >>= λ rs after. Got (Recorded rs) after)
-      ≡ (q >>= λ r rest. behind (r ∷ []) (others_at width height others r.end rest))
+    ≡ (q >>= λ r rest. behind (r ∷ []) (others_at width height others r.end rest))
 unfolding others_at
 first_and_others width height others (Got r rest) = others_behind r (rectangles_at width height others r.end rest)
 first_and_others width height others More = refl
@@ -67,14 +66,14 @@ first_and_others width height others (Bad f) = refl
 -- behind its header, a rectangle is its data
 header_whole : (width height at others : ℕ) (f more : List ℕ) → length f ≡ 12
     → resume width height (stages.RectangleHead at others) (f ++ more)
-      ≡ (guard (is_inside width height (area_of f)) faults.OutsideScreen (data_at (encoding_number f) (area_of f) (at + 12) more)
-        >>= λ r rest. behind (r ∷ []) (others_at width height others r.end rest))
+    ≡ (guard (is_inside width height (area_of f)) faults.OutsideScreen (data_at (encoding_number f) (area_of f) (at + 12) more)
+    >>= λ r rest. behind (r ∷ []) (others_at width height others r.end rest))
 unfolding resume others_at rectangles_at rectangle_at
 header_whole width height at others f more whole =
     first_and_others width height others (rectangle_at width height at (f ++ more))
     ∙ ap (λ (q : Reading Rectangle WireFault). q >>= λ r rest. behind (r ∷ []) (others_at width height others r.end rest))
-      (ap (λ (q : Reading (List ℕ) WireFault). q >>= λ head rest. guard (is_inside width height (area_of head)) faults.OutsideScreen (data_at (encoding_number head) (area_of head) (at + 12) rest))
-        (field-whole {E = WireFault} 12 f more whole))
+    (ap (λ (q : Reading (List ℕ) WireFault). q >>= λ head rest. guard (is_inside width height (area_of head)) faults.OutsideScreen (data_at (encoding_number head) (area_of head) (at + 12) rest))
+    (field-whole {E = WireFault} 12 f more whole))
 
 pub header_outside : (width height at others : ℕ) (f more : List ℕ) → length f ≡ 12 → is_inside width height (area_of f) ≡ false
     → resume width height (stages.RectangleHead at others) (f ++ more) ≡ Bad faults.OutsideScreen

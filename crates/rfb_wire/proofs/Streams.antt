@@ -1,12 +1,11 @@
 -- Streams of messages: what is given adds up, and a stream has one reading.
-use Rattle.std.proofs.Common.{◌≡◌, ℕ, ◌+◌, ◌≤◌, List, [], ◌∷◌, ◌++◌, length, refl, sym, ap, ◌∙◌, subst, arith, append_assoc}
+use Rattle.std.proofs.Common.{◌≡◌, ℕ, List, [], ◌∷◌, ◌++◌, length, refl, sym, ap, ◌∙◌, subst, arith, append_assoc}
 use Rattle.std.specs.List.{flat_map, AllByRecursion}
 use Rattle.std.proofs.lemmas.List.{append-nil, append_cancel_right}
-use Rattle.pixel_format.specs.Reading.{Reading, Got, More, Bad, Extends}
-use Rattle.rfb_wire.specs.declared.message.Rectangle.{Rectangle}
+use Rattle.pixel_format.specs.Reading.{Got, More, Bad}
 use Rattle.rfb_wire.specs.declared.fault.WireFault.{WireFault}
 use Rattle.rfb_wire.specs.Grammar.{message_at, Message, Recorded, message_limit}
-use Rattle.rfb_wire.specs.Host.{Host, IsRecorded}
+use Rattle.rfb_wire.specs.Host.{Host}
 use Rattle.rfb_wire.specs.Stream.{IsFor, bytes_of, Reads, BeginsNone, FaultOf, StandsFor, Gives, Goes, Stops, UnlessMemory}
 use Rattle.rfb_wire.proofs.Local.{message_local}
 
@@ -20,33 +19,33 @@ all_append width height (m ∷ a) b all more = (all.0, all_append width height a
 
 pub gives_none : (width height : ℕ) (old new : List Host) (stream rest : List ℕ) → new ≡ old → stream ≡ rest → Gives width height old new stream rest
 gives_none width height old new stream rest same is = record {
-    messages = [];
-    given = same ∙ sym (append-nil old);
-    reads = record { each = tt; stream_is = is }
-  }
+  messages = [];
+  given = same ∙ sym (append-nil old);
+  reads = record { each = tt; stream_is = is };
+}
 
 pub gives_one : (width height : ℕ) (old new : List Host) (m : Host) (stream rest : List ℕ) → IsFor width height m → new ≡ old ++ m ∷ [] → stream ≡ m.bytes → rest ≡ []
     → Gives width height old new stream rest
 gives_one width height old new m stream rest is given whole none = record {
-    messages = m ∷ [];
-    given = given;
-    reads = record { each = (is, tt); stream_is = rw (none, whole) (sym (append-nil (m.bytes ++ []) ∙ append-nil m.bytes)) }
-  }
+  messages = m ∷ [];
+  given = given;
+  reads = record { each = (is, tt); stream_is = rw (none, whole) (sym (append-nil (m.bytes ++ []) ∙ append-nil m.bytes)) };
+}
 
 pub gives_then : (width height : ℕ) (old mid new : List Host) (stream rest more after : List ℕ) → Gives width height old mid stream rest
     → Gives width height mid new (rest ++ more) after → Gives width height old new (stream ++ more) after
 gives_then width height old mid new stream rest more after a b =
     let last = b.given in
     let both : stream ++ more ≡ flat_map bytes_of (a.messages ++ b.messages) ++ after =
-      ap (λ z. z ++ more) a.reads.stream_is
-      ∙ append_assoc (flat_map bytes_of a.messages) rest more
-      ∙ ap (λ z. flat_map bytes_of a.messages ++ z) b.reads.stream_is
-      ∙ sym (append_assoc (flat_map bytes_of a.messages) (flat_map bytes_of b.messages) after)
-      ∙ ap (λ z. z ++ after) (sym (flat_append a.messages b.messages)) in
+    ap (λ z. z ++ more) a.reads.stream_is
+    ∙ append_assoc (flat_map bytes_of a.messages) rest more
+    ∙ ap (λ z. flat_map bytes_of a.messages ++ z) b.reads.stream_is
+    ∙ sym (append_assoc (flat_map bytes_of a.messages) (flat_map bytes_of b.messages) after)
+    ∙ ap (λ z. z ++ after) (sym (flat_append a.messages b.messages)) in
     record {
       messages = a.messages ++ b.messages;
       given = b.given ∙ ap (λ z. z ++ b.messages) a.given ∙ append_assoc old a.messages b.messages;
-      reads = record { each = all_append width height a.messages b.messages a.reads.each b.reads.each; stream_is = both }
+      reads = record { each = all_append width height a.messages b.messages a.reads.each b.reads.each; stream_is = both };
     }
 
 -- a message is read from the front of any bytes that it begins
@@ -54,7 +53,7 @@ pub message_again : (width height : ℕ) (m : Host) (more : List ℕ) → IsFor 
     → message_at message_limit width height (m.bytes ++ more) ≡ Got (Recorded m.rectangles) more
 message_again width height m more is =
     let recorded : message_at message_limit width height m.bytes ≡ Got (Recorded m.rectangles) [] =
-        rw (← is.width_is, ← is.height_is) is.recorded in
+    rw (← is.width_is, ← is.height_is) is.recorded in
     let local = message_local message_limit width height m.bytes more in
     rw recorded at local
 
@@ -85,14 +84,14 @@ one_reading width height stream other (m ∷ a) [] r s is x none y empty =
     absurd (empty m (flat_map bytes_of a ++ r) x.each.0 (sym y.stream_is ∙ sym is ∙ x.stream_is ∙ append_assoc m.bytes (flat_map bytes_of a) r))
 one_reading width height stream other (m ∷ a) (n ∷ b) r s is x none y empty =
     let front : m.bytes ++ (flat_map bytes_of a ++ r) ≡ n.bytes ++ (flat_map bytes_of b ++ s) =
-        sym (append_assoc m.bytes (flat_map bytes_of a) r) ∙ sym x.stream_is ∙ is ∙ y.stream_is ∙ append_assoc n.bytes (flat_map bytes_of b) s in
+    sym (append_assoc m.bytes (flat_map bytes_of a) r) ∙ sym x.stream_is ∙ is ∙ y.stream_is ∙ append_assoc n.bytes (flat_map bytes_of b) s in
     let got = sym (message_again width height m (flat_map bytes_of a ++ r) x.each.0) ∙ ap (message_at message_limit width height) front ∙ message_again width height n (flat_map bytes_of b ++ s) y.each.0 in
     let rectangles : m.rectangles ≡ n.rectangles = cc in
     let rests : flat_map bytes_of a ++ r ≡ flat_map bytes_of b ++ s = cc in
     let bytes : m.bytes ≡ n.bytes = append_cancel_right m.bytes n.bytes (flat_map bytes_of b ++ s) (ap (λ z. m.bytes ++ z) (sym rests) ∙ front) in
     let first : m ≡ n = same_host m n (x.each.0.width_is ∙ sym y.each.0.width_is) (x.each.0.height_is ∙ sym y.each.0.height_is) bytes rectangles in
     let others = one_reading width height (flat_map bytes_of a ++ r) (flat_map bytes_of b ++ s) a b r s rests
-        (record { each = x.each.1; stream_is = refl }) none (record { each = y.each.1; stream_is = refl }) empty in
+    (record { each = x.each.1; stream_is = refl }) none (record { each = y.each.1; stream_is = refl }) empty in
     (rw (first, others.0) refl, others.1)
 
 -- a stream whose rest waits has no fault
@@ -100,7 +99,7 @@ pub no_fault : (width height : ℕ) (stream : List ℕ) (messages : List Host) (
     → message_at message_limit width height rest ≡ More → FaultOf width height stream f → ⊥
 no_fault width height stream messages rest f reads waits fault =
     let one = one_reading width height stream stream messages fault.messages rest fault.rest refl reads (waits_begins_none width height rest waits)
-        fault.reads (fault_begins_none width height fault.rest f fault.fault) in
+    fault.reads (fault_begins_none width height fault.rest f fault.fault) in
     let both = sym waits ∙ ap (message_at message_limit width height) one.1 ∙ fault.fault in
     absurd (cc)
 
@@ -116,7 +115,7 @@ gives_stops width height old mid new kept piece front rest bytes f is gives same
     record {
       rest = bytes ++ rest;
       gives = subst (λ z. Gives width height old new z (bytes ++ rest)) stream all;
-      fault = fault
+      fault = fault;
     }
 
 -- one turn more of a piece
@@ -144,4 +143,8 @@ pub reader_goes : (width height : ℕ) (old new : List Host) (kept rest piece af
     → Gives width height old new (kept ++ piece) after → message_at message_limit width height after ≡ More
     → Goes width height after 0 old new (rest ++ piece)
 reader_goes width height old new kept rest piece after is gives waits = rw is (record {
-    rest = after; gives = gives; stands = stands_whole after; waits = waits })
+  rest = after;
+  gives = gives;
+  stands = stands_whole after;
+  waits = waits;
+})

@@ -1,11 +1,10 @@
 -- What a reader's turn does: what it keeps says what the grammar says.
-use Rattle.std.proofs.Common.{◌≡◌, ℕ, zero, suc, ◌+◌, ◌*◌, ◌<◌, ◌≤◌, Bool, true, false, List, [], ◌∷◌, ◌++◌, length, take, drop, nat_eq, slice_index, refl, sym, ap, ◌∙◌, ◌⊎◌, inl, inr, arith, append_assoc, length-append, add_assoc}
+use Rattle.std.proofs.Common.{◌≡◌, ℕ, ◌+◌, ◌*◌, ◌<◌, ◌≤◌, List, [], ◌∷◌, ◌++◌, length, take, drop, nat_eq, slice_index, refl, sym, ap, ◌∙◌, ◌⊎◌, inl, inr, arith, append_assoc, length-append}
 use Rattle.std.specs.Prelude.{if◌then◌else◌}
 use Rattle.std.proofs.lemmas.List.{append-nil, drop_all, drop-append-le, take_at, take-append-drop, length-drop}
 use Rattle.rfb_wire.specs.Host.{host_of, IsRecorded}
-use Rattle.pixel_format.specs.Reading.{Reading, Got, More, Bad, ◌>>=◌, field, guard, within, Extends}
+use Rattle.pixel_format.specs.Reading.{Reading, Got, More, Bad, ◌>>=◌, field, within}
 use Rattle.pixel_format.proofs.Readings.{field-whole, field-short, within-short, within-long, true_or_false}
-use Rattle.rfb_wire.specs.declared.message.Area.{Area}
 use Rattle.rfb_wire.specs.declared.message.Rectangle.{Rectangle}
 use Rattle.rfb_wire.specs.declared.fault.WireFault.{WireFault}
 use Rattle.rfb_wire.specs.declared.fault.WireFault.TheVariants as faults
@@ -26,7 +25,7 @@ pub message-short : (limit width height : ℕ) (bytes : List ℕ) → length byt
 unfolding message_at unlimited_at
 message-short limit width height bytes short =
     ap (λ (q : Reading Message WireFault). field 1 bytes >>= λ type rest. if nat_eq (slice_index type 0) 0 then q else Bad faults.UnknownType)
-      (within-short limit faults.TooLong (update_at width height) bytes short)
+    (within-short limit faults.TooLong (update_at width height) bytes short)
 
 -- the parts of a message by its first byte
 unlimited-first : (width height b : ℕ) (bytes : List ℕ)
@@ -46,12 +45,13 @@ message-long limit width height [] more some at waits one = absurd (omega arith)
 message-long limit width height (b ∷ kept) more some at waits one =
     let is = sym (unlimited-first width height b kept) ∙ waits in
     message-first limit width height b (kept ++ more) ∙ (elim (true_or_false (nat_eq b 0)) [
-      inl t ↦
-        (let update = rw t at is in
-         let over : limit < length ((b ∷ kept) ++ more) = rw (length-append (b ∷ kept) more) (omega arith) in
-         let front : take limit ((b ∷ kept) ++ more) ≡ b ∷ kept = take_at (b ∷ kept) more limit at in
-         rw t (within-long limit faults.TooLong (update_at width height) ((b ∷ kept) ++ more) over (ap (update_at width height) front ∙ update)))
-    | inr t ↦ (let e = rw t at is in absurd (cc)) ])
+      | inl t ↦
+          (let update = rw t at is in
+          let over : limit < length ((b ∷ kept) ++ more) = rw (length-append (b ∷ kept) more) (omega arith) in
+          let front : take limit ((b ∷ kept) ++ more) ≡ b ∷ kept = take_at (b ∷ kept) more limit at in
+          rw t (within-long limit faults.TooLong (update_at width height) ((b ∷ kept) ++ more) over (ap (update_at width height) front ∙ update)))
+      | inr t ↦ (let e = rw t at is in absurd (cc))
+    ])
 
 -- a field that isn't whole
 resume-short : (width height : ℕ) (stage : Stage) (bytes : List ℕ) → length bytes < wants_of stage → resume width height stage bytes ≡ More
@@ -75,20 +75,20 @@ linked_waits width height bytes rectangles stage l short =
 pub linked_more : (width height : ℕ) (bytes piece longer : List ℕ) (rectangles : List Rectangle) (stage : Stage) → Linked width height bytes rectangles stage
     → longer ≡ bytes ++ piece → length longer ≤ message_limit → Linked width height longer rectangles stage
 linked_more width height bytes piece longer rectangles stage l is short = record {
-    link = λ more.
+  link = λ more.
       rw (is, append_assoc, drop-append-le (start_of stage) bytes piece l.begun, append_assoc) (l.link (piece ++ more));
-    begun = rw (is, length-append) (omega (arith, l.begun));
-    short = short
-  }
+  begun = rw (is, length-append) (omega (arith, l.begun));
+  short = short;
+}
 
 -- at the start of a message
 pub linked_start : (width height : ℕ) (bytes : List ℕ) (rectangles : List Rectangle) → bytes ≡ [] → rectangles ≡ [] → Linked width height bytes rectangles stages.Type
 unfolding resume
 linked_start width height bytes rectangles none no_rectangles = rw (none, no_rectangles) (record {
-    link = λ more. sym (behind_nil (unlimited_at width height more));
-    begun = omega arith;
-    short = omega arith
-  })
+  link = λ more. sym (behind_nil (unlimited_at width height more));
+  begun = omega arith;
+  short = omega arith;
+})
 
 -- behind a whole field
 pub field_goes : (width height : ℕ) (bytes : List ℕ) (rectangles done : List Rectangle) (stage : Stage) (step : Step)
@@ -121,7 +121,7 @@ whole_goes width height bytes done next stage goes is begins short =
     record {
       link = λ more. rw none (goes more ∙ ap (λ n. behind done (go_on width height n more)) is);
       begun = omega arith;
-      short = short
+      short = short;
     }
 
 -- a field that is refused
@@ -161,12 +161,12 @@ pub turn_faults : (width height n : ℕ) (kept piece taken : List ℕ) (f : Wire
     → UnlessMemory f (unlimited_at width height taken ≡ Bad f) → UnlessMemory f (message_at message_limit width height (kept ++ piece) ≡ Bad f)
 turn_faults width height n kept piece taken f is short fault =
     unless_memory_map f (unlimited_at width height taken ≡ Bad f) (message_at message_limit width height (kept ++ piece) ≡ Bad f)
-      (λ e.
-        let first : message_at message_limit width height taken ≡ Bad f = message-short message_limit width height taken short ∙ e in
-        let local = rw first at (message_local message_limit width height taken (drop n piece)) in
-        let all : taken ++ drop n piece ≡ kept ++ piece = rw (is, append_assoc, take-append-drop) refl in
-        ap (message_at message_limit width height) (sym all) ∙ local)
-      fault
+    (λ e.
+    let first : message_at message_limit width height taken ≡ Bad f = message-short message_limit width height taken short ∙ e in
+    let local = rw first at (message_local message_limit width height taken (drop n piece)) in
+    let all : taken ++ drop n piece ≡ kept ++ piece = rw (is, append_assoc, take-append-drop) refl in
+    ap (message_at message_limit width height) (sym all) ∙ local)
+    fault
 
 -- what is whole within the limit is recorded
 pub whole_recorded : (width height : ℕ) (bytes whole : List ℕ) (rectangles : List Rectangle) → bytes ≡ whole → length whole ≤ message_limit

@@ -1,5 +1,5 @@
 -- Bytes that are exactly one message, and bytes that aren't.
-use Rattle.std.proofs.Common.{◌≡◌, ℕ, ◌+◌, List, [], ◌∷◌, ◌++◌, length, refl, sym, ap, ◌∙◌, subst, arith, append_assoc, length-append}
+use Rattle.std.proofs.Common.{◌≡◌, ℕ, ◌+◌, List, [], ◌∷◌, ◌++◌, length, refl, sym, ap, ◌∙◌, arith, length-append}
 use Rattle.std.specs.List.{flat_map, AllByRecursion}
 use Rattle.std.proofs.lemmas.List.{append-nil}
 use Rattle.pixel_format.specs.Reading.{More}
@@ -7,7 +7,7 @@ use Rattle.pixel_format.proofs.Readings.{field-short}
 use Rattle.rfb_wire.specs.declared.fault.WireFault.{WireFault}
 use Rattle.rfb_wire.specs.Grammar.{message_at, message_limit}
 use Rattle.rfb_wire.specs.Host.{Host}
-use Rattle.rfb_wire.specs.Stream.{IsFor, bytes_of, Reads, Goes, StandsFor}
+use Rattle.rfb_wire.specs.Stream.{IsFor, bytes_of, Goes}
 use Rattle.rfb_wire.proofs.Streams.{flat_append, waits_begins_none, one_reading, empty_list}
 
 -- no bytes are an unfinished message
@@ -25,7 +25,7 @@ stream_one : (front bytes rest stream : List ℕ) → stream ≡ (front ++ (byte
 stream_one front bytes rest stream is same =
     let lengths = ap length is in
     let all : length ((front ++ (bytes ++ [])) ++ rest) ≡ length front + length bytes + length rest =
-        rw (length-append, length-append, length-append) (omega arith) in
+    rw (length-append, length-append, length-append) (omega arith) in
     let no_front : front ≡ [] = empty_list front (omega arith) in
     let no_rest : rest ≡ [] = empty_list rest (omega arith) in
     let whole : stream ≡ ([] ++ (bytes ++ [])) ++ [] = is ∙ rw (no_front, no_rest) refl in
@@ -37,7 +37,7 @@ whole_is width height passed kept stream given before m goes last same =
     let messages : goes.gives.messages ≡ before ++ m ∷ [] = sym goes.gives.given ∙ last in
     let each : AllByRecursion (IsFor width height) (before ++ m ∷ []) = rw messages at goes.gives.reads.each in
     let is : stream ≡ (flat_map bytes_of before ++ (m.bytes ++ [])) ++ goes.rest =
-        goes.gives.reads.stream_is ∙ ap (λ ms. flat_map bytes_of ms ++ goes.rest) messages ∙ ap (λ z. z ++ goes.rest) (flat_append before (m ∷ [])) in
+    goes.gives.reads.stream_is ∙ ap (λ ms. flat_map bytes_of ms ++ goes.rest) messages ∙ ap (λ z. z ++ goes.rest) (flat_append before (m ∷ [])) in
     (all_last width height before m each, stream_one (flat_map bytes_of before) m.bytes goes.rest stream is same)
 
 -- the messages that were given, where the stream is one message
@@ -46,8 +46,8 @@ given_one : (width height passed : ℕ) (kept stream : List ℕ) (given : List H
 given_one width height passed kept stream given m goes is same =
     let whole : stream ≡ flat_map bytes_of (m ∷ []) ++ [] = sym same ∙ sym (append-nil (m.bytes ++ []) ∙ append-nil m.bytes) in
     let one = one_reading width height stream stream goes.gives.messages (m ∷ []) goes.rest [] refl
-        goes.gives.reads (waits_begins_none width height goes.rest goes.waits)
-        (record { each = (is, tt); stream_is = whole }) (waits_begins_none width height [] (message-empty message_limit width height)) in
+    goes.gives.reads (waits_begins_none width height goes.rest goes.waits)
+    (record { each = (is, tt); stream_is = whole }) (waits_begins_none width height [] (message-empty message_limit width height)) in
     goes.gives.given ∙ one.0
 
 pub none_given : (width height passed : ℕ) (kept stream : List ℕ) (given : List Host) (m : Host) → Goes width height kept passed [] given stream

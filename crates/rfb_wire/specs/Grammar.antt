@@ -1,9 +1,9 @@
 -- The messages of a host (RFC 6143, sections 7.6 and 7.7), read from the front of a list of bytes.
 -- Each field is judged once it is whole, in the order of the fields: so the first fault is the one
 -- that is met.
-use Rattle.std.specs.Prelude.{ℕ, zero, suc, ◌+◌, ◌*◌, List, [], ◌∷◌, length, slice_index, Bool, ◌&&◌, nat_le, nat_eq, if◌then◌else◌}
+use Rattle.std.specs.Prelude.{ℕ, zero, suc, ◌+◌, ◌*◌, List, [], ◌∷◌, slice_index, Bool, ◌&&◌, nat_le, nat_eq, if◌then◌else◌}
 use Rattle.std.specs.Int.{w32, cast_signed}
-use Rattle.pixel_format.specs.Reading.{Reading, Got, More, Bad, ◌>>=◌, field, guard, within}
+use Rattle.pixel_format.specs.Reading.{Reading, Got, Bad, ◌>>=◌, field, guard, within}
 use Rattle.rfb_wire.specs.declared.message.Area.{Area}
 use Rattle.rfb_wire.specs.declared.message.Rectangle.{Rectangle}
 use Rattle.rfb_wire.specs.declared.message.Encoding.TheVariants as encodings
@@ -33,7 +33,7 @@ is_inside width height a = nat_le (a.x + a.w) width && nat_le (a.y + a.h) height
 -- the message.
 unfoldable pub raw_at : Area → ℕ → List ℕ → Reading Rectangle WireFault
 raw_at area at bytes = field (4 * (area.w * area.h)) bytes >>= λ pixels rest.
-  Got (record { area = area; encoding = encodings.Raw; start = at; end = at + 4 * (area.w * area.h) }) rest
+    Got (record { area = area; encoding = encodings.Raw; start = at; end = at + 4 * (area.w * area.h) }) rest
 
 -- the data of a rectangle, by the number of its encoding (section 7.7)
 unfoldable pub data_at : ℕ → Area → ℕ → List ℕ → Reading Rectangle WireFault
@@ -42,14 +42,14 @@ data_at number area at bytes = if nat_eq number 0 then raw_at area at bytes else
 -- a rectangle of an update, at its place in the message (section 7.6.1)
 unfoldable pub rectangle_at : ℕ → ℕ → ℕ → List ℕ → Reading Rectangle WireFault
 rectangle_at width height at bytes = field 12 bytes >>= λ head rest.
-  guard (is_inside width height (area_of head)) faults.OutsideScreen
+    guard (is_inside width height (area_of head)) faults.OutsideScreen
     (data_at (encoding_number head) (area_of head) (at + 12) rest)
 
 -- as many rectangles, one behind the other
 unfoldable pub rectangles_at : ℕ → ℕ → ℕ → ℕ → List ℕ → Reading (List Rectangle) WireFault
 rectangles_at width height zero at bytes = Got [] bytes
 rectangles_at width height (suc count) at bytes = rectangle_at width height at bytes >>= λ first rest.
-  rectangles_at width height count first.end rest >>= λ others after. Got (first ∷ others) after
+    rectangles_at width height count first.end rest >>= λ others after. Got (first ∷ others) after
 
 -- what a whole message is to a recorder
 pub data Message : Type 0 where
@@ -60,14 +60,14 @@ pub data Message : Type 0 where
 -- (section 7.6.1)
 unfoldable pub update_at : ℕ → ℕ → List ℕ → Reading Message WireFault
 update_at width height bytes = field 1 bytes >>= λ type head. field 3 head >>= λ f rest.
-  rectangles_at width height (u16_at f 1) 4 rest >>= λ rectangles after. Got (Recorded rectangles) after
+    rectangles_at width height (u16_at f 1) 4 rest >>= λ rectangles after. Got (Recorded rectangles) after
 
 -- The message that bytes begin with, by its type (section 7.6), for a screen of this size. An update
 -- has at most `limit` bytes.
 unfoldable pub message_at : ℕ → ℕ → ℕ → List ℕ → Reading Message WireFault
 message_at limit width height bytes = field 1 bytes >>= λ type rest.
-  if nat_eq (slice_index type 0) 0 then within limit faults.TooLong (update_at width height) bytes
-  else Bad faults.UnknownType
+    if nat_eq (slice_index type 0) 0 then within limit faults.TooLong (update_at width height) bytes
+    else Bad faults.UnknownType
 
 -- the greatest number of bytes of an update
 abbrev pub message_limit : ℕ

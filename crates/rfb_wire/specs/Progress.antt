@@ -2,8 +2,7 @@
 -- say, by the grammar.
 use Rattle.std.specs.Prelude.{◌≡◌, ℕ, suc, ◌+◌, ◌*◌, ◌<◌, ◌≤◌, List, [], ◌∷◌, ◌++◌, length, drop, slice_index, Option, Some, None, nat_eq, if◌then◌else◌}
 use Rattle.std.specs.Option.{option_to_list}
-use Rattle.pixel_format.specs.Reading.{Reading, Got, More, Bad, ◌>>=◌, field}
-use Rattle.rfb_wire.specs.declared.message.Area.{Area}
+use Rattle.pixel_format.specs.Reading.{Reading, Got, Bad, ◌>>=◌, field}
 use Rattle.rfb_wire.specs.declared.message.Rectangle.{Rectangle}
 use Rattle.rfb_wire.specs.declared.fault.WireFault.{WireFault}
 use Rattle.rfb_wire.specs.declared.fault.WireFault.TheVariants as faults
@@ -30,7 +29,7 @@ start_of (stages.RawData at area others) = at
 -- a message, its limit apart
 unfoldable pub unlimited_at : ℕ → ℕ → List ℕ → Reading Message WireFault
 unlimited_at width height bytes = field 1 bytes >>= λ type rest.
-  if nat_eq (slice_index type 0) 0 then update_at width height bytes else Bad faults.UnknownType
+    if nat_eq (slice_index type 0) 0 then update_at width height bytes else Bad faults.UnknownType
 
 -- a message that has these rectangles in front
 abbrev pub put : List Rectangle → Message → Message
@@ -42,7 +41,7 @@ behind done r = r >>= λ m rest. Got (put done m) rest
 -- so many rectangles, up to the message's end
 unfoldable pub others_at : ℕ → ℕ → ℕ → ℕ → List ℕ → Reading Message WireFault
 others_at width height count at bytes =
-  rectangles_at width height count at bytes >>= λ others after. Got (Recorded others) after
+    rectangles_at width height count at bytes >>= λ others after. Got (Recorded others) after
 
 -- what the bytes from the stage's field on say
 unfoldable pub resume : ℕ → ℕ → Stage → List ℕ → Reading Message WireFault
@@ -50,7 +49,7 @@ resume width height stages.Type bytes = unlimited_at width height bytes
 resume width height stages.UpdateHead bytes = field 3 bytes >>= λ f rest. others_at width height (u16_at f 1) 4 rest
 resume width height (stages.RectangleHead at others) bytes = others_at width height (suc others) at bytes
 resume width height (stages.RawData at area others) bytes = raw_at area at bytes >>= λ r rest.
-  behind (r ∷ []) (others_at width height others r.end rest)
+    behind (r ∷ []) (others_at width height others r.end rest)
 
 -- what the bytes behind a field say: with no field to come the message is whole
 unfoldable pub go_on : ℕ → ℕ → Option Stage → List ℕ → Reading Message WireFault
@@ -69,7 +68,7 @@ pub record BeginsAt (at : ℕ) (stage : Stage) : Type 0 where
 -- from the field on say, behind the rectangles that are whole.
 pub record Linked (width height : ℕ) (bytes : List ℕ) (rectangles : List Rectangle) (stage : Stage) : Type 0 where
   pub link : (more : List ℕ) → unlimited_at width height (bytes ++ more)
-    ≡ behind rectangles (resume width height stage (drop (start_of stage) bytes ++ more))
+      ≡ behind rectangles (resume width height stage (drop (start_of stage) bytes ++ more))
   pub begun : start_of stage ≤ length bytes
   pub short : length bytes ≤ message_limit
 

@@ -14,22 +14,19 @@ ghost use Rattle.rfb_wire.specs.Stream.{Reads, BeginsNone};
 pub fn grammar_reads_messages()
     ensures { (limit width height : ℕ) → (bytes : List ℕ) → (rectangles : List Rectangle)
         → (message_at limit width height bytes ≡ Got (Recorded rectangles) []) ↔ IsMessage limit width height bytes rectangles }
-{
-}
+{}
 
 /// Bytes have at most one reading as a recorded message.
 pub fn one_reading_of_bytes()
     ensures { (limit width height : ℕ) → (bytes : List ℕ) → (rectangles others : List Rectangle)
         → IsMessage limit width height bytes rectangles → IsMessage limit width height bytes others → rectangles ≡ others }
-{
-}
+{}
 
 /// No recorded message begins another.
 pub fn no_message_begins_another()
     ensures { (limit width height : ℕ) → (bytes more : List ℕ) → (rectangles others : List Rectangle)
         → IsMessage limit width height bytes rectangles → IsMessage limit width height (bytes ++ more) others → more ≡ [] }
-{
-}
+{}
 
 /// No whole message begins a rest that waits, or that begins with a fault.
 pub fn a_rest_begins_none()
@@ -37,8 +34,7 @@ pub fn a_rest_begins_none()
         → BeginsNone width height rest }
     ensures fault { (width height : ℕ) → (rest : List ℕ) → (f : WireFault) → message_at message_limit width height rest ≡ Bad f
         → BeginsNone width height rest }
-{
-}
+{}
 
 /// A stream has at most one reading: messages, and a rest that no whole message begins.
 pub fn one_reading_of_a_stream()
@@ -46,5 +42,4 @@ pub fn one_reading_of_a_stream()
         → Reads width height stream messages rest → BeginsNone width height rest
         → Reads width height stream others other → BeginsNone width height other
         → (messages ≡ others) × (rest ≡ other) }
-{
-}
+{}

@@ -50,17 +50,17 @@ impl Model for HostMessage {
     ghost Value = { Host };
 
     ghost view = { λ m. record {
-        width = m.width;
-        height = m.height;
-        bytes = m.bytes.items;
-        rectangles = m.rectangles.items
+      width = m.width;
+      height = m.height;
+      bytes = m.bytes.items;
+      rectangles = m.rectangles.items;
     } };
 
     ghost invariant = { λ m. IsRecorded (record {
-        width = m.width;
-        height = m.height;
-        bytes = m.bytes.items;
-        rectangles = m.rectangles.items
+      width = m.width;
+      height = m.height;
+      bytes = m.bytes.items;
+      rectangles = m.rectangles.items;
     }) };
 }
 
@@ -142,8 +142,8 @@ impl HostMessage {
     pub fn copy(&self, alloc: Global) -> Result<HostMessage, NoMemory>
         ensures { IfOk result (λ m. m ≡ self.now) }
     {
-        let bytes = Vec::from_slice(alloc, &self.bytes)?;
-        let rectangles = Vec::from_slice(alloc, &self.rectangles)?;
+        let bytes = Vec::from_slice(alloc, self.bytes())?;
+        let rectangles = Vec::from_slice(alloc, self.rectangles())?;
         Ok(HostMessage {
             width: self.width,
             height: self.height,

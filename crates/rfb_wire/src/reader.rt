@@ -29,11 +29,11 @@ impl Model for ServerReader {
     ghost Value = { Reader };
 
     ghost view = { λ r. record {
-        width = r.width;
-        height = r.height;
-        kept = r.progress.bytes.items;
-        passed = 0;
-        fault = r.fault
+      width = r.width;
+      height = r.height;
+      kept = r.progress.bytes.items;
+      passed = 0;
+      fault = r.fault;
     } };
 
     ghost invariant = { λ r. IsAt r.width r.height r.progress };
@@ -77,7 +77,9 @@ impl ServerReader {
         if let Some(fault) = self.fault {
             return Err(fault);
         }
-        let read = self.progress.read(self.alloc, self.width, self.height, piece, out);
+        let read = self
+            .progress
+            .read(self.alloc, self.width, self.height, piece, out);
         if let Err(fault) = read {
             self.fault = Some(fault);
             self.progress = Progress::new(self.alloc);

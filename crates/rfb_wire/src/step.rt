@@ -48,7 +48,10 @@ fn next_header(at: usize, count: u16) -> Option<Stage>
     if count == 0 {
         None
     } else {
-        Some(Stage::RectangleHead { at, others: count - 1 })
+        Some(Stage::RectangleHead {
+            at,
+            others: count - 1,
+        })
     }
 }
 
@@ -64,7 +67,10 @@ fn behind_type(field: &[u8]) -> Result<Step, WireFault>
     if field[0] != 0 {
         return Err(WireFault::UnknownType);
     }
-    Ok(Step { rectangle: None, next: Some(Stage::UpdateHead) })
+    Ok(Step {
+        rectangle: None,
+        next: Some(Stage::UpdateHead),
+    })
 }
 
 // Behind the head of an update.
@@ -100,7 +106,13 @@ fn behind_raw(at: usize, area: Area, others: u16, end: usize) -> Step
 }
 
 // Behind the header of a rectangle. One of no area has no data.
-fn behind_header(width: u16, height: u16, at: usize, others: u16, header: &[u8]) -> Result<Step, WireFault>
+fn behind_header(
+    width: u16,
+    height: u16,
+    at: usize,
+    others: u16,
+    header: &[u8],
+) -> Result<Step, WireFault>
     requires whole { length header.now ≡ 12 }
     requires short { at + 12 ≤ message_limit }
     ensures goes { IfOk result (λ s. (more : List ℕ)
@@ -122,7 +134,11 @@ fn behind_header(width: u16, height: u16, at: usize, others: u16, header: &[u8])
     }
     Ok(Step {
         rectangle: None,
-        next: Some(Stage::RawData { at: at + 12, area, others }),
+        next: Some(Stage::RawData {
+            at: at + 12,
+            area,
+            others,
+        }),
     })
 }
 

@@ -5,9 +5,7 @@ use std::alloc::Global;
 use std::test::Fail;
 
 // One red pixel at (0, 0): an update of one Raw rectangle.
-const RED: [u8; 20] = [
-    0, 0, 0, 1, 0, 0, 0, 0, 0, 1, 0, 1, 0, 0, 0, 0, 0, 0, 255, 0,
-];
+const RED: [u8; 20] = [0, 0, 0, 1, 0, 0, 0, 0, 0, 1, 0, 1, 0, 0, 0, 0, 0, 0, 255, 0];
 
 // What a reader of a screen of 1 by 1 makes of bytes that come in pieces of this length: its
 // messages, and its fault.
@@ -39,7 +37,12 @@ fn one_message_in_any_pieces(rt: HostRuntime) {
 #[test]
 fn rectangle_of_an_update(rt: HostRuntime) -> Result<(), Fail> {
     let message = HostMessage::from_bytes(rt.alloc(), 1, 1, &RED)?;
-    let area = Area { x: 0, y: 0, w: 1, h: 1 };
+    let area = Area {
+        x: 0,
+        y: 0,
+        w: 1,
+        h: 1,
+    };
     let rectangle = Rectangle {
         area,
         encoding: Encoding::Raw,
@@ -87,9 +90,15 @@ fn a_fault_is_for_good(rt: HostRuntime) {
     let mut bytes = [0; 21];
     bytes[..20].copy_from_slice(&RED);
     bytes[20] = 9;
-    assert_eq!(rt; reader.feed(&bytes, &mut messages), Err(WireFault::UnknownType));
+    assert_eq!(rt;
+        reader.feed(&bytes, &mut messages),
+        Err(WireFault::UnknownType)
+    );
     assert_eq!(rt; messages.len(), 1);
-    assert_eq!(rt; reader.feed(&RED, &mut messages), Err(WireFault::UnknownType));
+    assert_eq!(rt;
+        reader.feed(&RED, &mut messages),
+        Err(WireFault::UnknownType)
+    );
     assert_eq!(rt; messages.len(), 1);
 }
 
@@ -106,7 +115,10 @@ fn too_long_at_its_byte(rt: HostRuntime) -> Result<(), Fail> {
     }
     assert_eq!(rt; zeros.len(), 65_536);
     assert_eq!(rt; reader.feed(&zeros[16..], &mut messages), Ok(()));
-    assert_eq!(rt; reader.feed(&zeros[..1], &mut messages), Err(WireFault::TooLong));
+    assert_eq!(rt;
+        reader.feed(&zeros[..1], &mut messages),
+        Err(WireFault::TooLong)
+    );
     assert_eq!(rt; messages.len(), 0);
     Ok(())
 }

@@ -1,4 +1,4 @@
-use Rattle.std.proofs.Common.{◌≡◌, sym, ◌∙◌}
+use Rattle.std.proofs.Common.{sym, ◌∙◌}
 use Rattle.rfb_wire.proofs.Messages.{message_is_read}
 use Rattle.rfb_wire.proofs.laws.one_reading_of_bytes.Goals as goal
 

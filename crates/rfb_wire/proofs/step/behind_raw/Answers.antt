@@ -1,7 +1,6 @@
-use Rattle.std.proofs.Common.{◌≡◌, ℕ, ◌+◌, ◌*◌, [], ◌∷◌, refl, sym, ◌∙◌, ap}
-use Rattle.rfb_wire.specs.declared.message.Rectangle.{Rectangle}
+use Rattle.std.proofs.Common.{[], ◌∷◌, sym, ◌∙◌, ap}
 use Rattle.rfb_wire.specs.declared.message.Encoding.TheVariants as encodings
-use Rattle.rfb_wire.specs.Progress.{go_on, behind, others_at}
+use Rattle.rfb_wire.specs.Progress.{behind}
 use Rattle.rfb_wire.proofs.Resume.{data_of_raw}
 use Rattle.rfb_wire.proofs.step.behind_raw.Goals as goal
 

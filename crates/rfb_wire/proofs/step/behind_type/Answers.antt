@@ -1,4 +1,4 @@
-use Rattle.std.proofs.Common.{◌≡◌, [], nat_eq, slice_index, true, false, eq-eqb, sym, ◌∙◌}
+use Rattle.std.proofs.Common.{slice_index, eq-eqb, sym, ◌∙◌}
 use Rattle.std.proofs.lemmas.Bool.{ne_eqb}
 use Rattle.rfb_wire.specs.declared.progress.Stage.TheVariants as stages
 use Rattle.rfb_wire.specs.Progress.{go_on, resume}

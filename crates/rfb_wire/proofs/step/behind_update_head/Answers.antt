@@ -1,4 +1,4 @@
-use Rattle.std.proofs.Common.{◌≡◌, [], ◌++◌, slice_index, rules, refl, sym, ◌∙◌, ap}
+use Rattle.std.proofs.Common.{◌≡◌, rules, sym, ◌∙◌, ap}
 use Rattle.rfb_wire.specs.Grammar.{u16_at}
 use Rattle.rfb_wire.specs.Progress.{go_on, others_at}
 use Rattle.rfb_wire.proofs.Resume.{head_of_update, behind_nil}

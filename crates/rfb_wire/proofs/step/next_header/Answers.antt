@@ -1,7 +1,6 @@
-use Rattle.std.proofs.Common.{◌≡◌, ◌+◌, ◌-◌, suc, arith, refl, sym, ap}
+use Rattle.std.proofs.Common.{◌≡◌, ◌-◌, suc, arith, sym, ap}
 use Rattle.rfb_wire.specs.Progress.{go_on, resume, others_at}
 use Rattle.rfb_wire.proofs.Resume.{others-zero}
-use Rattle.rfb_wire.proofs.Streams.{no_fault}
 use Rattle.rfb_wire.proofs.step.next_header.Goals as goal
 
 pub returns-then-count-eq0-clause-goes : goal.returns-then-count-eq0-clause-goes

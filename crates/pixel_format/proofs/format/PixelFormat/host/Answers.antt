@@ -1,5 +1,4 @@
-use Rattle.std.proofs.Common.{ℕ, ◌+◌, ◌<◌, ◌≤◌, ◌^◌, inl, inr, refl, lit<, lit≤}
-use Rattle.pixel_format.specs.Format.{Channel, IsChannel, mask}
+use Rattle.std.proofs.Common.{inr, refl, lit<, lit≤}
 use Rattle.pixel_format.proofs.format.PixelFormat.host.Goals as goal
 
 pub invariant_of-result : goal.invariant_of-result
@@ -10,5 +9,5 @@ invariant_of-result c = record {
   blue = record { full = (8, lit≤ tt, refl); inside = lit< tt };
   red_and_green = refl;
   red_and_blue = refl;
-  green_and_blue = refl
+  green_and_blue = refl;
 }

@@ -1,8 +1,7 @@
-use Rattle.std.proofs.Common.{◌≡◌, ℕ, List, [], ◌∷◌, ◌++◌, ◌∙◌, sym, ap, refl, length, arith}
+use Rattle.std.proofs.Common.{◌≡◌, [], ◌∙◌, sym, ap, refl, length}
 use Rattle.std.proofs.lemmas.List.{append-nil}
-use Rattle.rfb_wire.specs.Host.{Host}
-use Rattle.rfb_wire.specs.Stream.{StandsFor, Goes, FaultOf}
-use Rattle.rfb_wire.proofs.Streams.{stands_whole, empty_list}
+use Rattle.rfb_wire.specs.Stream.{StandsFor}
+use Rattle.rfb_wire.proofs.Streams.{stands_whole}
 use Rattle.rfb_wire.proofs.Whole.{whole_is, none_given, other_given}
 use Rattle.rfb_wire.proofs.message.HostMessage.from_bytes.Goals as goal
 
@@ -35,4 +34,4 @@ returns-then-bytes-clause-not_one c = λ _ m for same.
     let stands : StandsFor c.new-reader.result.kept c.new-reader.result.passed [] = rw c.new-reader.ensures (stands_whole []) in
     let goes = rw (c.new-reader.ensures, c.new-messages.ensures.items) at (c.in_default.ensures.goes [] stands) in
     other_given c.args.width c.args.height _ _ c.args.bytes.now c.feed.new.out.items c.pop.new.self.items c.in-Some.message m goes c.in-Some.ensures.items
-      (λ e. c.if-bytes.true (ap length c.bytes.ensures.value ∙ e)) for same
+    (λ e. c.if-bytes.true (ap length c.bytes.ensures.value ∙ e)) for same

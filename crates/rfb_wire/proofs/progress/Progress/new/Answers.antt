@@ -4,6 +4,6 @@ use Rattle.rfb_wire.proofs.progress.Progress.new.Goals as goal
 
 pub returns-clause-at : goal.returns-clause-at
 returns-clause-at c = λ width height. record {
-    linked = linked_start width height c.new.result.items c.new-2.result.items c.new.ensures.items c.new-2.ensures.items;
-    unfinished = rw c.new.ensures.items (omega arith)
-  }
+  linked = linked_start width height c.new.result.items c.new-2.result.items c.new.ensures.items c.new-2.ensures.items;
+  unfinished = rw c.new.ensures.items (omega arith);
+}

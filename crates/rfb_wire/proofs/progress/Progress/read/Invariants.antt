@@ -6,11 +6,11 @@ use Rattle.rfb_wire.proofs.progress.Progress.read.Given as goal
 -- what of the piece is read is given, or kept
 abbrev pub invariant-loop-rest : goal.invariant-loop-rest
 invariant-loop-rest l = record {
-    at : IsAt l.width l.height l.self;
-    front : List ℕ;
-    piece : l.initial.rest ≡ front ++ l.rest;
-    gives : Gives l.width l.height l.initial.out.items l.out.items (l.initial.self.bytes.items ++ front) l.self.bytes.items
-  }
+  at : IsAt l.width l.height l.self;
+  front : List ℕ;
+  piece : l.initial.rest ≡ front ++ l.rest;
+  gives : Gives l.width l.height l.initial.out.items l.out.items (l.initial.self.bytes.items ++ front) l.self.bytes.items;
+}
 
 abbrev pub decreases-loop-rest : goal.decreases-loop-rest
 decreases-loop-rest l = length l.rest
