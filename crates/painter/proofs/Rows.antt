@@ -1,5 +1,5 @@
 -- Painting a Raw rectangle row by row.
-use Rattle.std.proofs.Common.{◌≡◌, ℕ, ◌+◌, ◌-◌, ◌*◌, ◌<◌, ◌≤◌, Bool, true, false, cond, List, length, take, drop, get_or, ◌⊎◌, inl, inr, refl, sym, ap, ◌∙◌, arith}
+use Rattle.std.proofs.Common.{◌≡◌, ℕ, ◌+◌, ◌-◌, ◌*◌, ◌<◌, ◌≤◌, Bool, true, cond, List, length, take, drop, inl, inr, sym, ap, ◌∙◌, arith}
 use Rattle.std.proofs.lemmas.Bool.{cases_Bool, cases_lt, cases_order}
 use Rattle.std.proofs.lemmas.List.{drop-drop, drop-take, take-take, length-take, length-drop}
 use Rattle.std.proofs.Math.Nat.{mul-le-mul_left}
@@ -95,18 +95,18 @@ row_painted old pixels line width area bytes row x y w across so_far =
           in_row pixels line width area bytes row x y w place ∙ sym (ap (λ (b : Bool). cond b (raw_picture area bytes x y) (color_in old width x y)) painted)
       | inr away ↦
           let off : IsIn (row_of area row) x y → ⊥ = λ place. let clash = is_in_true (row_of area row) x y place in absurd cc in
-          let same : is_in (rows_of area row) x y ≡ is_in (rows_of area (row + 1)) x y = 
-            same_in (rows_of area row) (rows_of area (row + 1)) x y
-            (λ place. let lower = place.bottom in record { left = place.left; right = place.right; top = place.top; bottom = omega arith })
-            (λ place. let lower = place.bottom in record {
-              left = place.left;
-              right = place.right;
-              top = place.top;
-              bottom = elim (cases_lt y (area.y + row)) [
-                | inl above ↦ above
-                | inr level ↦ absurd (off (record { left = place.left; right = place.right; top = level; bottom = omega arith }))
-              ];
-            }) in
+          let same : is_in (rows_of area row) x y ≡ is_in (rows_of area (row + 1)) x y =
+          same_in (rows_of area row) (rows_of area (row + 1)) x y
+          (λ place. let lower = place.bottom in record { left = place.left; right = place.right; top = place.top; bottom = omega arith })
+          (λ place. let lower = place.bottom in record {
+            left = place.left;
+            right = place.right;
+            top = place.top;
+            bottom = elim (cases_lt y (area.y + row)) [
+              | inl above ↦ above
+              | inr level ↦ absurd (off (record { left = place.left; right = place.right; top = level; bottom = omega arith }))
+            ];
+          }) in
           off_row pixels line width area bytes row x y w across off ∙ so_far ∙ ap (λ (b : Bool). cond b (raw_picture area bytes x y) (color_in old width x y)) same
     ]
 

@@ -1,5 +1,5 @@
 -- A screen and its pixels.
-use Rattle.std.proofs.Common.{◌≡◌, ℕ, zero, suc, ◌+◌, ◌*◌, ◌<◌, List, [], ◌∷◌, ◌++◌, length, get_or, map, replicate, refl, sym, ap, ◌∙◌, arith}
+use Rattle.std.proofs.Common.{◌≡◌, ℕ, zero, suc, ◌+◌, ◌*◌, ◌<◌, List, [], ◌∷◌, ◌++◌, get_or, map, replicate, refl, sym, ap, ◌∙◌, arith}
 use Rattle.std.proofs.lemmas.List.{get_or-replicate}
 use Rattle.std.proofs.lemmas.Nat.{mul-add-lt}
 use Rattle.rfb_wire.specs.Host.{Host}
@@ -7,7 +7,7 @@ use Rattle.painter.specs.declared.pixel.Pixel.{Pixel}
 use Rattle.painter.specs.Framebuffer.{Framebuffer, color_at, Has, Shows}
 use Rattle.painter.specs.Picture.{Picture, black, painted_message, painted}
 use Rattle.painter.specs.Pixels.{black_pixel, color_of, pixel_color_at, color_in}
-use Rattle.painter.proofs.Order.{Agree, agree_rectangles, one_message_more, no_messages}
+use Rattle.painter.proofs.Order.{agree_rectangles, one_message_more, no_messages}
 
 -- the screen of these pixels
 abbrev pub screen_of : ℕ → ℕ → List Pixel → Framebuffer

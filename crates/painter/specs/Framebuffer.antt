@@ -1,5 +1,5 @@
 -- A screen: a colour for each of its places.
-use Rattle.std.specs.Prelude.{◌≡◌, ℕ, ◌+◌, ◌*◌, ◌<◌, List, length, map, slice_index_or}
+use Rattle.std.specs.Prelude.{◌≡◌, ℕ, ◌+◌, ◌*◌, ◌<◌, List, slice_index_or}
 use Rattle.pixel_format.specs.declared.Color.{Color}
 use Rattle.rfb_wire.specs.Host.{Host}
 use Rattle.painter.specs.Picture.{Picture, black, painted}
@@ -13,11 +13,6 @@ pub record Framebuffer : Type 0 where
 -- the colour at a place
 abbrev pub color_at : Framebuffer → Picture
 color_at screen x y = slice_index_or screen.places (y * screen.width + x) (black x y)
-
--- the message is for a screen of this size
-pub record IsFor (screen : Framebuffer) (message : Host) : Type 0 where
-  pub width : message.width ≡ screen.width
-  pub height : message.height ≡ screen.height
 
 -- the two screens are of one size
 pub record SameSize (old new : Framebuffer) : Type 0 where

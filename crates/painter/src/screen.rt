@@ -2,7 +2,7 @@
 
 ghost use Rattle.std.specs.Prelude.{◌≡◌, ◌<◌, ℕ, ◌++◌, ◌∷◌, [], IfOk, List};
 ghost use Rattle.rfb_wire.specs.Host.{Host};
-ghost use Rattle.painter.specs.Framebuffer.{Framebuffer, color_at, IsFor, SameSize, Has, Shows};
+ghost use Rattle.painter.specs.Framebuffer.{Framebuffer, color_at, SameSize, Has, Shows};
 ghost use Rattle.painter.specs.Picture.{black, painted_message};
 
 use crate::pixel::{BLACK, Pixel, color_of_pixel};
@@ -43,7 +43,11 @@ impl Screen {
     {
         let places = usize::from(width) * usize::from(height);
         let pixels = vec![in alloc; BLACK; places]?;
-        Ok(Screen { width, height, pixels })
+        Ok(Screen {
+            width,
+            height,
+            pixels,
+        })
     }
 
     /// Its width and height.
@@ -65,7 +69,8 @@ impl Screen {
 
     /// Paints a message of this size: its rectangles in their order (RFC 6143, section 7.7).
     pub fn paint(&mut self, message: &HostMessage)
-        requires { IsFor self.old message.now }
+        requires width { message.now.width ≡ self.old.width }
+        requires height { message.now.height ≡ self.old.height }
         ensures size { SameSize self.old self.new }
         ensures painted { Has self.new (painted_message message.now (color_at self.old)) }
         ensures shows { (messages : List Host) → Shows self.old messages → Shows self.new (messages ++ message.now ∷ []) }

@@ -1,4 +1,4 @@
-use Rattle.std.proofs.Common.{◌≡◌, ℕ, ◌<◌, ◌*◌, length}
+use Rattle.std.proofs.Common.{◌≡◌, ℕ, ◌<◌}
 use Rattle.pixel_format.specs.Pixel.{host_color}
 use Rattle.painter.specs.Picture.{pixel_at}
 use Rattle.painter.specs.Pixels.{pixel_color_at}

@@ -1,4 +1,4 @@
-use Rattle.std.proofs.Common.{◌≡◌, ◌<◌, ◌+◌, ◌-◌, ℕ, List, length, take, refl, sym, ap, ◌∙◌, arith, get_or}
+use Rattle.std.proofs.Common.{◌≡◌, ◌<◌, ◌+◌, ◌-◌, ℕ, List, length, take, sym, ap, ◌∙◌, arith, get_or}
 use Rattle.rfb_wire.specs.Host.{Host}
 use Rattle.painter.specs.Picture.{Picture, black, painted_message, painted}
 use Rattle.painter.proofs.Order.{last_message, no_messages}

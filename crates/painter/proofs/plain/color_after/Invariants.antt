@@ -6,7 +6,7 @@ use Rattle.painter.proofs.plain.color_after.Given as goal
 abbrev pub invariant-loop-left : goal.invariant-loop-left
 invariant-loop-left l = record {
   some : l.left ≤ length l.messages;
-  same : painted l.messages l.x l.y ≡ painted (take l.left l.messages) l.x l.y
+  same : painted l.messages l.x l.y ≡ painted (take l.left l.messages) l.x l.y;
 }
 
 abbrev pub decreases-loop-left : goal.decreases-loop-left

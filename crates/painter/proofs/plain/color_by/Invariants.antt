@@ -6,7 +6,7 @@ use Rattle.painter.proofs.plain.color_by.Given as goal
 abbrev pub invariant-loop-left : goal.invariant-loop-left
 invariant-loop-left l = record {
   some : l.left ≤ length l.rectangles;
-  same : (before : Picture) → painted_rectangles l.bytes l.rectangles before l.x l.y ≡ painted_rectangles l.bytes (take l.left l.rectangles) before l.x l.y
+  same : (before : Picture) → painted_rectangles l.bytes l.rectangles before l.x l.y ≡ painted_rectangles l.bytes (take l.left l.rectangles) before l.x l.y;
 }
 
 abbrev pub decreases-loop-left : goal.decreases-loop-left

@@ -1,4 +1,4 @@
-use Rattle.std.proofs.Common.{◌≡◌, ◌<◌, ◌*◌, ◌+◌, ◌-◌, ℕ, ap, arith}
+use Rattle.std.proofs.Common.{◌≡◌, ◌<◌, ◌*◌, ℕ, ap, arith}
 use Rattle.std.proofs.lemmas.Nat.{mul-add-lt}
 use Rattle.painter.specs.Picture.{raw_picture}
 use Rattle.painter.proofs.Places.{in_is}

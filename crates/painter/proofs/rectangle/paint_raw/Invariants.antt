@@ -1,5 +1,4 @@
-use Rattle.std.proofs.Common.{◌≡◌, ℕ, ◌<◌, ◌≤◌, length, cond}
-use Rattle.rfb_wire.specs.declared.message.Area.{Area}
+use Rattle.std.proofs.Common.{◌≡◌, ℕ, ◌<◌, cond}
 use Rattle.painter.specs.Picture.{is_in, raw_picture}
 use Rattle.painter.specs.Pixels.{color_in}
 use Rattle.painter.proofs.rectangle.paint_raw.Given as goal
