@@ -31,7 +31,11 @@ impl Model for FusedDisk {
 
     ghost Value = { Fused (Wrapped Kept) };
 
-    ghost view = { λ d. record { disk = d.disk; failures = d.failures; ends_in_stopped_write = d.ends_in_stopped_write } };
+    ghost view = { λ d. record {
+      disk = d.disk;
+      failures = d.failures;
+      ends_in_stopped_write = d.ends_in_stopped_write;
+    } };
 }
 
 impl FusedDisk {
@@ -98,8 +102,10 @@ impl Disk for FusedDisk {
     fn write_at(&mut self, place: u64, bytes: &[u8]) -> Result<(), DiskFault>
         requires fits { place + length bytes.now < 2 ^ 64 }
         requires within { place ≤ length (present (history_of self.old.disk.disk)).now }
-        ensures written { OnOk result (IsWritten place bytes.now (present (history_of self.old.disk.disk)) (present (history_of self.new.disk.disk))) }
-        ensures goes_on { GoesOn (history_of self.old.disk.disk) (history_of self.new.disk.disk) (IsWithinWrite place (length bytes.now) (present (history_of self.old.disk.disk))) }
+        ensures written { let before = history_of self.old.disk.disk in
+            OnOk result (IsWritten place bytes.now (present before) (present (history_of self.new.disk.disk))) }
+        ensures goes_on { let before = history_of self.old.disk.disk in
+            GoesOn before (history_of self.new.disk.disk) (IsWithinWrite place (length bytes.now) (present before)) }
         ensures counts { CountsFailure self.old.failures self.new.failures result }
         ensures passed { OnOk result (self.new.ends_in_stopped_write ≡ false) }
     {
