@@ -39,6 +39,7 @@ impl Model for FusedDisk {
 }
 
 impl FusedDisk {
+    /// This disk, armed by this switch, which may be the same as that of the disk inside.
     pub fn new(disk: FailingDisk<MemoryDisk>, switch: Switch) -> FusedDisk
         ensures { result ≡ record { disk = disk; failures = 0; ends_in_stopped_write = false } }
     {
