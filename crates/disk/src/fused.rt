@@ -14,8 +14,8 @@ use std::marker::Model;
 /// A disk in memory that stops: as many calls pass as its `Switch` says, and then each call fails. What a crash then
 /// leaves of it is `left`.
 ///
-/// Of the writes that fail, the first one was under way as the device stopped, and is in the file all the same: so
-/// what is left may have it, in part or whole. Where there is no memory for it, the device stopped before it.
+/// The first write that the stop meets was under way as the device stopped: it fails, and is one of the disk's moments
+/// all the same, so that what is left may have it. Where there is no memory for it, the device stopped before it.
 #[derive(Drop)]
 pub struct FusedDisk {
     disk: FailingDisk<MemoryDisk>,
@@ -113,7 +113,7 @@ impl Disk for FusedDisk {
         if self.switch.stops_call() {
             if self.switch.stops_first_write() {
                 let failing = &mut self.disk;
-                self.ends_in_stopped_write = failing.disk.write_at(place, bytes).is_ok();
+                self.ends_in_stopped_write |= failing.disk.write_at(place, bytes).is_ok();
             }
             return Err(one_more_failed(&mut self.failures));
         }
