@@ -10,12 +10,13 @@ pub record IsOverwritten (byte : ℕ) (c : Contents) (file : List ℕ) : Type 0 
   pub same_length : length file ≡ length c.now
   pub each : (p : ℕ) → p < length c.now → slice_index file p ≡ (if c.touched p then byte else slice_index c.now p)
 
+-- what each fill leaves of these contents
 abbrev pub IsLeft : Fill → Contents → List ℕ → Type 0
 IsLeft Held c file = file ≡ c.held
 IsLeft Now c file = file ≡ c.now
 IsLeft (Byte byte) c file = IsOverwritten byte c file
 
--- the same at the present moment, or at the one before it, if the present one is a write that a stop met
+-- the same of the present moment, or of the one before it, if the present one is a write that a stop met
 abbrev pub IsLeftBehind : Fill → History → Bool → List ℕ → Type 0
 IsLeftBehind fill h ends_in_stopped_write file =
     IsLeft fill (present h) file ⊎ (IsTrue ends_in_stopped_write × IsLeft fill (h.at (h.moment - 1)) file)

@@ -1,8 +1,8 @@
 -- Each fill leaves a file that the rules allow.
-use Rattle.std.specs.Prelude.{◌≡◌, ℕ, ◌<◌, ◌≤◌, true, false, List, length, slice_index, refl, if◌then◌else◌}
+use Rattle.std.specs.Prelude.{◌≡◌, ℕ, List, slice_index, refl, if◌then◌else◌}
 use Rattle.std.proofs.Common.{arith, sym, ap, ◌∙◌, subst}
 use Rattle.disk.specs.Contents.{Contents, MayLeave, Agrees}
-use Rattle.disk.specs.Crash.{IsOverwritten, IsLeft}
+use Rattle.disk.specs.Crash.{IsLeft}
 use Rattle.disk.specs.declared.memory.crash.Fill.{Fill}
 use Rattle.disk.specs.declared.memory.crash.Fill.TheVariants.{Held, Now, Byte}
 

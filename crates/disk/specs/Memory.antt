@@ -16,7 +16,8 @@ pub record Kept : Type 0 where
 abbrev pub noted_write : ℕ → List ℕ → List ℕ → Overwrite
 noted_write place bytes file = record { place = place; count = length bytes; length_before = length file; replaced = take (length bytes) (drop place file) }
 
--- the file before this write
+-- The file before this write: what it replaced is put back, and what it added is gone. Undoing never makes a file
+-- longer, whatever the note says.
 unfoldable pub before_write : Overwrite → List ℕ → List ℕ
 before_write w file = take (min w.length_before (length file)) (put file w.place (take w.count w.replaced))
 
@@ -37,6 +38,7 @@ is_touched [] p = false
 is_touched (Wrote w ∷ earlier) p = is_touched earlier p || is_between w.place w.count p
 is_touched (Synced ∷ earlier) p = false
 
+-- what stands after these events
 abbrev pub contents_of : List ℕ → List Event → Contents
 contents_of file events = record { now = file; held = held_of file events; touched = is_touched events }
 

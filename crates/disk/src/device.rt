@@ -9,26 +9,6 @@ use thiserror::Error;
 #[error("the device failed")]
 pub struct DiskFault;
 
-// Counts a failed call, and is its answer.
-pub(crate) fn one_more_failed(failures: &mut u64) -> DiskFault
-    ensures rises { failures.old < 2 ^ 64 - 1 → failures.new ≡ failures.old + 1 }
-    ensures stays { 2 ^ 64 - 1 ≤ failures.old → failures.new ≡ failures.old }
-{
-    *failures = failures.saturating_add(1);
-    DiskFault
-}
-
-// Counts a call where it failed, and passes its answer on.
-pub(crate) fn counted<T>(failures: &mut u64, outcome: Result<T, DiskFault>) -> Result<T, DiskFault>
-    ensures same { result ≡ outcome }
-    ensures counts { CountsFailure failures.old failures.new result }
-{
-    if outcome.is_err() {
-        one_more_failed(failures);
-    }
-    outcome
-}
-
 /// A disk with one file, whose bytes may be read, overwritten and added to. There is no cut.
 ///
 /// Its rules are those of a disk that may crash at any moment, in the middle of a call too. Contracts see three
@@ -81,4 +61,24 @@ pub trait Disk {
 
     /// What reads give is one of the files that a crash now may leave.
     ghost agrees: { (disk : Self) → is_modelled → Agrees (present (history disk)) };
+}
+
+// Counts a failed call, and is its answer.
+pub(crate) fn one_more_failed(failures: &mut u64) -> DiskFault
+    ensures rises { failures.old < 2 ^ 64 - 1 → failures.new ≡ failures.old + 1 }
+    ensures stays { 2 ^ 64 - 1 ≤ failures.old → failures.new ≡ failures.old }
+{
+    *failures = failures.saturating_add(1);
+    DiskFault
+}
+
+// Counts a call where it failed, and passes its answer on.
+pub(crate) fn counted<T>(failures: &mut u64, outcome: Result<T, DiskFault>) -> Result<T, DiskFault>
+    ensures same { result ≡ outcome }
+    ensures counts { CountsFailure failures.old failures.new result }
+{
+    if outcome.is_err() {
+        one_more_failed(failures);
+    }
+    outcome
 }

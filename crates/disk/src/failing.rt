@@ -23,6 +23,7 @@ impl<D: Disk> Model for FailingDisk<D> {
 }
 
 impl<D: Disk> FailingDisk<D> {
+    /// This disk, armed by this switch.
     pub fn new(disk: D, switch: Switch) -> FailingDisk<D>
         ensures { result ≡ record { disk = disk; failures = 0 } }
     {

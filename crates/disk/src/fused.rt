@@ -14,8 +14,8 @@ use std::marker::Model;
 /// A disk in memory that stops: as many calls pass as its `Switch` says, and then each call fails. What a crash then
 /// leaves of it is `left`.
 ///
-/// Of the writes that fail, the first one was under way as the device stopped, and is in the file all the same: so
-/// what is left may have it, in part or whole. Where there is no memory for it, the device stopped before it.
+/// The first write that the stop meets was under way as the device stopped: it fails, and is one of the disk's moments
+/// all the same, so that what is left may have it. Where there is no memory for it, the device stopped before it.
 #[derive(Drop)]
 pub struct FusedDisk {
     disk: FailingDisk<MemoryDisk>,
@@ -31,10 +31,15 @@ impl Model for FusedDisk {
 
     ghost Value = { Fused (Wrapped Kept) };
 
-    ghost view = { λ d. record { disk = d.disk; failures = d.failures; ends_in_stopped_write = d.ends_in_stopped_write } };
+    ghost view = { λ d. record {
+      disk = d.disk;
+      failures = d.failures;
+      ends_in_stopped_write = d.ends_in_stopped_write;
+    } };
 }
 
 impl FusedDisk {
+    /// This disk, armed by this switch, which may be the same as that of the disk inside.
     pub fn new(disk: FailingDisk<MemoryDisk>, switch: Switch) -> FusedDisk
         ensures { result ≡ record { disk = disk; failures = 0; ends_in_stopped_write = false } }
     {
@@ -98,15 +103,17 @@ impl Disk for FusedDisk {
     fn write_at(&mut self, place: u64, bytes: &[u8]) -> Result<(), DiskFault>
         requires fits { place + length bytes.now < 2 ^ 64 }
         requires within { place ≤ length (present (history_of self.old.disk.disk)).now }
-        ensures written { OnOk result (IsWritten place bytes.now (present (history_of self.old.disk.disk)) (present (history_of self.new.disk.disk))) }
-        ensures goes_on { GoesOn (history_of self.old.disk.disk) (history_of self.new.disk.disk) (IsWithinWrite place (length bytes.now) (present (history_of self.old.disk.disk))) }
+        ensures written { let before = history_of self.old.disk.disk in
+            OnOk result (IsWritten place bytes.now (present before) (present (history_of self.new.disk.disk))) }
+        ensures goes_on { let before = history_of self.old.disk.disk in
+            GoesOn before (history_of self.new.disk.disk) (IsWithinWrite place (length bytes.now) (present before)) }
         ensures counts { CountsFailure self.old.failures self.new.failures result }
         ensures passed { OnOk result (self.new.ends_in_stopped_write ≡ false) }
     {
         if self.switch.stops_call() {
             if self.switch.stops_first_write() {
                 let failing = &mut self.disk;
-                self.ends_in_stopped_write = failing.disk.write_at(place, bytes).is_ok();
+                self.ends_in_stopped_write |= failing.disk.write_at(place, bytes).is_ok();
             }
             return Err(one_more_failed(&mut self.failures));
         }

@@ -25,7 +25,12 @@ impl Model for NotedWrite {
 
     ghost Value = { Overwrite };
 
-    ghost view = { λ w. record { place = w.place; count = w.count; length_before = w.length_before; replaced = w.replaced.items } };
+    ghost view = { λ w. record {
+      place = w.place;
+      count = w.count;
+      length_before = w.length_before;
+      replaced = w.replaced.items;
+    } };
 }
 
 #[derive(Drop)]
@@ -51,7 +56,11 @@ impl Model for MemoryDisk {
 
     ghost Value = { Kept };
 
-    ghost view = { λ d. record { bytes = d.bytes.items; events = reverse d.events.items; failures = d.failures } };
+    ghost view = { λ d. record {
+      bytes = d.bytes.items;
+      events = reverse d.events.items;
+      failures = d.failures;
+    } };
 }
 
 impl MemoryDisk {
@@ -96,7 +105,8 @@ fn write(
     ensures written { OnOk result (file.new.items ≡ put file.old.items place bytes.now) }
     ensures noted { OnOk result (events.new.items
         ≡ events.old.items ++ Event.Wrote (noted_write place bytes.now file.old.items) ∷ []) }
-    ensures refused { OnErr result ((file.new.items ≡ file.old.items) × (events.new.items ≡ events.old.items)) }
+    ensures refused { OnErr result
+        ((file.new.items ≡ file.old.items) × (events.new.items ≡ events.old.items)) }
 {
     let length_before = file.len();
     let overlap = bytes.len().min(length_before - place);
@@ -140,7 +150,8 @@ impl Disk for MemoryDisk {
     fn read_at(&mut self, place: u64, buffer: &mut [u8]) -> Result<(), DiskFault>
         requires fits { place + length buffer.old < 2 ^ 64 }
         requires within { place + length buffer.old ≤ length (present (history_of self.old)).now }
-        ensures read { OnOk result (buffer.new ≡ take (length buffer.old) (drop place (present (history_of self.old)).now)) }
+        ensures read { OnOk result
+            (buffer.new ≡ take (length buffer.old) (drop place (present (history_of self.old)).now)) }
         ensures same { history_of self.new ≡ history_of self.old }
         ensures counts { CountsFailure self.old.failures self.new.failures result }
         ensures never_fails { IsOk result }

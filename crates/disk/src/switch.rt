@@ -19,12 +19,12 @@ struct Arms {
     calls_to_failure: AtomicU64,
     /// The same up to the first call that a `FusedDisk` stops; 1 from then on.
     calls_to_stop: AtomicU64,
-    /// Whether a write was stopped since the last arming.
+    /// Whether the last stop has met a write.
     has_stopped_write: AtomicBool,
 }
 
 impl Switch {
-    /// A switch that is off.
+    /// A switch that is off. `AllocError` is want of memory for its words.
     pub fn new(alloc: Global) -> Result<Switch, AllocError> {
         let arms = Arms {
             calls_to_failure: AtomicU64::new(0),
@@ -36,13 +36,14 @@ impl Switch {
         })
     }
 
-    /// After this many more calls, one call fails.
+    /// After this many more calls, one call fails. (The largest number counts as one less: no run gets there.)
     pub fn fail_after(&self, calls: u64) {
         let failing = calls.saturating_add(1);
         self.arms.calls_to_failure.store(failing, Ordering::SeqCst);
     }
 
-    /// After this many more calls, each call fails. A write that an earlier stop met is forgotten.
+    /// After this many more calls, each call fails. A write that an earlier stop met is forgotten. (The largest number
+    /// counts as one less: no run gets there.)
     pub fn stop_after(&self, calls: u64) {
         let stopping = calls.saturating_add(1);
         self.arms.has_stopped_write.store(false, Ordering::SeqCst);
@@ -75,12 +76,12 @@ impl Switch {
         }) == Ok(1)
     }
 
-    // Notes a write that is stopped: is it the first one since the last arming?
+    // Notes a write that the stop has met: is it the first one?
     pub(crate) fn stops_first_write(&self) -> bool {
         !self.arms.has_stopped_write.swap(true, Ordering::SeqCst)
     }
 
-    // Whether a write was stopped since the last arming.
+    // Whether the last stop has met a write.
     pub(crate) fn has_stopped_write(&self) -> bool {
         self.arms.has_stopped_write.load(Ordering::SeqCst)
     }

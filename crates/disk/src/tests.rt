@@ -85,9 +85,11 @@ fn a_stop_leaves_the_write_that_it_met(rt: HostRuntime) -> Result<(), Fail> {
     for (fill, file) in FILLS {
         let switch = Switch::new(rt.alloc())?;
         let mut disk = fused(rt.alloc(), &switch)?;
-        switch.stop_after(2);
+        switch.stop_after(4);
         disk.write_at(0, b"ab")?;
         disk.sync()?;
+        disk.len()?;
+        disk.read_at(0, &mut [0; 2])?;
         assert_eq!(rt; disk.sync(), Err(DiskFault));
         assert_eq!(rt; disk.write_at(1, b"xyz"), Err(DiskFault));
         assert_eq!(rt; disk.write_at(0, b"never"), Err(DiskFault));

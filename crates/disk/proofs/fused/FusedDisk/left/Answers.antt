@@ -1,4 +1,4 @@
-use Rattle.std.proofs.Common.{◌≡◌, IsTrue, rules, arith}
+use Rattle.std.proofs.Common.{◌≡◌, IsTrue, rules}
 use Rattle.disk.proofs.TakenBack.{allowed_after, filled_after}
 use Rattle.disk.proofs.fused.FusedDisk.left.Goals as goal
 

@@ -1,8 +1,4 @@
-use Rattle.std.proofs.Common.{◌≡◌, reverse, ap, ◌∙◌, arith, rules}
-use Rattle.disk.specs.Contents.{Contents}
-use Rattle.disk.specs.Crash.{IsLeft}
 use Rattle.disk.specs.CrashLaws.{MayLeave-left}
-use Rattle.disk.specs.Memory.{contents_of}
 use Rattle.disk.specs.MemoryLaws.{present_of, Agrees-moments_of}
 use Rattle.disk.proofs.memory.MemoryDisk.left.Goals.{in-Held, in-Now, in-Byte}
 use Rattle.disk.proofs.memory.MemoryDisk.left.Goals as goal

@@ -1,4 +1,4 @@
-use Rattle.std.proofs.Common.{◌≡◌, ◌+◌, ◌-◌, replicate, ap, ◌∙◌, arith, rules}
+use Rattle.std.proofs.Common.{◌≡◌, ◌+◌, ◌-◌, replicate, arith, rules}
 use Rattle.disk.proofs.Undo.{overwritten_in_place}
 use Rattle.disk.proofs.memory.crash.overwrite.Goals as goal
 

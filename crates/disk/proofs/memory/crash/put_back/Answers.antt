@@ -1,4 +1,4 @@
-use Rattle.std.proofs.Common.{◌≡◌, ◌+◌, ◌-◌, take, ap, ◌∙◌, arith, rules}
+use Rattle.std.proofs.Common.{◌≡◌, ◌+◌, ◌-◌, take, arith, rules}
 use Rattle.disk.proofs.Undo.{undone_in_place}
 use Rattle.disk.proofs.memory.crash.put_back.Goals as goal
 
