@@ -58,7 +58,7 @@ message_again width height m more is =
     rw recorded at local
 
 -- messages of one size are the same if their bytes and rectangles are
-same_host : (m n : Host) → m.width ≡ n.width → m.height ≡ n.height → m.bytes ≡ n.bytes → m.rectangles ≡ n.rectangles → m ≡ n
+pub same_host : (m n : Host) → m.width ≡ n.width → m.height ≡ n.height → m.bytes ≡ n.bytes → m.rectangles ≡ n.rectangles → m ≡ n
 same_host m n a b c d =
     let same : record { width = m.width; height = m.height; bytes = m.bytes; rectangles = m.rectangles } ≡ n = rw (a, b, c, d) refl in
     same

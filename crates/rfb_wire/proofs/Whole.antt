@@ -7,8 +7,9 @@ use Rattle.pixel_format.proofs.Readings.{field-short}
 use Rattle.rfb_wire.specs.declared.fault.WireFault.{WireFault}
 use Rattle.rfb_wire.specs.Grammar.{message_at, message_limit}
 use Rattle.rfb_wire.specs.Host.{Host}
-use Rattle.rfb_wire.specs.Stream.{IsFor, bytes_of, Goes}
-use Rattle.rfb_wire.proofs.Streams.{flat_append, waits_begins_none, one_reading, empty_list}
+use Rattle.rfb_wire.specs.Stream.{IsFor, bytes_of, Goes, Reads, FaultOf, Stops}
+use Rattle.rfb_wire.specs.declared.fault.WireFault.TheVariants as faults
+use Rattle.rfb_wire.proofs.Streams.{flat_append, waits_begins_none, one_reading, empty_list, message_again, same_host, no_fault}
 
 -- no bytes are an unfinished message
 pub message-empty : (limit width height : ℕ) → message_at limit width height [] ≡ More
@@ -66,3 +67,25 @@ pub other_given : (width height passed : ℕ) (kept stream : List ℕ) (given be
 other_given width height passed kept stream given before last m goes is differ for same =
     let one = last_of_one before last m (sym is ∙ given_one width height passed kept stream given m goes for same) in
     differ (ap (λ n. length (bytes_of n)) one ∙ ap length same)
+
+-- One message of these bytes.
+pub same_by_bytes : (width height : ℕ) (m n : Host) (bytes : List ℕ) → IsFor width height m → m.bytes ≡ bytes → IsFor width height n → n.bytes ≡ bytes → m ≡ n
+same_by_bytes width height m n bytes is same other others =
+    let both : m.bytes ≡ n.bytes = same ∙ sym others in
+    let read = sym (message_again width height m [] is) ∙ ap (λ b. message_at message_limit width height (b ++ [])) both ∙ message_again width height n [] other in
+    let rectangles : m.rectangles ≡ n.rectangles = cc in
+    same_host m n (is.width_is ∙ sym other.width_is) (is.height_is ∙ sym other.height_is) both rectangles
+
+-- One message has no fault.
+pub faultless : (width height : ℕ) (m : Host) (bytes : List ℕ) (f : WireFault) → IsFor width height m → m.bytes ≡ bytes → FaultOf width height bytes f → ⊥
+faultless width height m bytes f is same fault =
+    let reads : Reads width height bytes (m ∷ []) [] = record { each = (is, tt); stream_is = sym same ∙ sym (append-nil (m.bytes ++ []) ∙ append-nil m.bytes) } in
+    no_fault width height bytes (m ∷ []) [] f reads (message-empty message_limit width height) fault
+
+-- a reader that stops in one message stops for want of memory
+pub memory_alone : (width height : ℕ) (m : Host) (bytes : List ℕ) (given : List Host) (f : WireFault) → IsFor width height m → m.bytes ≡ bytes → Stops width height f [] given bytes → f ≡ faults.NoMemory
+memory_alone width height m bytes given faults.UnknownType is same stops = absurd (faultless width height m bytes faults.UnknownType is same (record { messages = stops.gives.messages; rest = stops.rest; reads = stops.gives.reads; fault = stops.fault }))
+memory_alone width height m bytes given faults.OutsideScreen is same stops = absurd (faultless width height m bytes faults.OutsideScreen is same (record { messages = stops.gives.messages; rest = stops.rest; reads = stops.gives.reads; fault = stops.fault }))
+memory_alone width height m bytes given (faults.Encoding n) is same stops = absurd (faultless width height m bytes (faults.Encoding n) is same (record { messages = stops.gives.messages; rest = stops.rest; reads = stops.gives.reads; fault = stops.fault }))
+memory_alone width height m bytes given faults.TooLong is same stops = absurd (faultless width height m bytes faults.TooLong is same (record { messages = stops.gives.messages; rest = stops.rest; reads = stops.gives.reads; fault = stops.fault }))
+memory_alone width height m bytes given faults.NoMemory is same stops = refl

@@ -1,6 +1,6 @@
 //! Recorded messages of a host.
 
-ghost use Rattle.std.specs.Prelude.{◌≡◌, All, IfOk, Err};
+ghost use Rattle.std.specs.Prelude.{◌≡◌, ◌≤◌, All, IfOk, Err, MatchResult, length};
 
 use crate::fault::{BytesFault, WireFault};
 use crate::reader::ServerReader;
@@ -65,6 +65,7 @@ impl Model for HostMessage {
 }
 
 impl HostMessage {
+    ghost use Rattle.rfb_wire.specs.Grammar.{message_limit};
     ghost use Rattle.rfb_wire.specs.declared.fault.WireFault.{WireFault};
     ghost use Rattle.rfb_wire.specs.Host.{Host, host_of, IsRecorded, IsPlaced};
     ghost use Rattle.rfb_wire.specs.Stream.{IsFor, FaultOf, UnlessMemory};
@@ -96,6 +97,9 @@ impl HostMessage {
         bytes: &[u8],
     ) -> Result<HostMessage, BytesFault>
         ensures ok { IfOk result (λ m. IsFor width height m × (m.bytes ≡ bytes.now)) }
+        // What is one message is read as that message.
+        ensures whole { (m : Host) → IsFor width height m → m.bytes ≡ bytes.now
+            → MatchResult result (λ n. n ≡ m) (λ f. f ≡ BytesFault.Wire WireFault.NoMemory) }
         ensures not_one { result ≡ Err BytesFault.NotOne → (m : Host) → IsFor width height m → m.bytes ≡ bytes.now → ⊥ }
         ensures no_fault { result ≡ Err BytesFault.NotOne → (f : WireFault) → FaultOf width height bytes.now f → ⊥ }
         ensures wire { (f : WireFault) → result ≡ Err (BytesFault.Wire f) → UnlessMemory f (FaultOf width height bytes.now f) }
@@ -126,6 +130,14 @@ impl HostMessage {
         ensures { result ≡ (self.now.width, self.now.height) }
     {
         (self.width, self.height)
+    }
+
+    /// Does nothing: its contract is what the type keeps.
+    pub fn known(&self)
+        ensures recorded { IsRecorded self.now }
+        ensures short { length self.now.bytes ≤ message_limit }
+    {
+        let _ = &self.bytes;
     }
 
     /// The rectangles of an update, in their order; none of another message. Each lies within the
