@@ -1,18 +1,15 @@
 -- A text is read as what it spells.
-use Rattle.std.proofs.Common.{◌≡◌, ℕ, List, Option, Some, Result, Ok, Err, sym, subst, ◌∙◌}
-use Rattle.std.specs.Prelude.{IfOk, IfSome}
+use Rattle.std.proofs.Common.{◌≡◌, ℕ, List, Some, Result, Ok, Err, sym, ◌∙◌}
+use Rattle.std.specs.Prelude.{IfOk}
 use Rattle.std.proofs.lemmas.Option.{same_Some}
 use Rattle.drill_script.specs.declared.fault.LineFault.{LineFault}
 use Rattle.drill_script.specs.declared.fault.LineFault.TheVariants.{Bad, NoMemory}
 use Rattle.drill_script.specs.declared.line.Line.{Line}
-use Rattle.drill_script.specs.Grammar.{Command, command_of, HoldsBytes, Spells}
+use Rattle.drill_script.specs.Grammar.{Command, command_of, Spells}
 use Rattle.drill_script.specs.Reading.{parts, GivesLine, command_at}
 use Rattle.drill_script.proofs.Again.{command_again}
 use Rattle.drill_script.proofs.Parts.{parts_text, text_parts, words_some}
 use Rattle.drill_script.proofs.Taken.{command_told}
-
-IfSome-at_some : {A : Type 0} (P : A → Type 0) {read : Option A} {x : A} → read ≡ Some x → IfSome read P → P x
-IfSome-at_some {A} P {read} {x} e h = subst (λ (r : Option A). IfSome r P) e h
 
 -- what is read is spelled
 read_spells : (text : List ℕ) (command : Command) → command_at (parts text) ≡ Some command → Spells text command
@@ -44,8 +41,3 @@ pub line_bad : (text : List ℕ) (r : Result Line LineFault) (command : Command)
 line_bad text (Ok line) command given bad s = absurd cc
 line_bad text (Err Bad) command given bad s = let read = spelled_reads text command s in absurd cc
 line_bad text (Err NoMemory) command given bad s = absurd cc
-
-pub line_memory : (text : List ℕ) (r : Result Line LineFault) (command : Command) → GivesLine r (command_at (parts text)) → r ≡ fails NoMemory → Spells text command → HoldsBytes command
-line_memory text (Ok line) command given want s = absurd cc
-line_memory text (Err Bad) command given want s = absurd cc
-line_memory text (Err NoMemory) command given want s = IfSome-at_some HoldsBytes (spelled_reads text command s) given

@@ -3,13 +3,13 @@ use Rattle.std.proofs.Common.{◌≡◌, ℕ, ◌+◌, ◌-◌, ◌≤◌, Bool,
 use Rattle.std.specs.Prelude.{position, ◌↔◌, IsTrue, is_some, not}
 use Rattle.std.specs.Option.{option_map_or}
 use Rattle.std.specs.List.{AllByRecursion, position_or_len, onto_first, join_with_byte}
-use Rattle.std.proofs.lemmas.Bool.{ltb-true, ltb-false, eqb-false, ne_eqb, cases_Bool}
+use Rattle.std.proofs.lemmas.Bool.{ltb-true, ltb-false, eqb-false, ne_eqb, cases_Bool, cases_lt}
 use Rattle.std.proofs.lemmas.Option.{cond_some}
-use Rattle.std.proofs.lemmas.List.{take_rest}
+use Rattle.std.proofs.lemmas.List.{take_rest, take_all}
 use Rattle.std.proofs.lemmas.List.Elements.{All-from_get_or, All-from_recursion}
 use Rattle.std.proofs.lemmas.List.Splits.{slice_split_none, slice_split_first, slice_split_at, slice_split-cons_yes, slice_split-cons_no, length-slice_split, join_with_byte-slice_split}
 use Rattle.std.proofs.lemmas.List.Sums.{fails_before_first}
-use Rattle.drill_script.specs.Grammar.{IsWord, IsTextOf}
+use Rattle.drill_script.specs.Grammar.{IsWord, IsTextOf, first_word}
 use Rattle.drill_script.specs.Reading.{parts}
 use Rattle.drill_script.proofs.Taken.{AreSome}
 
@@ -21,10 +21,11 @@ cond_none true n e = absurd cc
 cond_none false n e = refl
 
 -- a text with no space is one part
+parts_past : (text : List ℕ) → length text ≤ position_or_len is_space text → parts text ≡ text ∷ []
+parts_past text past = slice_split_none is_space text (All-from_get_or (λ x. is_space x ≡ false) text 0 (λ i lt. fails_before_first is_space text i 0 (omega arith)))
+
 pub parts_whole : (text : List ℕ) → position is_space text ≡ None → parts text ≡ text ∷ []
-parts_whole text none =
-    let past : length text ≤ position_or_len is_space text = ltb-false _ _ (cond_none _ _ none) in
-    slice_split_none is_space text (All-from_get_or (λ x. is_space x ≡ false) text 0 (λ i lt. fails_before_first is_space text i 0 (omega arith)))
+parts_whole text none = parts_past text (ltb-false _ _ (cond_none _ _ none))
 
 -- a space ends the first part
 pub parts_first : (text : List ℕ) (end : ℕ) → position is_space text ≡ Some end
@@ -33,6 +34,14 @@ parts_first text end found =
     let at = cond_some _ _ _ found in
     let split = slice_split_first is_space text 0 (ltb-true _ _ at.0) in
     rw (take_rest text (end + 1), ← at.1) split
+
+-- the first part is the first word
+pub parts_begin : (text first : List ℕ) (rest : List (List ℕ)) → parts text ≡ first ∷ rest → first ≡ first_word text
+parts_begin text first rest e =
+    elim (cases_lt (position_or_len is_space text) (length text)) [
+      | inl within ↦ let split = slice_split_first is_space text 0 within in cc
+      | inr past ↦ let whole = parts_past text past in let all = take_all (position_or_len is_space text) text past in cc
+    ]
 
 -- there is a part
 pub parts_some : (text : List ℕ) → parts text ≡ [] → ⊥

@@ -6,7 +6,7 @@ use Rattle.std.specs.List.{AllByRecursion, concat, list_all, list_any}
 use Rattle.std.specs.Str.{bytes_eq}
 use Rattle.std.proofs.lemmas.Bool.{and_parts, or_parts, ltb-true, eqb-false}
 use Rattle.std.proofs.lemmas.Bool.Decides.{nat_tests}
-use Rattle.std.proofs.lemmas.Option.{some_pair_parts, same_Some}
+use Rattle.std.proofs.lemmas.Option.{option_and_then_some, some_pair_parts, same_Some}
 use Rattle.std.proofs.lemmas.Slice.Eq.{bytes_eq-Decides}
 use Rattle.hex.specs.Hex.{decode_of}
 use Rattle.hex.specs.declared.error.FromHexError.{FromHexError}
@@ -174,48 +174,61 @@ ended_is (said, word ∷ words) command e = absurd cc
 abbrev pub Told : List (List ℕ) → Command → Type 0
 Told words command = Says words command × AreSome words
 
+new_tells : (w h k name : List ℕ) (width height key_interval : ℕ) → IsNumber (2 ^ 16) w width → IsNumber (2 ^ 16) h height → IsNumber (2 ^ 16) k key_interval → name ≢ [] → IsName name
+    → Told (codes "new" ∷ w ∷ h ∷ k ∷ name ∷ []) (NewCommand width height key_interval name)
+new_tells w h k name width height key_interval a b c some d = ((w, h, k, refl, a, b, c, d), (λ empty. absurd cc, (a.some, (b.some, (c.some, (some, tt))))))
+
+host_tells : (t : List ℕ) (hex : List (List ℕ)) (time : ℕ) (bytes : List ℕ) → IsNumber (2 ^ 32) t time → IsHex hex bytes → AreSome hex → Told (codes "host" ∷ t ∷ hex) (HostCommand time bytes)
+host_tells t hex time bytes a b some = ((t, hex, refl, a, b), (λ empty. absurd cc, (a.some, some)))
+
+pixel_tells : (n column row : List ℕ) (count x y : ℕ) → IsNumber (2 ^ 64) n count → IsNumber (2 ^ 16) column x → IsNumber (2 ^ 16) row y
+    → Told (codes "pixel" ∷ n ∷ column ∷ row ∷ []) (PixelCommand count x y)
+pixel_tells n column row count x y a b c = ((n, column, row, refl, a, b, c), (λ empty. absurd cc, (a.some, (b.some, (c.some, tt)))))
+
+-- words that are others, and a command that is another
+told_at : (first : List ℕ) (words others : List (List ℕ)) (said command : Command) → words ≡ others → said ≡ command → Told (first ∷ others) said → Told (first ∷ words) command
+told_at first words others said command same is told =
+    subst (λ (ws : List (List ℕ)). Told (first ∷ ws) command) (sym same) (subst (λ (c : Command). Told (first ∷ others) c) is told)
+
 new_told : (words : List (List ℕ)) (x : Command × List (List ℕ)) → new_at words ≡ Some x → x.1 ≡ [] → Told (codes "new" ∷ words) x.0
 unfolding new_at
 new_told words x e none =
-    let a = bind_some (number_at (2 ^ 16) words) (λ width. number_at (2 ^ 16) width.1 >>= λ height. number_at (2 ^ 16) height.1 >>= λ key_interval. name_at key_interval.1 >>= λ name. Some (NewCommand width.0 height.0 key_interval.0 name.0, name.1)) x e in
-    let b = bind_some (number_at (2 ^ 16) a.0.1) (λ height. number_at (2 ^ 16) height.1 >>= λ key_interval. name_at key_interval.1 >>= λ name. Some (NewCommand a.0.0 height.0 key_interval.0 name.0, name.1)) x a.2 in
-    let d = bind_some (number_at (2 ^ 16) b.0.1) (λ key_interval. name_at key_interval.1 >>= λ name. Some (NewCommand a.0.0 b.0.0 key_interval.0 name.0, name.1)) x b.2 in
-    let f = bind_some (name_at d.0.1) (λ name. Some (NewCommand a.0.0 b.0.0 d.0.0 name.0, name.1)) x d.2 in
-    let w = number_takes (2 ^ 16) words a.0 a.1 in
-    let h = number_takes (2 ^ 16) a.0.1 b.0 b.1 in
-    let k = number_takes (2 ^ 16) b.0.1 d.0 d.1 in
-    let n = name_takes d.0.1 f.0 f.1 in
-    let parts = some_pair_parts (NewCommand a.0.0 b.0.0 d.0.0 f.0.0) x.0 f.0.1 x.1 f.2 in
-    let all : words ≡ w.word ∷ h.word ∷ k.word ∷ f.0.0 ∷ [] =
-    then_words w.word w.first (then_words h.word h.first (then_words k.word k.first (then_words f.0.0 n.first (parts.1 ∙ none)))) in
-    subst (λ (ws : List (List ℕ)). Told (codes "new" ∷ ws) x.0) (sym all) (subst (λ (c : Command). Told (codes "new" ∷ w.word ∷ h.word ∷ k.word ∷ f.0.0 ∷ []) c) parts.0
-    ((w.word, h.word, k.word, refl, w.number, h.number, k.number, n.name), (λ empty. absurd cc, (w.number.some, (h.number.some, (k.number.some, (n.some, tt)))))))
+    option_and_then_some (λ width. number_at (2 ^ 16) width.1 >>= λ height. number_at (2 ^ 16) height.1 >>= λ key_interval. name_at key_interval.1 >>= λ name. Some (NewCommand width.0 height.0 key_interval.0 name.0, name.1)) (number_at (2 ^ 16) words) x e (λ width is_width e_height.
+    option_and_then_some (λ height. number_at (2 ^ 16) height.1 >>= λ key_interval. name_at key_interval.1 >>= λ name. Some (NewCommand width.0 height.0 key_interval.0 name.0, name.1)) (number_at (2 ^ 16) width.1) x e_height (λ height is_height e_key_interval.
+    option_and_then_some (λ key_interval. name_at key_interval.1 >>= λ name. Some (NewCommand width.0 height.0 key_interval.0 name.0, name.1)) (number_at (2 ^ 16) height.1) x e_key_interval (λ key_interval is_key_interval e_name.
+    option_and_then_some (λ name. Some (NewCommand width.0 height.0 key_interval.0 name.0, name.1)) (name_at key_interval.1) x e_name (λ name is_name e_said.
+    let w = number_takes (2 ^ 16) words width is_width in
+    let h = number_takes (2 ^ 16) width.1 height is_height in
+    let k = number_takes (2 ^ 16) height.1 key_interval is_key_interval in
+    let n = name_takes key_interval.1 name is_name in
+    let said = some_pair_parts (NewCommand width.0 height.0 key_interval.0 name.0) x.0 name.1 x.1 e_said in
+    let all = then_words w.word w.first (then_words h.word h.first (then_words k.word k.first (then_words name.0 n.first (said.1 ∙ none)))) in
+    told_at (codes "new") words (w.word ∷ h.word ∷ k.word ∷ name.0 ∷ []) (NewCommand width.0 height.0 key_interval.0 name.0) x.0 all said.0
+    (new_tells w.word h.word k.word name.0 width.0 height.0 key_interval.0 w.number h.number k.number n.some n.name)))))
 
 host_told : (words : List (List ℕ)) (x : Command × List (List ℕ)) → host_at words ≡ Some x → x.1 ≡ [] → Told (codes "host" ∷ words) x.0
 unfolding host_at
 host_told words x e none =
-    let a = bind_some (number_at (2 ^ 32) words) (λ time. hex_at time.1 >>= λ bytes. Some (HostCommand time.0 bytes.0, bytes.1)) x e in
-    let b = bind_some (hex_at a.0.1) (λ bytes. Some (HostCommand a.0.0 bytes.0, bytes.1)) x a.2 in
-    let t = number_takes (2 ^ 32) words a.0 a.1 in
-    let hex = hex_takes a.0.1 b.0 b.1 in
-    let parts = some_pair_parts (HostCommand a.0.0 b.0.0) x.0 b.0.1 x.1 b.2 in
-    subst (λ (ws : List (List ℕ)). Told (codes "host" ∷ ws) x.0) (sym t.first) (subst (λ (c : Command). Told (codes "host" ∷ t.word ∷ a.0.1) c) parts.0
-    ((t.word, a.0.1, refl, t.number, hex.hex), (λ empty. absurd cc, (t.number.some, hex.some))))
+    option_and_then_some (λ time. hex_at time.1 >>= λ bytes. Some (HostCommand time.0 bytes.0, bytes.1)) (number_at (2 ^ 32) words) x e (λ time is_time e_bytes.
+    option_and_then_some (λ bytes. Some (HostCommand time.0 bytes.0, bytes.1)) (hex_at time.1) x e_bytes (λ bytes is_bytes e_said.
+    let t = number_takes (2 ^ 32) words time is_time in
+    let hex = hex_takes time.1 bytes is_bytes in
+    let said = some_pair_parts (HostCommand time.0 bytes.0) x.0 bytes.1 x.1 e_said in
+    told_at (codes "host") words (t.word ∷ time.1) (HostCommand time.0 bytes.0) x.0 t.first said.0 (host_tells t.word time.1 time.0 bytes.0 t.number hex.hex hex.some)))
 
 pixel_told : (words : List (List ℕ)) (x : Command × List (List ℕ)) → pixel_at words ≡ Some x → x.1 ≡ [] → Told (codes "pixel" ∷ words) x.0
 unfolding pixel_at
 pixel_told words x e none =
-    let a = bind_some (number_at (2 ^ 64) words) (λ count. number_at (2 ^ 16) count.1 >>= λ x. number_at (2 ^ 16) x.1 >>= λ y. Some (PixelCommand count.0 x.0 y.0, y.1)) x e in
-    let b = bind_some (number_at (2 ^ 16) a.0.1) (λ x. number_at (2 ^ 16) x.1 >>= λ y. Some (PixelCommand a.0.0 x.0 y.0, y.1)) x a.2 in
-    let d = bind_some (number_at (2 ^ 16) b.0.1) (λ y. Some (PixelCommand a.0.0 b.0.0 y.0, y.1)) x b.2 in
-    let n = number_takes (2 ^ 64) words a.0 a.1 in
-    let column = number_takes (2 ^ 16) a.0.1 b.0 b.1 in
-    let row = number_takes (2 ^ 16) b.0.1 d.0 d.1 in
-    let parts = some_pair_parts (PixelCommand a.0.0 b.0.0 d.0.0) x.0 d.0.1 x.1 d.2 in
-    let all : words ≡ n.word ∷ column.word ∷ row.word ∷ [] =
-    then_words n.word n.first (then_words column.word column.first (then_words row.word row.first (parts.1 ∙ none))) in
-    subst (λ (ws : List (List ℕ)). Told (codes "pixel" ∷ ws) x.0) (sym all) (subst (λ (c : Command). Told (codes "pixel" ∷ n.word ∷ column.word ∷ row.word ∷ []) c) parts.0
-    ((n.word, column.word, row.word, refl, n.number, column.number, row.number), (λ empty. absurd cc, (n.number.some, (column.number.some, (row.number.some, tt))))))
+    option_and_then_some (λ count. number_at (2 ^ 16) count.1 >>= λ column. number_at (2 ^ 16) column.1 >>= λ row. Some (PixelCommand count.0 column.0 row.0, row.1)) (number_at (2 ^ 64) words) x e (λ count is_count e_column.
+    option_and_then_some (λ column. number_at (2 ^ 16) column.1 >>= λ row. Some (PixelCommand count.0 column.0 row.0, row.1)) (number_at (2 ^ 16) count.1) x e_column (λ column is_column e_row.
+    option_and_then_some (λ row. Some (PixelCommand count.0 column.0 row.0, row.1)) (number_at (2 ^ 16) column.1) x e_row (λ row is_row e_said.
+    let n = number_takes (2 ^ 64) words count is_count in
+    let c = number_takes (2 ^ 16) count.1 column is_column in
+    let r = number_takes (2 ^ 16) column.1 row is_row in
+    let said = some_pair_parts (PixelCommand count.0 column.0 row.0) x.0 row.1 x.1 e_said in
+    let all = then_words n.word n.first (then_words c.word c.first (then_words r.word r.first (said.1 ∙ none))) in
+    told_at (codes "pixel") words (n.word ∷ c.word ∷ r.word ∷ []) (PixelCommand count.0 column.0 row.0) x.0 all said.0
+    (pixel_tells n.word c.word r.word count.0 column.0 row.0 n.number c.number r.number))))
 
 bare_told : (word : List ℕ) (said : Command) (words : List (List ℕ)) (x : Command × List (List ℕ)) → word ≢ [] → Says (word ∷ []) said → Some (said, words) ≡ Some x → x.1 ≡ []
     → Told (word ∷ words) x.0

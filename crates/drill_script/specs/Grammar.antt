@@ -1,6 +1,6 @@
 -- The lines of a drill script: what a text has to be to say one.
-use Rattle.std.specs.Prelude.{◌≡◌, ◌≢◌, ℕ, ◌+◌, ◌-◌, ◌*◌, ◌^◌, ◌<◌, List, [], ◌∷◌, length, codes, Ok}
-use Rattle.std.specs.List.{AllByRecursion, concat, join_with_byte}
+use Rattle.std.specs.Prelude.{◌≡◌, ◌≢◌, ◌⊎◌, ℕ, ◌+◌, ◌-◌, ◌*◌, ◌^◌, ◌<◌, ◌==◌, List, [], ◌∷◌, length, codes, Ok}
+use Rattle.std.specs.List.{AllByRecursion, before_first, concat, join_with_byte}
 use Rattle.std.specs.Char.{IsAsciiDigit}
 use Rattle.hex.specs.Hex.{decode_of}
 use Rattle.drill_script.specs.declared.line.Line.{Line}
@@ -25,16 +25,6 @@ command_of line.Body = BodyCommand
 command_of line.Gate = GateCommand
 command_of line.Open = OpenCommand
 command_of (line.Pixel count x y) = PixelCommand count x y
-
--- the line holds bytes, for which memory is taken
-abbrev pub HoldsBytes : Command → Type 0
-HoldsBytes (NewCommand width height key_interval name) = Unit {0}
-HoldsBytes (HostCommand time bytes) = Unit {0}
-HoldsBytes TakeCommand = ⊥
-HoldsBytes BodyCommand = ⊥
-HoldsBytes GateCommand = ⊥
-HoldsBytes OpenCommand = ⊥
-HoldsBytes (PixelCommand count x y) = ⊥
 
 -- a word: one byte or more, and no space
 abbrev pub IsWord : List ℕ → Type 0
@@ -85,3 +75,11 @@ Says words (PixelCommand count x y) =
 -- the text spells the command: its words say it
 abbrev pub Spells : List ℕ → Command → Type 0
 Spells text command = (words : List (List ℕ)) × IsTextOf words text × Says words command
+
+-- the first word: what stands before the first space
+abbrev pub first_word : List ℕ → List ℕ
+first_word text = before_first (λ byte. byte == 32) text
+
+-- the text begins as a line that holds bytes, for which memory is taken
+abbrev pub TakesMemory : List ℕ → Type 0
+TakesMemory text = (first_word text ≡ codes "new") ⊎ (first_word text ≡ codes "host")

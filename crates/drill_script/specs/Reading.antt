@@ -1,5 +1,5 @@
 -- Reading the words of a line from the first to the last.
-use Rattle.std.specs.Prelude.{◌≡◌, ℕ, ◌^◌, IfSome, ◌==◌, ◌&&◌, nat_lt, List, [], ◌∷◌, ◌++◌, length, codes, Option, Some, None, option_and_then, Result, Ok, Err, if◌then◌else◌}
+use Rattle.std.specs.Prelude.{◌≡◌, ℕ, ◌^◌, ◌==◌, ◌&&◌, nat_lt, List, [], ◌∷◌, ◌++◌, length, codes, Option, Some, None, option_and_then, Result, Ok, Err, if◌then◌else◌}
 use Rattle.std.specs.List.{slice_split, list_all, list_any}
 use Rattle.std.specs.Char.{is_ascii_digit}
 use Rattle.std.specs.Str.{bytes_eq}
@@ -10,7 +10,7 @@ use Rattle.drill_script.specs.declared.fault.LineFault.TheVariants.{Bad, NoMemor
 use Rattle.drill_script.specs.declared.words.Kind.{Kind}
 use Rattle.drill_script.specs.declared.words.Kind.TheVariants as kind
 use Rattle.drill_script.specs.declared.line.Line.{Line}
-use Rattle.drill_script.specs.Grammar.{Command, command_of, HoldsBytes, NewCommand, HostCommand, TakeCommand, BodyCommand, GateCommand, OpenCommand, PixelCommand, decimal}
+use Rattle.drill_script.specs.Grammar.{Command, command_of, NewCommand, HostCommand, TakeCommand, BodyCommand, GateCommand, OpenCommand, PixelCommand, decimal}
 
 -- What a call that takes no memory answered, seen by view, and the words that it left, are what reading gives.
 abbrev pub Reads : {A B : Type 0} → (A → B) → Result A LineFault → List (List ℕ) → Option (B × List (List ℕ)) → Type 0
@@ -28,7 +28,7 @@ ReadsInMemory view (Err NoMemory) after read = Unit {0}
 abbrev pub GivesLine : Result Line LineFault → Option Command → Type 0
 GivesLine (Ok line) read = read ≡ Some (command_of line)
 GivesLine (Err Bad) read = read ≡ None
-GivesLine (Err NoMemory) read = IfSome read HoldsBytes
+GivesLine (Err NoMemory) read = Unit {0}
 
 infixl 10 ◌>>=◌
 abbrev pub ◌>>=◌ : {A B : Type 0} → Option A → (A → Option B) → Option B
@@ -130,14 +130,14 @@ rest_at kind.Open words = Some (OpenCommand, words)
 rest_at kind.Pixel words = pixel_at words
 
 -- a line of this kind takes memory
-abbrev pub TakesMemory : Kind → Type 0
-TakesMemory kind.New = Unit {0}
-TakesMemory kind.Host = Unit {0}
-TakesMemory kind.Take = ⊥
-TakesMemory kind.Body = ⊥
-TakesMemory kind.Gate = ⊥
-TakesMemory kind.Open = ⊥
-TakesMemory kind.Pixel = ⊥
+abbrev pub KindTakesMemory : Kind → Type 0
+KindTakesMemory kind.New = Unit {0}
+KindTakesMemory kind.Host = Unit {0}
+KindTakesMemory kind.Take = ⊥
+KindTakesMemory kind.Body = ⊥
+KindTakesMemory kind.Gate = ⊥
+KindTakesMemory kind.Open = ⊥
+KindTakesMemory kind.Pixel = ⊥
 
 -- a whole line leaves no word
 abbrev pub ended : Command × List (List ℕ) → Option Command

@@ -3,8 +3,8 @@
 ghost use Rattle.std.specs.Prelude.{◌≡◌, ◌==◌, ◌^◌, ℕ, List, IfOk};
 ghost use Rattle.std.specs.Char.{is_ascii_digit};
 ghost use Rattle.std.specs.List.{list_all, list_any};
-ghost use Rattle.drill_script.specs.Grammar.{Command, command_of, HoldsBytes, Spells};
-ghost use Rattle.drill_script.specs.Reading.{parts, Reads, ReadsInMemory, GivesLine, TakesMemory, command_at, number_of, number_at, name_at, joined_at, hex_at, new_at, host_at, pixel_at, rest_at};
+ghost use Rattle.drill_script.specs.Grammar.{Command, command_of, Spells, TakesMemory};
+ghost use Rattle.drill_script.specs.Reading.{parts, Reads, ReadsInMemory, GivesLine, KindTakesMemory, command_at, number_of, number_at, name_at, joined_at, hex_at, new_at, host_at, pixel_at, rest_at};
 
 use crate::fault::LineFault;
 use crate::line::Line;
@@ -125,7 +125,7 @@ fn pixel_line(words: &mut Words) -> Result<Line, LineFault>
 
 fn rest_of_line(alloc: Global, kind: Kind, words: &mut Words) -> Result<Line, LineFault>
     ensures read { ReadsInMemory command_of result words.new (rest_at kind words.old) }
-    ensures memory { result ≡ Err LineFault.NoMemory → TakesMemory kind }
+    ensures memory { result ≡ Err LineFault.NoMemory → KindTakesMemory kind }
 {
     match kind {
         Kind::New => new_line(alloc, words),
@@ -140,7 +140,8 @@ fn rest_of_line(alloc: Global, kind: Kind, words: &mut Words) -> Result<Line, Li
 
 #[tactic(auto, unfolding(crate::specs::Reading::command_at))]
 fn line(alloc: Global, text: &[u8]) -> Result<Line, LineFault>
-    ensures { GivesLine result (command_at (parts text.now)) }
+    ensures read { GivesLine result (command_at (parts text.now)) }
+    ensures memory { result ≡ Err LineFault.NoMemory → TakesMemory text.now }
 {
     let mut words = Words::of(text);
     let kind = kind_of(words.word()?).ok_or(LineFault::Bad)?;
@@ -158,15 +159,15 @@ fn line(alloc: Global, text: &[u8]) -> Result<Line, LineFault>
 /// more, joined before they are judged. A name is one word of any bytes. What follows the first word
 /// is as the variants of [`Line`] say.
 ///
-/// Only `new` and `host` take memory.
+/// Only a text that begins with `new` or `host` takes memory.
 pub fn read_line(alloc: Global, text: &[u8]) -> Result<Line, LineFault>
     // What is read is what the text spells.
     ensures spelled { IfOk result (λ line. Spells text.now (command_of line)) }
     ensures only { (command : Command) → Spells text.now command → IfOk result (λ line. command_of line ≡ command) }
 
-    // A text that spells a line is not bad, and wants memory only for bytes that it holds.
+    // A text that spells a line is not bad, and memory is wanted only for bytes.
     ensures bad { (command : Command) → result ≡ Err LineFault.Bad → Spells text.now command → ⊥ }
-    ensures memory { (command : Command) → result ≡ Err LineFault.NoMemory → Spells text.now command → HoldsBytes command }
+    ensures memory { result ≡ Err LineFault.NoMemory → TakesMemory text.now }
 {
     line(alloc, text)
 }

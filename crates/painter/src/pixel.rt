@@ -42,11 +42,11 @@ fn host_pixel_of(bytes: &[u8]) -> Pixel
 }
 
 /// Writes a row of places from as many pixels of the host format.
-pub(crate) fn paint_row(row: &mut [Pixel], data: &[u8])
-    requires { length data.now ≡ 4 * length row.old }
-    ensures { (k : ℕ) → k < length row.old → pixel_color_at row.new k ≡ host_color (pixel_at data.now k) }
+pub(crate) fn paint_row(row: &mut [Pixel], bytes: &[u8])
+    requires { length bytes.now ≡ 4 * length row.old }
+    ensures { (k : ℕ) → k < length row.old → pixel_color_at row.new k ≡ host_color (pixel_at bytes.now k) }
 {
     for (k, pixel) in row.iter_mut().enumerate() {
-        *pixel = host_pixel_of(&data[4 * k..4 * k + 4]);
+        *pixel = host_pixel_of(&bytes[4 * k..4 * k + 4]);
     }
 }

@@ -18,21 +18,21 @@ fn contains(area: Area, x: u16, y: u16) -> bool
 }
 
 // The colour of a pixel of the data, by its number.
-fn pixel_color(data: &[u8], n: usize) -> Color
-    requires { 4 * n + 4 ≤ length data.now }
-    ensures { result ≡ host_color (pixel_at data.now n) }
+fn pixel_color(bytes: &[u8], n: usize) -> Color
+    requires { 4 * n + 4 ≤ length bytes.now }
+    ensures { result ≡ host_color (pixel_at bytes.now n) }
 {
-    PixelFormat::host().pixel(&data[4 * n..4 * n + 4])
+    PixelFormat::host().pixel(&bytes[4 * n..4 * n + 4])
 }
 
 // The colour of a Raw rectangle at a place of its area (RFC 6143, section 7.7.1).
-fn raw_color(area: Area, data: &[u8], x: u16, y: u16) -> Color
+fn raw_color(area: Area, bytes: &[u8], x: u16, y: u16) -> Color
     requires place { IsTrue (is_in area x y) }
-    requires size { length data.now ≡ 4 * (area.w * area.h) }
-    ensures { result ≡ raw_picture area data.now x y }
+    requires size { length bytes.now ≡ 4 * (area.w * area.h) }
+    ensures { result ≡ raw_picture area bytes.now x y }
 {
     let row = usize::from(y - area.y);
-    pixel_color(data, row * usize::from(area.w) + usize::from(x - area.x))
+    pixel_color(bytes, row * usize::from(area.w) + usize::from(x - area.x))
 }
 
 // The colour that a message gives a place: that of its last rectangle there.

@@ -8,19 +8,19 @@ use crate::pixel::{Pixel, paint_row};
 use rfb_wire::{Area, Encoding, HostMessage};
 
 // Paints a Raw rectangle (RFC 6143, section 7.7.1), row by row.
-fn paint_raw(pixels: &mut [Pixel], width: u16, area: Area, data: &[u8])
+fn paint_raw(pixels: &mut [Pixel], width: u16, area: Area, bytes: &[u8])
     requires columns { area.x + area.w ≤ width }
     requires rows { (area.y + area.h) * width ≤ length pixels.old }
-    requires size { length data.now ≡ 4 * (area.w * area.h) }
+    requires size { length bytes.now ≡ 4 * (area.w * area.h) }
     ensures { (x y : ℕ) → x < width → color_in pixels.new width x y
-        ≡ (if is_in area x y then raw_picture area data.now x y else color_in pixels.old width x y) }
+        ≡ (if is_in area x y then raw_picture area bytes.now x y else color_in pixels.old width x y) }
 {
     let (width, w) = (usize::from(width), usize::from(area.w));
     let (left, top) = (usize::from(area.x), usize::from(area.y));
     for row in 0..usize::from(area.h) {
         let start = (top + row) * width + left;
         let from = 4 * (row * w);
-        paint_row(&mut pixels[start..start + w], &data[from..from + 4 * w]);
+        paint_row(&mut pixels[start..start + w], &bytes[from..from + 4 * w]);
     }
 }
 

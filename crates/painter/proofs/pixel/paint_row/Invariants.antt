@@ -5,4 +5,4 @@ use Rattle.painter.specs.Pixels.{pixel_color_at}
 use Rattle.painter.proofs.pixel.paint_row.Given as goal
 
 abbrev pub invariant-loop-k : goal.invariant-loop-k
-invariant-loop-k l = (j : ℕ) → j < l.k → pixel_color_at l.row j ≡ host_color (pixel_at l.data j)
+invariant-loop-k l = (j : ℕ) → j < l.k → pixel_color_at l.row j ≡ host_color (pixel_at l.bytes j)

@@ -11,10 +11,10 @@ loop-row-preserved c = λ x y across.
     let inside : (area.y + row) * c.args.width + area.x + area.w ≤ length c.loop-row.pixels = omega (arith, mul-le-mul_left c.args.width reach) in
     let line = c.paint_row.new.row in
     let told =
-    written c.loop-row.pixels line c.args.data.now ((c.from-top.result + row) * c.from-width.result + c.from-left.result) c.from-w.result (row * c.from-w.result)
+    written c.loop-row.pixels line c.args.bytes.now ((c.from-top.result + row) * c.from-width.result + c.from-left.result) c.from-w.result (row * c.from-w.result)
     (rw (c.from-top.ensures, c.from-left.ensures, c.from-w.ensures, c.from-width.ensures) inside) c.paint_row.auto.row c.paint_row.ensures in
-    let told : Written line c.args.data.now (row * area.w) area.w = rw c.from-w.ensures at told in
-    let writes : WritesRow c.loop-row.pixels line c.args.width area c.args.data.now row = record { columns = c.requires.columns; fits = inside; len = told.len; colors = told.colors } in
+    let told : Written line c.args.bytes.now (row * area.w) area.w = rw c.from-w.ensures at told in
+    let writes : WritesRow c.loop-row.pixels line c.args.width area c.args.bytes.now row = record { columns = c.requires.columns; fits = inside; len = told.len; colors = told.colors } in
     let inv = rw c.from-width.ensures at (c.loop-row.invariant x y across) in
     rw (c.from-top.ensures, c.from-left.ensures, c.from-w.ensures, c.from-width.ensures, range_len ((area.y + row) * c.args.width + area.x) area.w)
-    (row_painted c.args.pixels.now c.loop-row.pixels line c.args.width area c.args.data.now row x y writes (omega (arith, across)) inv)
+    (row_painted c.args.pixels.now c.loop-row.pixels line c.args.width area c.args.bytes.now row x y writes (omega (arith, across)) inv)

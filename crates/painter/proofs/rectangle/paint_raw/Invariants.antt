@@ -7,4 +7,4 @@ use Rattle.painter.proofs.rectangle.paint_raw.Given as goal
 abbrev pub invariant-loop-row : goal.invariant-loop-row
 invariant-loop-row l =
     (x y : ℕ) → x < l.width → color_in l.pixels l.width x y
-    ≡ cond (is_in (record l.fn.area { h = l.row }) x y) (raw_picture l.fn.area l.data x y) (color_in l.initial.pixels l.width x y)
+    ≡ cond (is_in (record l.fn.area { h = l.row }) x y) (raw_picture l.fn.area l.bytes x y) (color_in l.initial.pixels l.width x y)
