@@ -1,0 +1,4 @@
+pub mod Book
+pub mod Entry
+pub mod Reading
+pub mod Screens

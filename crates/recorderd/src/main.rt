@@ -1,0 +1,34 @@
+//! `recorderd`, a crash-safe recorder of VNC sessions.
+#![tactic(auto)]
+
+mod answer;
+mod book;
+mod command;
+mod drill;
+mod entry;
+mod phase;
+mod reading;
+mod refusal;
+mod screens;
+mod steps;
+
+use std::process::ExitCode;
+use std::{env, io};
+
+fn run(rt: &HostRuntime) -> io::Result<u8> {
+    let alloc = rt.alloc();
+    let words: Vec<String> = env::args(rt)?.collect(alloc)?;
+    let mut out = io::writer(rt);
+    let mut err = rt.stderr();
+    Ok(command::command(alloc, &words, rt.reader(), &mut out, &mut err))
+}
+
+fn main(rt: HostRuntime) -> ExitCode {
+    match run(&rt) {
+        Ok(status) => ExitCode::from(status),
+        Err(_) => ExitCode::FAILURE,
+    }
+}
+
+#[cfg(test)]
+mod tests;

@@ -1,0 +1,58 @@
+// The steps of a drill on its book.
+
+use crate::answer::Answer;
+use crate::book::PlainBook;
+use disk::MemoryDisk;
+use rfb_wire::HostMessage;
+use std::alloc::Global;
+
+/// `host T HEX`.
+pub fn host(alloc: Global, book: &mut PlainBook<MemoryDisk>, time: u32, bytes: &[u8]) -> Answer {
+    let (width, height) = book.header().size();
+    match HostMessage::from_bytes(alloc, width, height, bytes) {
+        Ok(message) => match book.host(time, message) {
+            Ok(number) => Answer::Accepted(number),
+            Err(refusal) => Answer::HostRefused(refusal.number()),
+        },
+        Err(fault) => Answer::BytesRefused(fault.number()),
+    }
+}
+
+/// `take`.
+pub fn take(book: &mut PlainBook<MemoryDisk>) -> Answer {
+    match book.take() {
+        Ok(taken) => Answer::Taken {
+            first: taken.first,
+            count: taken.count,
+        },
+        Err(refusal) => Answer::TakeRefused(refusal.number()),
+    }
+}
+
+/// `body`.
+pub fn body(book: &mut PlainBook<MemoryDisk>) -> Answer {
+    match book.body() {
+        Ok(()) => Answer::Written,
+        Err(refusal) => Answer::BodyRefused(refusal.number()),
+    }
+}
+
+/// `gate`.
+pub fn gate(book: &mut PlainBook<MemoryDisk>) -> Answer {
+    match book.gate() {
+        Ok(committed) => Answer::Committed(committed),
+        Err(refusal) => Answer::GateRefused(refusal.number()),
+    }
+}
+
+/// `pixel N X Y`: a place outside the screen is a bad line, whatever N is.
+pub fn pixel(book: &PlainBook<MemoryDisk>, count: u64, x: u16, y: u16) -> Answer {
+    let (width, height) = book.header().size();
+    if x >= width || y >= height {
+        return Answer::Bad;
+    }
+    match book.pixel(count, x, y) {
+        Ok(color) => Answer::Pixel(color),
+        Err(refusal) => Answer::PixelRefused(refusal.number()),
+    }
+}

@@ -1,0 +1,217 @@
+use crate::book::{PlainBook, Taken};
+use crate::command::command;
+use crate::refusal::{FlushRefusal, PixelRefusal, TakeRefusal};
+use disk::MemoryDisk;
+use gated_journal::Header;
+use pixel_format::Color;
+use rfb_wire::HostMessage;
+use std::alloc::Global;
+use std::io;
+use std::io::{Read, Write};
+use std::test::Fail;
+
+const RED_HEX: &str = "0000 0001 0000 0000 0001 0001 00000000 0000ff00";
+
+const RED: [u8; 20] = [
+    0, 0, 0, 1, 0, 0, 0, 0, 0, 1, 0, 1, 0, 0, 0, 0, 0, 0, 0xff, 0,
+];
+
+// The status of a script, and what it writes, to the second output last.
+fn drilled(alloc: Global, script: &str) -> Result<(u8, String), Fail> {
+    let mut words = Vec::new(alloc);
+    words.push("recorderd".to_string(alloc)?)?;
+    words.push("drill".to_string(alloc)?)?;
+    let mut out = Vec::new(alloc);
+    let mut err = Vec::new(alloc);
+    let status = command(alloc, &words, script.as_bytes(), &mut out, &mut err);
+    out.extend_from_slice(&err)?;
+    Ok((status, String::from_utf8(out).ok().ok_or("output")?))
+}
+
+#[test]
+fn scripts_are_answered(rt: HostRuntime) -> Result<(), Fail> {
+    let alloc = rt.alloc();
+    let red = RED_HEX;
+    let recorded = format!(in alloc;
+        "new 1 1 4 x\nhost 0 {red}\ntake\nbody\ngate\nopen\npixel 1 0 0"
+    )?;
+    let waiting = format!(in alloc; "new 1 1 4 x\nhost 0 {red}\nopen\npixel 0 0 0\npixel 1 0 0\n")?;
+    let out_of_turn = format!(in alloc;
+        "new 1 1 4 x\ntake\nbody\ngate\nhost 0 {red}\ntake\ntake\ngate\nbody\ntake\ngate\n"
+    )?;
+    for (script, answers, status) in [
+        ("", "", 0),
+        (
+            "new 1 1 4 x\nopen\npixel 0 0 0\n",
+            "recording 1 1 4\nopened 0\n000000\n",
+            0,
+        ),
+        (
+            recorded.as_str(),
+            "recording 1 1 4\naccepted 0\ntaken 0 1\nwritten\ncommitted 1\nopened 1\nff0000\n",
+            0,
+        ),
+        (
+            waiting.as_str(),
+            "recording 1 1 4\naccepted 0\nopened 0\n000000\npixel refused 1\n",
+            0,
+        ),
+        (
+            out_of_turn.as_str(),
+            "recording 1 1 4\ntake refused 1\nbody refused 1\ngate refused 1\naccepted 0\ntaken 0 1\ntake refused 2\ngate refused 1\nwritten\ntake refused 2\ncommitted 1\n",
+            0,
+        ),
+        ("open\n", "line 1: bad\n", 1),
+        (
+            "new 1 1 0 x\nopen\n",
+            "new refused 2\nopen refused journal 1\n",
+            0,
+        ),
+        (
+            "\n\nnew 1 1 4 x\n\npixel 9 1 0\n",
+            "recording 1 1 4\nline 5: bad\n",
+            1,
+        ),
+        (
+            "new 1 1 4 x\nhost 0 09\nhost 0 0000 0000\nhost 0 00\n",
+            "recording 1 1 4\nbytes refused 1\naccepted 0\nbytes refused 0\n",
+            0,
+        ),
+        (
+            "new 1 1 4 x\r\ntake\n",
+            "recording 1 1 4\ntake refused 1\n",
+            0,
+        ),
+        ("new 1 1 4\ntake\n", "line 1: bad\n", 1),
+    ] {
+        let (given, text) = drilled(alloc, script)?;
+        assert_eq!(rt; text.as_str(), answers);
+        assert_eq!(rt; given, status);
+    }
+    Ok(())
+}
+
+#[test]
+fn bytes_that_are_no_text_are_a_bad_line(rt: HostRuntime) -> Result<(), Fail> {
+    let alloc = rt.alloc();
+    let words = ["recorderd".to_string(alloc)?, "drill".to_string(alloc)?];
+    let mut out = Vec::new(alloc);
+    let mut err = Vec::new(alloc);
+    let input = b"new 1 1 4 \xff\xfe\ntak\xff".as_slice();
+    assert_eq!(rt; command(alloc, &words, input, &mut out, &mut err), 1);
+    assert_eq!(rt;
+        out.as_slice(),
+        b"recording 1 1 4\nline 2: bad\n".as_slice()
+    );
+    Ok(())
+}
+
+#[test]
+fn words_that_are_no_command_line(rt: HostRuntime) -> Result<(), Fail> {
+    let alloc = rt.alloc();
+    for wrong in ["", "serve", "--drill", "drill x"] {
+        let mut words = Vec::new(alloc);
+        words.push("recorderd".to_string(alloc)?)?;
+        for word in wrong.split_whitespace() {
+            words.push(word.to_string(alloc)?)?;
+        }
+        let mut out = Vec::new(alloc);
+        let mut err = Vec::new(alloc);
+        assert_eq!(rt;
+            command(alloc, &words, b"".as_slice(), &mut out, &mut err),
+            2
+        );
+        assert_eq!(rt; out.as_slice(), b"".as_slice());
+        assert_eq!(rt; err.as_slice(), b"recorderd: bad command line\n".as_slice());
+    }
+    let words = ["recorderd".to_string(alloc)?, "--help".to_string(alloc)?];
+    let mut out = Vec::new(alloc);
+    let mut err = Vec::new(alloc);
+    assert_eq!(rt;
+        command(alloc, &words, b"".as_slice(), &mut out, &mut err),
+        0
+    );
+    assert!(rt; out.len() > 0);
+    assert_eq!(rt; err.as_slice(), b"".as_slice());
+    Ok(())
+}
+
+// A writer that takes so many bytes and then fails.
+#[derive(Drop)]
+struct Full {
+    room: usize,
+}
+
+impl Write for Full {
+    fn write(&mut self, bytes: &[u8]) -> io::Result<usize> {
+        let taken = bytes.len().min(self.room);
+        self.room -= taken;
+        if taken == 0 && bytes.len() > 0 {
+            return Err(io::ErrorKind::Other.into());
+        }
+        Ok(taken)
+    }
+
+    fn flush(&mut self) -> io::Result<()> {
+        Ok(())
+    }
+}
+
+// A reader that fails.
+#[derive(Drop)]
+struct Unreadable;
+
+impl Read for Unreadable {
+    fn read(&mut self, _buffer: &mut [u8]) -> io::Result<usize> {
+        Err(io::ErrorKind::Other.into())
+    }
+}
+
+#[test]
+fn streams_that_fail(rt: HostRuntime) -> Result<(), Fail> {
+    let alloc = rt.alloc();
+    let words = ["recorderd".to_string(alloc)?, "drill".to_string(alloc)?];
+    let mut err = Vec::new(alloc);
+    let script = b"new 1 1 4 x\nopen\n".as_slice();
+    for room in 0..25 {
+        let mut out = Full { room };
+        let status = command(alloc, &words, script, &mut out, &mut err);
+        assert_eq!(rt; status, 1, "with room for {room}");
+    }
+    let mut out = Full { room: 25 };
+    assert_eq!(rt; command(alloc, &words, script, &mut out, &mut err), 0);
+    assert_eq!(rt;
+        command(alloc, &words, Unreadable, &mut Full { room: 25 }, &mut err),
+        1
+    );
+    Ok(())
+}
+
+#[test]
+fn a_closed_book_leaves_these_bytes(rt: HostRuntime) -> Result<(), Fail> {
+    let alloc = rt.alloc();
+    let header = Header::new(alloc, 1, 1, 4, b"x")?;
+    let mut book = PlainBook::create(alloc, MemoryDisk::new(alloc), header)
+        .ok()
+        .ok_or("created")?;
+    assert_eq!(rt; book.take(), Err(TakeRefusal::Nothing));
+    let message = HostMessage::from_bytes(alloc, 1, 1, &RED)?;
+    assert_eq!(rt; message.size(), (1, 1));
+    let (width, height) = book.header().size();
+    assert_eq!(rt; (width, height), (1, 1));
+    assert_eq!(rt; book.host(0, message).ok(), Some(0));
+    assert_eq!(rt; book.take(), Ok(Taken { first: 0, count: 1 }));
+    assert_eq!(rt; book.gate(), Err(FlushRefusal::OutOfTurn));
+    assert_eq!(rt; book.body(), Ok(()));
+    assert_eq!(rt; book.gate(), Ok(1));
+    assert_eq!(rt; book.pixel(1, 0, 0), Ok(Color { r: 255, g: 0, b: 0 }));
+    assert_eq!(rt; book.pixel(2, 0, 0), Err(PixelRefusal::NotCommitted));
+    let mut expected = Vec::new(alloc);
+    expected.extend_from_slice(b"ORFBREC1\0\x01\0\x01\0\x04\0\x01x")?;
+    expected.extend_from_slice(b"O\0\0\0\x1d\0\x01\0\0\0\0\0\0\0\0\x14")?;
+    expected.extend_from_slice(&RED)?;
+    expected.push(b'C')?;
+    let disk = book.close();
+    assert_eq!(rt; disk.bytes(), expected.as_slice());
+    Ok(())
+}
