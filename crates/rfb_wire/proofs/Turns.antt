@@ -140,7 +140,7 @@ unless_memory (faults.Encoding n) P p = p
 unless_memory faults.TooLong P p = p
 unless_memory faults.NoMemory P p = tt
 
-unless_memory_map : (f : WireFault) (P Q : Type 0) → (P → Q) → UnlessMemory f P → UnlessMemory f Q
+pub unless_memory_map : (f : WireFault) (P Q : Type 0) → (P → Q) → UnlessMemory f P → UnlessMemory f Q
 unless_memory_map faults.UnknownType P Q m p = m p
 unless_memory_map faults.OutsideScreen P Q m p = m p
 unless_memory_map (faults.Encoding n) P Q m p = m p

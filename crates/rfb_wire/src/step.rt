@@ -11,7 +11,7 @@ use crate::progress::{Stage, Step};
 
 // The numbers of a header, the higher byte first.
 #[tactic(auto, unfolding(crate::specs::Grammar::area_of))]
-fn area_at(header: &[u8]) -> Area
+pub fn area_at(header: &[u8]) -> Area
     requires { length header.now ≡ 12 }
     ensures { result ≡ area_of header.now }
 {
@@ -24,7 +24,7 @@ fn area_at(header: &[u8]) -> Area
 }
 
 #[tactic(auto, unfolding(crate::specs::Grammar::encoding_number))]
-fn encoding_at(header: &[u8]) -> u32
+pub fn encoding_at(header: &[u8]) -> u32
     requires { length header.now ≡ 12 }
     ensures { result ≡ encoding_number header.now }
 {
@@ -33,7 +33,7 @@ fn encoding_at(header: &[u8]) -> u32
 
 // Whether the area lies within a screen of this size.
 #[tactic(auto, unfolding(crate::specs::Grammar::is_inside))]
-fn lies_inside(area: Area, width: u16, height: u16) -> bool
+pub fn lies_inside(area: Area, width: u16, height: u16) -> bool
     ensures { result ≡ is_inside width height area }
 {
     area.x as u32 + area.w as u32 <= width as u32 && area.y as u32 + area.h as u32 <= height as u32
