@@ -1,6 +1,5 @@
 -- What the grammar says of bytes whose first field is known.
 use Rattle.std.proofs.Common.{◌≡◌, ℕ, suc, ◌+◌, ◌*◌, true, false, List, [], ◌∷◌, ◌++◌, nat_eq, refl, ◌∙◌, append_assoc}
-use Rattle.std.specs.Int.{w32, cast_signed}
 use Rattle.std.proofs.lemmas.List.{append-nil}
 use Rattle.pixel_format.specs.Reading.{Reading, Got, More, Bad, ◌>>=◌, field, guard}
 use Rattle.rfb_wire.specs.declared.message.Area.{Area}
@@ -8,7 +7,7 @@ use Rattle.rfb_wire.specs.declared.message.Rectangle.{Rectangle}
 use Rattle.rfb_wire.specs.declared.message.Encoding.TheVariants as encodings
 use Rattle.rfb_wire.specs.declared.fault.WireFault.{WireFault}
 use Rattle.rfb_wire.specs.declared.fault.WireFault.TheVariants as faults
-use Rattle.rfb_wire.specs.Grammar.{area_of, encoding_number, is_inside, raw_at, data_at, rectangle_at, rectangles_at, update_at, Recorded, u16_at}
+use Rattle.rfb_wire.specs.Grammar.{signed, area_of, encoding_number, is_inside, raw_at, data_at, rectangle_at, rectangles_at, update_at, Recorded, u16_at}
 use Rattle.rfb_wire.specs.Plain.{Says}
 use Rattle.rfb_wire.proofs.Turns.{unless_memory_map}
 use Rattle.std.proofs.Common.{Option, Some, None, Result, Ok, Err}
@@ -27,7 +26,7 @@ pub outside : (width height at : ℕ) (bytes header rest : List ℕ) → field {
 outside width height at bytes header rest e out = header_read width height at bytes header rest e ∙ rw out refl
 
 pub unknown : (width height at : ℕ) (bytes header rest : List ℕ) → field {E = WireFault} 12 bytes ≡ Got header rest → is_inside width height (area_of header) ≡ true
-    → nat_eq (encoding_number header) 0 ≡ false → rectangle_at width height at bytes ≡ Bad (faults.Encoding (cast_signed w32 (encoding_number header)))
+    → nat_eq (encoding_number header) 0 ≡ false → rectangle_at width height at bytes ≡ Bad (faults.Encoding (signed (encoding_number header)))
 unfolding data_at
 unknown width height at bytes header rest e inside other = header_read width height at bytes header rest e ∙ rw (inside, other) refl
 

@@ -9,7 +9,8 @@ use crate::fault::WireFault;
 use crate::message::{Area, Encoding, Rectangle};
 use crate::progress::{Stage, Step};
 
-// The numbers of a header, the higher byte first.
+/// The area that the header of a rectangle names: x, y, width and height, the higher byte of each
+/// first (RFC 6143, section 7.6.1).
 #[tactic(auto, unfolding(crate::specs::Grammar::area_of))]
 pub fn area_at(header: &[u8]) -> Area
     requires { length header.now ≡ 12 }
@@ -23,6 +24,7 @@ pub fn area_at(header: &[u8]) -> Area
     }
 }
 
+/// The number of the encoding that the header of a rectangle names, as four unsigned bytes.
 #[tactic(auto, unfolding(crate::specs::Grammar::encoding_number))]
 pub fn encoding_at(header: &[u8]) -> u32
     requires { length header.now ≡ 12 }
@@ -31,7 +33,7 @@ pub fn encoding_at(header: &[u8]) -> u32
     u32::from_be_bytes([header[8], header[9], header[10], header[11]])
 }
 
-// Whether the area lies within a screen of this size.
+/// Whether the area lies within a screen of this size.
 #[tactic(auto, unfolding(crate::specs::Grammar::is_inside))]
 pub fn lies_inside(area: Area, width: u16, height: u16) -> bool
     ensures { result ≡ is_inside width height area }

@@ -1,10 +1,9 @@
-use Rattle.std.proofs.Common.{◌≡◌, nat_eq, true, false, sym, ap, ◌∙◌, eq-eqb}
+use Rattle.std.proofs.Common.{◌≡◌, ◌<◌, nat_eq, true, false, sym, ap, ◌∙◌, eq-eqb}
 use Rattle.std.proofs.lemmas.Bool.{ne_eqb}
 use Rattle.std.proofs.lemmas.Int.{of_z-to_z}
-use Rattle.std.specs.Int.{w32, cast_signed, cast_unsigned}
 use Rattle.pixel_format.specs.Reading.{Bad}
 use Rattle.rfb_wire.specs.declared.fault.WireFault.TheVariants as faults
-use Rattle.rfb_wire.specs.Grammar.{area_of, encoding_number, is_inside}
+use Rattle.rfb_wire.specs.Grammar.{signed, area_of, encoding_number, is_inside}
 use Rattle.rfb_wire.proofs.FromFront.{header_short, outside, unknown, data_short, data_whole}
 use Rattle.rfb_wire.proofs.plain.rectangle.Goals as goal
 
@@ -20,10 +19,10 @@ pub returns-then-number-ne0-clause-says : goal.returns-then-number-ne0-clause-sa
 returns-then-number-ne0-clause-says c =
     let inside : is_inside c.args.width c.args.height (area_of c.in-Some.header.now) ≡ true = cc in
     let other : nat_eq (encoding_number c.in-Some.header.now) 0 ≡ false = rw (← c.encoding_at-number.ensures) (ne_eqb c.encoding_at-number.result 0 c.if-number-ne0.true) in
-    let back : cast_unsigned w32 c.cast_signed.result ≡ encoding_number c.in-Some.header.now =
-    ap (cast_unsigned w32) c.cast_signed.ensures ∙ of_z-to_z w32 c.encoding_at-number.result c.encoding_at-number.type_inv ∙ c.encoding_at-number.ensures in
-    unknown c.args.width c.args.height c.args.at c.args.bytes.now c.in-Some.header.now c.in-Some.rest.now c.in-Some.ensures.reads inside other
-    ∙ ap (λ n. Bad (faults.Encoding (cast_signed w32 n))) (sym back)
+    let fits : c.encoding_at-number.result < 4294967296 = c.encoding_at-number.type_inv in
+    rw (c.cast_signed.ensures, of_z-to_z)
+    (unknown c.args.width c.args.height c.args.at c.args.bytes.now c.in-Some.header.now c.in-Some.rest.now c.in-Some.ensures.reads inside other
+    ∙ ap (λ n. Bad (faults.Encoding (signed n))) (sym c.encoding_at-number.ensures))
 
 pub returns-in_default-field-clause-says : goal.returns-in_default-field-clause-says
 returns-in_default-field-clause-says c =
