@@ -51,7 +51,7 @@ front_got limit width height bytes kind rest after m e is got = kind_update limi
 pub record WholeFront (width height : ℕ) (bytes after : List ℕ) (rs : List Rectangle) : Type 0 where
   pub whole : List ℕ
   pub front_is : take message_limit bytes ≡ whole ++ after
-  pub recorded : IsRecorded (host_of width height whole rs)
+  pub recorded : IsRecorded message_limit (host_of width height whole rs)
   pub reads : message_at message_limit width height bytes ≡ Got (Recorded rs) (after ++ drop message_limit bytes)
 
 pub front_whole : (width height : ℕ) (bytes kind rest after : List ℕ) (rs : List Rectangle) → field {E = WireFault} 1 bytes ≡ Got kind rest → nat_eq (slice_index kind 0) 0 ≡ true

@@ -40,7 +40,8 @@ raw_at area at bytes = field (4 * (area.w * area.h)) bytes >>= λ pixels rest.
 
 -- the data of a rectangle, by the number of its encoding (section 7.7)
 unfoldable pub data_at : ℕ → Area → ℕ → List ℕ → Reading Rectangle WireFault
-data_at number area at bytes = if nat_eq number 0 then raw_at area at bytes else Bad (faults.Encoding (signed number))
+data_at number area at bytes = if nat_eq number 0 then raw_at area at bytes
+    else Bad (faults.Encoding (signed number))
 
 -- a rectangle of an update, at its place in the message (section 7.6.1)
 unfoldable pub rectangle_at : ℕ → ℕ → ℕ → List ℕ → Reading Rectangle WireFault

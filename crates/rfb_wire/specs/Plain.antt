@@ -13,13 +13,13 @@ Says value rest (Ok None) reading = reading ≡ More
 Says value rest (Err f) reading = UnlessMemory f (reading ≡ Bad f)
 
 -- the same of a message, which is a front of the bytes
-pub record Begins (width height : ℕ) (bytes : List ℕ) (m : Host) (reading : Reading Message WireFault) : Type 0 where
-  pub is : IsFor width height m
+pub record Begins (limit width height : ℕ) (bytes : List ℕ) (m : Host) (reading : Reading Message WireFault) : Type 0 where
+  pub is : IsFor limit width height m
   pub behind : List ℕ
   pub bytes_are : bytes ≡ m.bytes ++ behind
   pub reads : reading ≡ Got (Recorded m.rectangles) behind
 
-abbrev pub SaysMessage : ℕ → ℕ → List ℕ → Result (Option Host) WireFault → Reading Message WireFault → Type 0
-SaysMessage width height bytes (Ok (Some m)) reading = Begins width height bytes m reading
-SaysMessage width height bytes (Ok None) reading = reading ≡ More
-SaysMessage width height bytes (Err f) reading = UnlessMemory f (reading ≡ Bad f)
+abbrev pub SaysMessage : ℕ → ℕ → ℕ → List ℕ → Result (Option Host) WireFault → Reading Message WireFault → Type 0
+SaysMessage limit width height bytes (Ok (Some m)) reading = Begins limit width height bytes m reading
+SaysMessage limit width height bytes (Ok None) reading = reading ≡ More
+SaysMessage limit width height bytes (Err f) reading = UnlessMemory f (reading ≡ Bad f)

@@ -17,7 +17,8 @@ use std::alloc::Global;
 fn field(count: usize, bytes: &[u8]) -> Option<(&[u8], &[u8])>
     ensures reads { MatchOption result (reading.field {E = WireFault} count bytes.now ≡ More)
         (λ x. reading.field {E = WireFault} count bytes.now ≡ Got x.0.now x.1.now) }
-    ensures lengths { IfSome result (λ x. (length x.0.now ≡ count) × (count + length x.1.now ≡ length bytes.now)) }
+    ensures lengths { IfSome result (λ x. (length x.0.now ≡ count)
+        × (count + length x.1.now ≡ length bytes.now)) }
 {
     if bytes.len() < count {
         return None;
@@ -34,7 +35,8 @@ fn rectangle(
 ) -> Result<Option<(Rectangle, &[u8])>, WireFault>
     requires { at + length bytes.now ≤ message_limit }
     ensures says { Says (λ x. x.0) (λ x. x.1.now) result (rectangle_at width height at bytes.now) }
-    ensures ends { IfOk result (λ o. IfSome o (λ x. x.0.end + length x.1.now ≡ at + length bytes.now)) }
+    ensures ends { IfOk result (λ o. IfSome o (λ x.
+        x.0.end + length x.1.now ≡ at + length bytes.now)) }
 {
     let Some((header, rest)) = field(12, bytes) else {
         return Ok(None);
@@ -69,7 +71,8 @@ fn rectangles(
     bytes: &[u8],
 ) -> Result<Option<(Vec<Rectangle>, &[u8])>, WireFault>
     requires { 4 + length bytes.now ≤ message_limit }
-    ensures { Says (λ x. x.0.items) (λ x. x.1.now) result (rectangles_at width height count 4 bytes.now) }
+    ensures { Says (λ x. x.0.items) (λ x. x.1.now) result
+        (rectangles_at width height count 4 bytes.now) }
 {
     let mut found = Vec::new(alloc);
     let mut at = 4;
@@ -93,7 +96,8 @@ fn update(
     bytes: &[u8],
 ) -> Result<Option<(Vec<Rectangle>, &[u8])>, WireFault>
     requires { length bytes.now ≤ message_limit }
-    ensures { Says (λ x. Recorded x.0.items) (λ x. x.1.now) result (update_at width height bytes.now) }
+    ensures { Says (λ x. Recorded x.0.items) (λ x. x.1.now) result
+        (update_at width height bytes.now) }
 {
     let Some((_, head)) = field(1, bytes) else {
         return Ok(None);
@@ -114,7 +118,8 @@ pub fn read_message(
     height: u16,
     bytes: &[u8],
 ) -> Result<Option<HostMessage>, WireFault>
-    ensures { SaysMessage width height bytes.now result (message_at message_limit width height bytes.now) }
+    ensures { SaysMessage message_limit width height bytes.now result
+        (message_at message_limit width height bytes.now) }
 {
     let Some((kind, _)) = field(1, bytes) else {
         return Ok(None);

@@ -79,7 +79,8 @@ fn behind_type(field: &[u8]) -> Result<Step, WireFault>
 fn behind_update_head(field: &[u8]) -> Step
     requires { length field.now ≡ 3 }
     ensures goes { (width height : ℕ) → (more : List ℕ)
-        → resume width height Stage.UpdateHead (field.now ++ more) ≡ step_on width height result more }
+        → resume width height Stage.UpdateHead (field.now ++ more)
+        ≡ step_on width height result more }
     ensures begins { IfSome result.next (BeginsAt 4) }
 {
     Step {
@@ -91,8 +92,10 @@ fn behind_update_head(field: &[u8]) -> Step
 // Behind the last byte of a Raw rectangle.
 fn behind_raw(at: usize, area: Area, others: u16, end: usize) -> Step
     requires { end ≡ at + 4 * (area.w * area.h) }
-    ensures goes { (width height : ℕ) → (content more : List ℕ) → length content ≡ 4 * (area.w * area.h)
-        → resume width height (Stage.RawData at area others) (content ++ more) ≡ step_on width height result more }
+    ensures goes { (width height : ℕ) → (content more : List ℕ)
+        → length content ≡ 4 * (area.w * area.h)
+        → resume width height (Stage.RawData at area others) (content ++ more)
+        ≡ step_on width height result more }
     ensures begins { IfSome result.next (BeginsAt end) }
 {
     let rectangle = Rectangle {
@@ -118,7 +121,8 @@ fn behind_header(
     requires whole { length header.now ≡ 12 }
     requires short { at + 12 ≤ message_limit }
     ensures goes { IfOk result (λ s. (more : List ℕ)
-        → resume width height (Stage.RectangleHead at others) (header.now ++ more) ≡ step_on width height s more) }
+        → resume width height (Stage.RectangleHead at others) (header.now ++ more)
+        ≡ step_on width height s more) }
     ensures begins { IfOk result (λ s. IfSome s.next (BeginsAt (at + 12))) }
     ensures faults { IfErr result (λ f. (more : List ℕ)
         → resume width height (Stage.RectangleHead at others) (header.now ++ more) ≡ Bad f) }
@@ -150,8 +154,10 @@ pub fn step(width: u16, height: u16, stage: Stage, field: &[u8]) -> Result<Step,
     requires short { start_of stage + length field.now ≤ message_limit }
     ensures goes { IfOk result (λ s. (more : List ℕ)
         → resume width height stage (field.now ++ more) ≡ step_on width height s more) }
-    ensures begins { IfOk result (λ s. IfSome s.next (BeginsAt (start_of stage + length field.now))) }
-    ensures faults { IfErr result (λ f. (more : List ℕ) → resume width height stage (field.now ++ more) ≡ Bad f) }
+    ensures begins { IfOk result (λ s.
+        IfSome s.next (BeginsAt (start_of stage + length field.now))) }
+    ensures faults { IfErr result (λ f. (more : List ℕ)
+        → resume width height stage (field.now ++ more) ≡ Bad f) }
 {
     match stage {
         Stage::Type => behind_type(field),

@@ -1,6 +1,7 @@
 use Rattle.std.proofs.Common.{◌≡◌, [], ◌∙◌, sym, ap, refl, length}
 use Rattle.std.proofs.lemmas.List.{append-nil}
 use Rattle.rfb_wire.specs.Stream.{StandsFor}
+use Rattle.rfb_wire.specs.Grammar.{message_limit}
 use Rattle.rfb_wire.proofs.Streams.{stands_whole}
 use Rattle.rfb_wire.proofs.Whole.{whole_is, none_given, other_given}
 use Rattle.rfb_wire.proofs.message.HostMessage.from_bytes.Goals as goal
@@ -20,18 +21,18 @@ returns-in_default-pop-clause-not_one c = λ _ m for same.
     let stands : StandsFor c.new-reader.result.kept c.new-reader.result.passed [] = rw c.new-reader.ensures (stands_whole []) in
     let goes = rw (c.new-reader.ensures, c.new-messages.ensures.items) at (c.in_default.ensures.goes [] stands) in
     let p = c.in_default-pop.ensures in
-    none_given c.args.width c.args.height _ _ c.args.bytes.now c.feed.new.out.items m goes (p.items ∙ append-nil c.pop.new.self.items ∙ p.rest ∙ rw p.cases.0 refl) for same
+    none_given message_limit c.args.width c.args.height _ _ c.args.bytes.now c.feed.new.out.items m goes (p.items ∙ append-nil c.pop.new.self.items ∙ p.rest ∙ rw p.cases.0 refl) for same
 
 pub returns-clause-ok : goal.returns-clause-ok
 returns-clause-ok c =
     let stands : StandsFor c.new-reader.result.kept c.new-reader.result.passed [] = rw c.new-reader.ensures (stands_whole []) in
     let goes = rw (c.new-reader.ensures, c.new-messages.ensures.items) at (c.in_default.ensures.goes [] stands) in
     let same : length c.in-Some.message.bytes ≡ length c.args.bytes.now = ap length (sym c.bytes.ensures.value) ∙ c.if-bytes.false in
-    whole_is c.args.width c.args.height _ _ c.args.bytes.now c.feed.new.out.items c.pop.new.self.items c.in-Some.message goes c.in-Some.ensures.items same
+    whole_is message_limit c.args.width c.args.height _ _ c.args.bytes.now c.feed.new.out.items c.pop.new.self.items c.in-Some.message goes c.in-Some.ensures.items same
 
 pub returns-then-bytes-clause-not_one : goal.returns-then-bytes-clause-not_one
 returns-then-bytes-clause-not_one c = λ _ m for same.
     let stands : StandsFor c.new-reader.result.kept c.new-reader.result.passed [] = rw c.new-reader.ensures (stands_whole []) in
     let goes = rw (c.new-reader.ensures, c.new-messages.ensures.items) at (c.in_default.ensures.goes [] stands) in
-    other_given c.args.width c.args.height _ _ c.args.bytes.now c.feed.new.out.items c.pop.new.self.items c.in-Some.message m goes c.in-Some.ensures.items
+    other_given message_limit c.args.width c.args.height _ _ c.args.bytes.now c.feed.new.out.items c.pop.new.self.items c.in-Some.message m goes c.in-Some.ensures.items
     (λ e. c.if-bytes.true (ap length c.bytes.ensures.value ∙ e)) for same
