@@ -5,3 +5,5 @@ pub mod Turns
 pub mod Streams
 pub mod Whole
 pub mod Messages
+pub mod FromFront
+pub mod FrontMessage

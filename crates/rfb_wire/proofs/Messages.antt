@@ -129,7 +129,7 @@ nothing_behind [] b e = (refl, e)
 nothing_behind (x ∷ a) b e = absurd (cc)
 
 -- an update that is read whole
-update_read : (width height : ℕ) (bytes : List ℕ) (rs : List Rectangle) (rest : List ℕ) → slice_index bytes 0 ≡ 0 → update_at width height bytes ≡ Got (Recorded rs) rest
+pub update_read : (width height : ℕ) (bytes : List ℕ) (rs : List Rectangle) (rest : List ℕ) → slice_index bytes 0 ≡ 0 → update_at width height bytes ≡ Got (Recorded rs) rest
     → (front : List ℕ) × (bytes ≡ front ++ rest) × IsUpdate width height front rs
 unfolding update_at
 update_read width height bytes rs rest type e =

@@ -12,7 +12,7 @@ use Rattle.rfb_wire.specs.declared.message.Area.{Area}
 use Rattle.rfb_wire.specs.declared.message.Rectangle.{Rectangle}
 use Rattle.rfb_wire.specs.declared.message.Encoding.TheVariants as encodings
 use Rattle.rfb_wire.specs.declared.fault.WireFault.TheVariants as faults
-use Rattle.rfb_wire.specs.Grammar.{area_of, encoding_number, is_inside, raw_at, data_at, rectangle_at, rectangles_at, update_at, message_at, Recorded, message_limit, u16_at}
+use Rattle.rfb_wire.specs.Grammar.{area_of, encoding_number, is_inside, raw_at, data_at, rectangle_at, rectangles_at, update_at, message_at, Recorded, u16_at}
 use Rattle.rfb_wire.specs.Host.{Host, IsPlaced, IsRecorded}
 
 both : (a b : Bool) → (a && b) ≡ true → (a ≡ true) × (b ≡ true)
@@ -117,14 +117,14 @@ update_got m bytes rs rest room e =
     subst (AllByRecursion (IsPlaced m)) is all
 
 -- each rectangle of a recorded message has its place
-pub recorded_placed : (m : Host) → IsRecorded m → All (IsPlaced m) m.rectangles
+pub recorded_placed : (limit : ℕ) (m : Host) → IsRecorded limit m → All (IsPlaced m) m.rectangles
 unfolding message_at
-recorded_placed m e =
-    let b = bind_got (field 1 m.bytes) (λ type rest. if nat_eq (slice_index type 0) 0 then within message_limit faults.TooLong (update_at m.width m.height) m.bytes else Bad faults.UnknownType) (Recorded m.rectangles) [] e in
+recorded_placed limit m e =
+    let b = bind_got (field 1 m.bytes) (λ type rest. if nat_eq (slice_index type 0) 0 then within limit faults.TooLong (update_at m.width m.height) m.bytes else Bad faults.UnknownType) (Recorded m.rectangles) [] e in
     All-from_recursion (IsPlaced m) m.rectangles (elim (true_or_false (nat_eq (slice_index b.value 0) 0)) [
       | inl t ↦
           (let e' = rw t at b.then in
-          let w = within_got message_limit faults.TooLong (update_at m.width m.height) m.bytes (Recorded m.rectangles) [] e' in
-          update_got m (take message_limit m.bytes) m.rectangles w.rest (rw length-take (omega arith)) w.first)
+          let w = within_got limit faults.TooLong (update_at m.width m.height) m.bytes (Recorded m.rectangles) [] e' in
+          update_got m (take limit m.bytes) m.rectangles w.rest (rw length-take (omega arith)) w.first)
       | inr t ↦ (let e' = rw t at b.then in absurd (cc))
     ])

@@ -1,6 +1,5 @@
 -- What follows from a whole field: one equation for each stage.
 use Rattle.std.proofs.Common.{◌≡◌, ℕ, ◌+◌, ◌*◌, true, false, List, [], ◌∷◌, ◌++◌, length, nat_eq, slice_index, refl, ap, ◌∙◌, append_assoc}
-use Rattle.std.specs.Int.{w32, cast_signed}
 use Rattle.pixel_format.specs.Reading.{Reading, Got, More, Bad, ◌>>=◌, guard}
 use Rattle.pixel_format.proofs.Readings.{field-whole}
 use Rattle.rfb_wire.specs.declared.message.Area.{Area}
@@ -9,7 +8,7 @@ use Rattle.rfb_wire.specs.declared.message.Encoding.TheVariants as encodings
 use Rattle.rfb_wire.specs.declared.fault.WireFault.{WireFault}
 use Rattle.rfb_wire.specs.declared.fault.WireFault.TheVariants as faults
 use Rattle.rfb_wire.specs.declared.progress.Stage.TheVariants as stages
-use Rattle.rfb_wire.specs.Grammar.{area_of, encoding_number, is_inside, raw_at, data_at, rectangle_at, rectangles_at, update_at, Message, Recorded, u16_at}
+use Rattle.rfb_wire.specs.Grammar.{signed, area_of, encoding_number, is_inside, raw_at, data_at, rectangle_at, rectangles_at, update_at, Message, Recorded, u16_at}
 use Rattle.rfb_wire.specs.Progress.{unlimited_at, behind, others_at, resume}
 
 pub behind_nil : (r : Reading Message WireFault) → behind [] r ≡ r
@@ -82,7 +81,7 @@ header_outside width height at others f more whole outside =
 
 pub header_unknown : (width height at others : ℕ) (f more : List ℕ) → length f ≡ 12 → is_inside width height (area_of f) ≡ true
     → nat_eq (encoding_number f) 0 ≡ false
-    → resume width height (stages.RectangleHead at others) (f ++ more) ≡ Bad (faults.Encoding (cast_signed w32 (encoding_number f)))
+    → resume width height (stages.RectangleHead at others) (f ++ more) ≡ Bad (faults.Encoding (signed (encoding_number f)))
 unfolding data_at
 header_unknown width height at others f more whole inside unknown =
     header_whole width height at others f more whole ∙ rw (inside, unknown) refl

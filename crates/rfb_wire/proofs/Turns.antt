@@ -10,7 +10,7 @@ use Rattle.rfb_wire.specs.declared.fault.WireFault.{WireFault}
 use Rattle.rfb_wire.specs.declared.fault.WireFault.TheVariants as faults
 use Rattle.rfb_wire.specs.declared.progress.Stage.{Stage}
 use Rattle.rfb_wire.specs.declared.progress.Stage.TheVariants as stages
-use Rattle.rfb_wire.specs.Grammar.{update_at, message_at, Message, Recorded, raw_at, rectangle_at, rectangles_at, message_limit}
+use Rattle.rfb_wire.specs.Grammar.{update_at, message_at, Message, Recorded, raw_at, rectangle_at, rectangles_at}
 use Rattle.rfb_wire.specs.Progress.{wants_of, start_of, unlimited_at, behind, others_at, resume, go_on, step_on, Linked, IsAt}
 use Rattle.rfb_wire.specs.declared.progress.Progress.{Progress}
 use Rattle.rfb_wire.specs.declared.progress.Step.{Step}
@@ -62,9 +62,9 @@ resume-short width height (stages.RectangleHead at others) bytes short = rw (fie
 resume-short width height (stages.RawData at area others) bytes short = rw (field-short {E = WireFault} (4 * (area.w * area.h)) bytes short) refl
 
 -- where the field isn't whole, the message waits
-pub linked_waits : (width height : ℕ) (bytes : List ℕ) (rectangles : List Rectangle) (stage : Stage) → Linked width height bytes rectangles stage
+pub linked_waits : (limit width height : ℕ) (bytes : List ℕ) (rectangles : List Rectangle) (stage : Stage) → Linked limit width height bytes rectangles stage
     → length bytes < start_of stage + wants_of stage → unlimited_at width height bytes ≡ More
-linked_waits width height bytes rectangles stage l short =
+linked_waits limit width height bytes rectangles stage l short =
     let few : length (drop (start_of stage) bytes) < wants_of stage = rw (length-drop) (omega (arith, l.begun)) in
     let link : unlimited_at width height (bytes ++ []) ≡ behind rectangles (resume width height stage (drop (start_of stage) bytes ++ [])) = l.link [] in
     ap (unlimited_at width height) (sym (append-nil bytes)) ∙ link
@@ -72,9 +72,9 @@ linked_waits width height bytes rectangles stage l short =
     ∙ ap (behind rectangles) (resume-short width height stage (drop (start_of stage) bytes) few)
 
 -- more bytes of the field
-pub linked_more : (width height : ℕ) (bytes piece longer : List ℕ) (rectangles : List Rectangle) (stage : Stage) → Linked width height bytes rectangles stage
-    → longer ≡ bytes ++ piece → length longer ≤ message_limit → Linked width height longer rectangles stage
-linked_more width height bytes piece longer rectangles stage l is short = record {
+pub linked_more : (limit width height : ℕ) (bytes piece longer : List ℕ) (rectangles : List Rectangle) (stage : Stage) → Linked limit width height bytes rectangles stage
+    → longer ≡ bytes ++ piece → length longer ≤ limit → Linked limit width height longer rectangles stage
+linked_more limit width height bytes piece longer rectangles stage l is short = record {
   link = λ more.
       rw (is, append_assoc, drop-append-le (start_of stage) bytes piece l.begun, append_assoc) (l.link (piece ++ more));
   begun = rw (is, length-append) (omega (arith, l.begun));
@@ -82,21 +82,21 @@ linked_more width height bytes piece longer rectangles stage l is short = record
 }
 
 -- at the start of a message
-pub linked_start : (width height : ℕ) (bytes : List ℕ) (rectangles : List Rectangle) → bytes ≡ [] → rectangles ≡ [] → Linked width height bytes rectangles stages.Type
+pub linked_start : (limit width height : ℕ) (bytes : List ℕ) (rectangles : List Rectangle) → bytes ≡ [] → rectangles ≡ [] → Linked limit width height bytes rectangles stages.Type
 unfolding resume
-linked_start width height bytes rectangles none no_rectangles = rw (none, no_rectangles) (record {
+linked_start limit width height bytes rectangles none no_rectangles = rw (none, no_rectangles) (record {
   link = λ more. sym (behind_nil (unlimited_at width height more));
   begun = omega arith;
   short = omega arith;
 })
 
 -- behind a whole field
-pub field_goes : (width height : ℕ) (bytes : List ℕ) (rectangles done : List Rectangle) (stage : Stage) (step : Step)
-    → Linked width height bytes rectangles stage
+pub field_goes : (limit width height : ℕ) (bytes : List ℕ) (rectangles done : List Rectangle) (stage : Stage) (step : Step)
+    → Linked limit width height bytes rectangles stage
     → ((more : List ℕ) → resume width height stage (drop (start_of stage) bytes ++ more) ≡ step_on width height step more)
     → done ≡ rectangles ++ option_to_list step.rectangle
     → (more : List ℕ) → unlimited_at width height (bytes ++ more) ≡ behind done (go_on width height step.next more)
-field_goes width height bytes rectangles done stage step l goes is more =
+field_goes limit width height bytes rectangles done stage step l goes is more =
     l.link more ∙ ap (behind rectangles) (goes more)
     ∙ behind_behind rectangles (option_to_list step.rectangle) (go_on width height step.next more)
     ∙ ap (λ d. behind d (go_on width height step.next more)) (sym is)
@@ -112,11 +112,11 @@ whole_ends width height bytes done next goes none =
     ∙ ap (λ d. Got (Recorded d) []) (append-nil done)
 
 -- the next field begins where the bytes end
-pub whole_goes : (width height : ℕ) (bytes : List ℕ) (done : List Rectangle) (next : Option Stage) (stage : Stage)
+pub whole_goes : (limit width height : ℕ) (bytes : List ℕ) (done : List Rectangle) (next : Option Stage) (stage : Stage)
     → ((more : List ℕ) → unlimited_at width height (bytes ++ more) ≡ behind done (go_on width height next more))
-    → next ≡ Some stage → start_of stage ≡ length bytes → length bytes ≤ message_limit → Linked width height bytes done stage
+    → next ≡ Some stage → start_of stage ≡ length bytes → length bytes ≤ limit → Linked limit width height bytes done stage
 unfolding go_on
-whole_goes width height bytes done next stage goes is begins short =
+whole_goes limit width height bytes done next stage goes is begins short =
     let none : drop (start_of stage) bytes ≡ [] = drop_all (start_of stage) bytes (omega arith) in
     record {
       link = λ more. rw none (goes more ∙ ap (λ n. behind done (go_on width height n more)) is);
@@ -125,11 +125,11 @@ whole_goes width height bytes done next stage goes is begins short =
     }
 
 -- a field that is refused
-pub field_faults : (width height : ℕ) (bytes : List ℕ) (rectangles : List Rectangle) (stage : Stage) (f : WireFault)
-    → Linked width height bytes rectangles stage
+pub field_faults : (limit width height : ℕ) (bytes : List ℕ) (rectangles : List Rectangle) (stage : Stage) (f : WireFault)
+    → Linked limit width height bytes rectangles stage
     → ((more : List ℕ) → resume width height stage (drop (start_of stage) bytes ++ more) ≡ Bad f)
     → unlimited_at width height bytes ≡ Bad f
-field_faults width height bytes rectangles stage f l faults =
+field_faults limit width height bytes rectangles stage f l faults =
     ap (unlimited_at width height) (sym (append-nil bytes)) ∙ l.link [] ∙ ap (behind rectangles) (faults [])
 
 -- what holds of a fault holds unless memory ran out
@@ -140,7 +140,7 @@ unless_memory (faults.Encoding n) P p = p
 unless_memory faults.TooLong P p = p
 unless_memory faults.NoMemory P p = tt
 
-unless_memory_map : (f : WireFault) (P Q : Type 0) → (P → Q) → UnlessMemory f P → UnlessMemory f Q
+pub unless_memory_map : (f : WireFault) (P Q : Type 0) → (P → Q) → UnlessMemory f P → UnlessMemory f Q
 unless_memory_map faults.UnknownType P Q m p = m p
 unless_memory_map faults.OutsideScreen P Q m p = m p
 unless_memory_map (faults.Encoding n) P Q m p = m p
@@ -148,34 +148,34 @@ unless_memory_map faults.TooLong P Q m p = m p
 unless_memory_map faults.NoMemory P Q m p = tt
 
 -- a piece of which nothing is taken
-pub turn_long : (width height : ℕ) (kept piece : List ℕ) (rectangles : List Rectangle) (stage : Stage) (f : WireFault) → Linked width height kept rectangles stage
-    → length kept < start_of stage + wants_of stage → 0 < length piece
-    → (f ≡ faults.NoMemory) ⊎ ((f ≡ faults.TooLong) × (length kept ≡ message_limit))
-    → UnlessMemory f (message_at message_limit width height (kept ++ piece) ≡ Bad f)
-turn_long width height kept piece rectangles stage f l short one (inl e) = rw e tt
-turn_long width height kept piece rectangles stage f l short one (inr e) =
-    rw e.0 (message-long message_limit width height kept piece (omega arith) e.1 (linked_waits width height kept rectangles stage l short) one)
+pub turn_long : (limit width height : ℕ) (kept piece : List ℕ) (rectangles : List Rectangle) (stage : Stage) (f : WireFault) → Linked limit width height kept rectangles stage
+    → 0 < limit → length kept < start_of stage + wants_of stage → 0 < length piece
+    → (f ≡ faults.NoMemory) ⊎ ((f ≡ faults.TooLong) × (length kept ≡ limit))
+    → UnlessMemory f (message_at limit width height (kept ++ piece) ≡ Bad f)
+turn_long limit width height kept piece rectangles stage f l some short one (inl e) = rw e tt
+turn_long limit width height kept piece rectangles stage f l some short one (inr e) =
+    rw e.0 (message-long limit width height kept piece some e.1 (linked_waits limit width height kept rectangles stage l short) one)
 
 -- a fault in the bytes that are taken is one of the whole piece
-pub turn_faults : (width height n : ℕ) (kept piece taken : List ℕ) (f : WireFault) → taken ≡ kept ++ take n piece → length taken ≤ message_limit
-    → UnlessMemory f (unlimited_at width height taken ≡ Bad f) → UnlessMemory f (message_at message_limit width height (kept ++ piece) ≡ Bad f)
-turn_faults width height n kept piece taken f is short fault =
-    unless_memory_map f (unlimited_at width height taken ≡ Bad f) (message_at message_limit width height (kept ++ piece) ≡ Bad f)
+pub turn_faults : (limit width height n : ℕ) (kept piece taken : List ℕ) (f : WireFault) → taken ≡ kept ++ take n piece → length taken ≤ limit
+    → UnlessMemory f (unlimited_at width height taken ≡ Bad f) → UnlessMemory f (message_at limit width height (kept ++ piece) ≡ Bad f)
+turn_faults limit width height n kept piece taken f is short fault =
+    unless_memory_map f (unlimited_at width height taken ≡ Bad f) (message_at limit width height (kept ++ piece) ≡ Bad f)
     (λ e.
-    let first : message_at message_limit width height taken ≡ Bad f = message-short message_limit width height taken short ∙ e in
-    let local = rw first at (message_local message_limit width height taken (drop n piece)) in
+    let first : message_at limit width height taken ≡ Bad f = message-short limit width height taken short ∙ e in
+    let local = rw first at (message_local limit width height taken (drop n piece)) in
     let all : taken ++ drop n piece ≡ kept ++ piece = rw (is, append_assoc, take-append-drop) refl in
-    ap (message_at message_limit width height) (sym all) ∙ local)
+    ap (message_at limit width height) (sym all) ∙ local)
     fault
 
 -- what is whole within the limit is recorded
-pub whole_recorded : (width height : ℕ) (bytes whole : List ℕ) (rectangles : List Rectangle) → bytes ≡ whole → length whole ≤ message_limit
-    → unlimited_at width height whole ≡ Got (Recorded rectangles) [] → IsRecorded (host_of width height bytes rectangles)
-whole_recorded width height bytes whole rectangles is short e =
-    ap (message_at message_limit width height) is ∙ message-short message_limit width height whole short ∙ e
+pub whole_recorded : (limit width height : ℕ) (bytes whole : List ℕ) (rectangles : List Rectangle) → bytes ≡ whole → length whole ≤ limit
+    → unlimited_at width height whole ≡ Got (Recorded rectangles) [] → IsRecorded limit (host_of width height bytes rectangles)
+whole_recorded limit width height bytes whole rectangles is short e =
+    ap (message_at limit width height) is ∙ message-short limit width height whole short ∙ e
 
 -- where a field isn't whole, the message waits
-pub at_waits : (width height : ℕ) (p : Progress) → IsAt width height p → message_at message_limit width height p.bytes.items ≡ More
-at_waits width height p at =
-    message-short message_limit width height p.bytes.items at.linked.short
-    ∙ linked_waits width height p.bytes.items p.rectangles.items p.stage at.linked at.unfinished
+pub at_waits : (limit width height : ℕ) (p : Progress) → IsAt limit width height p → message_at limit width height p.bytes.items ≡ More
+at_waits limit width height p at =
+    message-short limit width height p.bytes.items at.linked.short
+    ∙ linked_waits limit width height p.bytes.items p.rectangles.items p.stage at.linked at.unfinished

@@ -5,7 +5,7 @@ use Rattle.std.proofs.lemmas.List.{append-nil}
 use Rattle.pixel_format.specs.Reading.{More}
 use Rattle.pixel_format.proofs.Readings.{field-short}
 use Rattle.rfb_wire.specs.declared.fault.WireFault.{WireFault}
-use Rattle.rfb_wire.specs.Grammar.{message_at, message_limit}
+use Rattle.rfb_wire.specs.Grammar.{message_at}
 use Rattle.rfb_wire.specs.Host.{Host}
 use Rattle.rfb_wire.specs.Stream.{IsFor, bytes_of, Goes, Reads, FaultOf, Stops}
 use Rattle.rfb_wire.specs.declared.fault.WireFault.TheVariants as faults
@@ -17,9 +17,9 @@ unfolding message_at
 message-empty limit width height = rw (field-short {E = WireFault} 1 [] (omega arith)) refl
 
 -- the last of some messages
-all_last : (width height : ℕ) (before : List Host) (m : Host) → AllByRecursion (IsFor width height) (before ++ m ∷ []) → IsFor width height m
-all_last width height [] m all = all.0
-all_last width height (n ∷ before) m all = all_last width height before m all.1
+all_last : (limit width height : ℕ) (before : List Host) (m : Host) → AllByRecursion (IsFor limit width height) (before ++ m ∷ []) → IsFor limit width height m
+all_last limit width height [] m all = all.0
+all_last limit width height (n ∷ before) m all = all_last limit width height before m all.1
 
 -- a message as long as the stream is the stream
 stream_one : (front bytes rest stream : List ℕ) → stream ≡ (front ++ (bytes ++ [])) ++ rest → length bytes ≡ length stream → bytes ≡ stream
@@ -32,29 +32,29 @@ stream_one front bytes rest stream is same =
     let whole : stream ≡ ([] ++ (bytes ++ [])) ++ [] = is ∙ rw (no_front, no_rest) refl in
     sym (whole ∙ append-nil (bytes ++ []) ∙ append-nil bytes)
 
-pub whole_is : (width height passed : ℕ) (kept stream : List ℕ) (given before : List Host) (m : Host) → Goes width height kept passed [] given stream
-    → given ≡ before ++ m ∷ [] → length m.bytes ≡ length stream → IsFor width height m × (m.bytes ≡ stream)
-whole_is width height passed kept stream given before m goes last same =
+pub whole_is : (limit width height passed : ℕ) (kept stream : List ℕ) (given before : List Host) (m : Host) → Goes limit width height kept passed [] given stream
+    → given ≡ before ++ m ∷ [] → length m.bytes ≡ length stream → IsFor limit width height m × (m.bytes ≡ stream)
+whole_is limit width height passed kept stream given before m goes last same =
     let messages : goes.gives.messages ≡ before ++ m ∷ [] = sym goes.gives.given ∙ last in
-    let each : AllByRecursion (IsFor width height) (before ++ m ∷ []) = rw messages at goes.gives.reads.each in
+    let each : AllByRecursion (IsFor limit width height) (before ++ m ∷ []) = rw messages at goes.gives.reads.each in
     let is : stream ≡ (flat_map bytes_of before ++ (m.bytes ++ [])) ++ goes.rest =
     goes.gives.reads.stream_is ∙ ap (λ ms. flat_map bytes_of ms ++ goes.rest) messages ∙ ap (λ z. z ++ goes.rest) (flat_append before (m ∷ [])) in
-    (all_last width height before m each, stream_one (flat_map bytes_of before) m.bytes goes.rest stream is same)
+    (all_last limit width height before m each, stream_one (flat_map bytes_of before) m.bytes goes.rest stream is same)
 
 -- the messages that were given, where the stream is one message
-given_one : (width height passed : ℕ) (kept stream : List ℕ) (given : List Host) (m : Host) → Goes width height kept passed [] given stream
-    → IsFor width height m → m.bytes ≡ stream → given ≡ m ∷ []
-given_one width height passed kept stream given m goes is same =
+given_one : (limit width height passed : ℕ) (kept stream : List ℕ) (given : List Host) (m : Host) → Goes limit width height kept passed [] given stream
+    → IsFor limit width height m → m.bytes ≡ stream → given ≡ m ∷ []
+given_one limit width height passed kept stream given m goes is same =
     let whole : stream ≡ flat_map bytes_of (m ∷ []) ++ [] = sym same ∙ sym (append-nil (m.bytes ++ []) ∙ append-nil m.bytes) in
-    let one = one_reading width height stream stream goes.gives.messages (m ∷ []) goes.rest [] refl
-    goes.gives.reads (waits_begins_none width height goes.rest goes.waits)
-    (record { each = (is, tt); stream_is = whole }) (waits_begins_none width height [] (message-empty message_limit width height)) in
+    let one = one_reading limit width height stream stream goes.gives.messages (m ∷ []) goes.rest [] refl
+    goes.gives.reads (waits_begins_none limit width height goes.rest goes.waits)
+    (record { each = (is, tt); stream_is = whole }) (waits_begins_none limit width height [] (message-empty limit width height)) in
     goes.gives.given ∙ one.0
 
-pub none_given : (width height passed : ℕ) (kept stream : List ℕ) (given : List Host) (m : Host) → Goes width height kept passed [] given stream
-    → given ≡ [] → IsFor width height m → m.bytes ≡ stream → ⊥
-none_given width height passed kept stream given m goes none is same =
-    let both = sym none ∙ given_one width height passed kept stream given m goes is same in
+pub none_given : (limit width height passed : ℕ) (kept stream : List ℕ) (given : List Host) (m : Host) → Goes limit width height kept passed [] given stream
+    → given ≡ [] → IsFor limit width height m → m.bytes ≡ stream → ⊥
+none_given limit width height passed kept stream given m goes none is same =
+    let both = sym none ∙ given_one limit width height passed kept stream given m goes is same in
     absurd (cc)
 
 last_of_one : (before : List Host) (last m : Host) → before ++ last ∷ [] ≡ m ∷ [] → last ≡ m
@@ -62,30 +62,30 @@ last_of_one [] last m e = cc
 last_of_one (n ∷ []) last m e = absurd (cc)
 last_of_one (n ∷ k ∷ before) last m e = absurd (cc)
 
-pub other_given : (width height passed : ℕ) (kept stream : List ℕ) (given before : List Host) (last m : Host) → Goes width height kept passed [] given stream
-    → given ≡ before ++ last ∷ [] → (length last.bytes ≡ length stream → ⊥) → IsFor width height m → m.bytes ≡ stream → ⊥
-other_given width height passed kept stream given before last m goes is differ for same =
-    let one = last_of_one before last m (sym is ∙ given_one width height passed kept stream given m goes for same) in
+pub other_given : (limit width height passed : ℕ) (kept stream : List ℕ) (given before : List Host) (last m : Host) → Goes limit width height kept passed [] given stream
+    → given ≡ before ++ last ∷ [] → (length last.bytes ≡ length stream → ⊥) → IsFor limit width height m → m.bytes ≡ stream → ⊥
+other_given limit width height passed kept stream given before last m goes is differ for same =
+    let one = last_of_one before last m (sym is ∙ given_one limit width height passed kept stream given m goes for same) in
     differ (ap (λ n. length (bytes_of n)) one ∙ ap length same)
 
 -- One message of these bytes.
-pub same_by_bytes : (width height : ℕ) (m n : Host) (bytes : List ℕ) → IsFor width height m → m.bytes ≡ bytes → IsFor width height n → n.bytes ≡ bytes → m ≡ n
-same_by_bytes width height m n bytes is same other others =
+pub same_by_bytes : (limit width height : ℕ) (m n : Host) (bytes : List ℕ) → IsFor limit width height m → m.bytes ≡ bytes → IsFor limit width height n → n.bytes ≡ bytes → m ≡ n
+same_by_bytes limit width height m n bytes is same other others =
     let both : m.bytes ≡ n.bytes = same ∙ sym others in
-    let read = sym (message_again width height m [] is) ∙ ap (λ b. message_at message_limit width height (b ++ [])) both ∙ message_again width height n [] other in
+    let read = sym (message_again limit width height m [] is) ∙ ap (λ b. message_at limit width height (b ++ [])) both ∙ message_again limit width height n [] other in
     let rectangles : m.rectangles ≡ n.rectangles = cc in
     same_host m n (is.width_is ∙ sym other.width_is) (is.height_is ∙ sym other.height_is) both rectangles
 
 -- One message has no fault.
-pub faultless : (width height : ℕ) (m : Host) (bytes : List ℕ) (f : WireFault) → IsFor width height m → m.bytes ≡ bytes → FaultOf width height bytes f → ⊥
-faultless width height m bytes f is same fault =
-    let reads : Reads width height bytes (m ∷ []) [] = record { each = (is, tt); stream_is = sym same ∙ sym (append-nil (m.bytes ++ []) ∙ append-nil m.bytes) } in
-    no_fault width height bytes (m ∷ []) [] f reads (message-empty message_limit width height) fault
+pub faultless : (limit width height : ℕ) (m : Host) (bytes : List ℕ) (f : WireFault) → IsFor limit width height m → m.bytes ≡ bytes → FaultOf limit width height bytes f → ⊥
+faultless limit width height m bytes f is same fault =
+    let reads : Reads limit width height bytes (m ∷ []) [] = record { each = (is, tt); stream_is = sym same ∙ sym (append-nil (m.bytes ++ []) ∙ append-nil m.bytes) } in
+    no_fault limit width height bytes (m ∷ []) [] f reads (message-empty limit width height) fault
 
 -- a reader that stops in one message stops for want of memory
-pub memory_alone : (width height : ℕ) (m : Host) (bytes : List ℕ) (given : List Host) (f : WireFault) → IsFor width height m → m.bytes ≡ bytes → Stops width height f [] given bytes → f ≡ faults.NoMemory
-memory_alone width height m bytes given faults.UnknownType is same stops = absurd (faultless width height m bytes faults.UnknownType is same (record { messages = stops.gives.messages; rest = stops.rest; reads = stops.gives.reads; fault = stops.fault }))
-memory_alone width height m bytes given faults.OutsideScreen is same stops = absurd (faultless width height m bytes faults.OutsideScreen is same (record { messages = stops.gives.messages; rest = stops.rest; reads = stops.gives.reads; fault = stops.fault }))
-memory_alone width height m bytes given (faults.Encoding n) is same stops = absurd (faultless width height m bytes (faults.Encoding n) is same (record { messages = stops.gives.messages; rest = stops.rest; reads = stops.gives.reads; fault = stops.fault }))
-memory_alone width height m bytes given faults.TooLong is same stops = absurd (faultless width height m bytes faults.TooLong is same (record { messages = stops.gives.messages; rest = stops.rest; reads = stops.gives.reads; fault = stops.fault }))
-memory_alone width height m bytes given faults.NoMemory is same stops = refl
+pub memory_alone : (limit width height : ℕ) (m : Host) (bytes : List ℕ) (given : List Host) (f : WireFault) → IsFor limit width height m → m.bytes ≡ bytes → Stops limit width height f [] given bytes → f ≡ faults.NoMemory
+memory_alone limit width height m bytes given faults.UnknownType is same stops = absurd (faultless limit width height m bytes faults.UnknownType is same (record { messages = stops.gives.messages; rest = stops.rest; reads = stops.gives.reads; fault = stops.fault }))
+memory_alone limit width height m bytes given faults.OutsideScreen is same stops = absurd (faultless limit width height m bytes faults.OutsideScreen is same (record { messages = stops.gives.messages; rest = stops.rest; reads = stops.gives.reads; fault = stops.fault }))
+memory_alone limit width height m bytes given (faults.Encoding n) is same stops = absurd (faultless limit width height m bytes (faults.Encoding n) is same (record { messages = stops.gives.messages; rest = stops.rest; reads = stops.gives.reads; fault = stops.fault }))
+memory_alone limit width height m bytes given faults.TooLong is same stops = absurd (faultless limit width height m bytes faults.TooLong is same (record { messages = stops.gives.messages; rest = stops.rest; reads = stops.gives.reads; fault = stops.fault }))
+memory_alone limit width height m bytes given faults.NoMemory is same stops = refl

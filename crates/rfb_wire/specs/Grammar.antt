@@ -1,8 +1,7 @@
 -- The messages of a host (RFC 6143, sections 7.6 and 7.7), read from the front of a list of bytes.
 -- Each field is judged once it is whole, in the order of the fields: so the first fault is the one
 -- that is met.
-use Rattle.std.specs.Prelude.{ℕ, zero, suc, ◌+◌, ◌*◌, List, [], ◌∷◌, slice_index, Bool, ◌&&◌, nat_le, nat_eq, if◌then◌else◌}
-use Rattle.std.specs.Int.{w32, cast_signed}
+use Rattle.std.specs.Prelude.{ℕ, ℤ, pos, negsuc, ◌^◌, ◌-◌, nat_lt, zero, suc, ◌+◌, ◌*◌, List, [], ◌∷◌, slice_index, Bool, ◌&&◌, nat_le, nat_eq, if◌then◌else◌}
 use Rattle.pixel_format.specs.Reading.{Reading, Got, Bad, ◌>>=◌, field, guard, within}
 use Rattle.rfb_wire.specs.declared.message.Area.{Area}
 use Rattle.rfb_wire.specs.declared.message.Rectangle.{Rectangle}
@@ -16,6 +15,10 @@ u16_at f i = 256 * slice_index f i + slice_index f (i + 1)
 
 abbrev pub u32_at : List ℕ → ℕ → ℕ
 u32_at f i = 65536 * u16_at f i + u16_at f (i + 2)
+
+-- the signed number that four bytes are, in two's complement
+abbrev pub signed : ℕ → ℤ
+signed n = if nat_lt n (2 ^ 31) then pos n else negsuc (2 ^ 32 - suc n)
 
 -- The header of a rectangle is 12 bytes: x, y, width, height, and the encoding of its pixels
 -- (section 7.6.1).
@@ -37,7 +40,8 @@ raw_at area at bytes = field (4 * (area.w * area.h)) bytes >>= λ pixels rest.
 
 -- the data of a rectangle, by the number of its encoding (section 7.7)
 unfoldable pub data_at : ℕ → Area → ℕ → List ℕ → Reading Rectangle WireFault
-data_at number area at bytes = if nat_eq number 0 then raw_at area at bytes else Bad (faults.Encoding (cast_signed w32 number))
+data_at number area at bytes = if nat_eq number 0 then raw_at area at bytes
+    else Bad (faults.Encoding (signed number))
 
 -- a rectangle of an update, at its place in the message (section 7.6.1)
 unfoldable pub rectangle_at : ℕ → ℕ → ℕ → List ℕ → Reading Rectangle WireFault

@@ -3,7 +3,7 @@ use Rattle.std.specs.Prelude.{◌≡◌, ℕ, ◌+◌, ◌*◌, ◌≤◌, List,
 use Rattle.pixel_format.specs.Reading.{Got}
 use Rattle.rfb_wire.specs.declared.message.Rectangle.{Rectangle}
 use Rattle.rfb_wire.specs.declared.message.Encoding.TheVariants as encodings
-use Rattle.rfb_wire.specs.Grammar.{message_at, Recorded, message_limit}
+use Rattle.rfb_wire.specs.Grammar.{message_at, Recorded}
 
 -- a message for a screen of this size: its bytes, and where its rectangles stand in them
 pub record Host : Type 0 where
@@ -13,11 +13,13 @@ pub record Host : Type 0 where
   pub rectangles : List Rectangle
 
 abbrev pub host_of : ℕ → ℕ → List ℕ → List Rectangle → Host
-host_of width height bytes rectangles = record { width = width; height = height; bytes = bytes; rectangles = rectangles }
+host_of width height bytes rectangles =
+    record { width = width; height = height; bytes = bytes; rectangles = rectangles }
 
--- the bytes are one recorded message, of these rectangles
-abbrev pub IsRecorded : Host → Type 0
-IsRecorded m = message_at message_limit m.width m.height m.bytes ≡ Got (Recorded m.rectangles) []
+-- the bytes are one recorded message, of these rectangles, and of at most so many bytes if it is an
+-- update
+abbrev pub IsRecorded : ℕ → Host → Type 0
+IsRecorded limit m = message_at limit m.width m.height m.bytes ≡ Got (Recorded m.rectangles) []
 
 -- A rectangle lies within the screen, and its data within the message. Raw data are four bytes for
 -- each place.

@@ -6,3 +6,4 @@ pub mod Host
 pub mod Stream
 pub mod Progress
 pub mod Reader
+pub mod Plain

@@ -34,7 +34,8 @@ pub record IsRectangle (width height at : ℕ) (r : Rectangle) (bytes : List ℕ
 abbrev pub AreRectangles : ℕ → ℕ → ℕ → List Rectangle → List ℕ → Type 0
 AreRectangles width height at [] bytes = bytes ≡ []
 AreRectangles width height at (r ∷ rs) bytes =
-    (first : List ℕ) × (rest : List ℕ) × (bytes ≡ first ++ rest) × IsRectangle width height at r first × AreRectangles width height r.end rs rest
+    (first : List ℕ) × (rest : List ℕ) × (bytes ≡ first ++ rest)
+    × IsRectangle width height at r first × AreRectangles width height r.end rs rest
 
 -- FramebufferUpdate: type 0, a byte of padding, the number of rectangles, and the rectangles (section
 -- 7.6.1)

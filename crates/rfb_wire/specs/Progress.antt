@@ -10,7 +10,7 @@ use Rattle.rfb_wire.specs.declared.progress.Stage.{Stage}
 use Rattle.rfb_wire.specs.declared.progress.Stage.TheVariants as stages
 use Rattle.rfb_wire.specs.declared.progress.Step.{Step}
 use Rattle.rfb_wire.specs.declared.progress.Progress.{Progress}
-use Rattle.rfb_wire.specs.Grammar.{Message, Recorded, u16_at, raw_at, rectangles_at, update_at, message_limit}
+use Rattle.rfb_wire.specs.Grammar.{Message, Recorded, u16_at, raw_at, rectangles_at, update_at}
 
 -- how many bytes the field has
 abbrev pub wants_of : Stage → ℕ
@@ -46,7 +46,8 @@ others_at width height count at bytes =
 -- what the bytes from the stage's field on say
 unfoldable pub resume : ℕ → ℕ → Stage → List ℕ → Reading Message WireFault
 resume width height stages.Type bytes = unlimited_at width height bytes
-resume width height stages.UpdateHead bytes = field 3 bytes >>= λ f rest. others_at width height (u16_at f 1) 4 rest
+resume width height stages.UpdateHead bytes = field 3 bytes >>= λ f rest.
+    others_at width height (u16_at f 1) 4 rest
 resume width height (stages.RectangleHead at others) bytes = others_at width height (suc others) at bytes
 resume width height (stages.RawData at area others) bytes = raw_at area at bytes >>= λ r rest.
     behind (r ∷ []) (others_at width height others r.end rest)
@@ -66,13 +67,13 @@ pub record BeginsAt (at : ℕ) (stage : Stage) : Type 0 where
 
 -- The reader stands at a field that has begun. What the message says, whatever comes, is what the bytes
 -- from the field on say, behind the rectangles that are whole.
-pub record Linked (width height : ℕ) (bytes : List ℕ) (rectangles : List Rectangle) (stage : Stage) : Type 0 where
+pub record Linked (limit width height : ℕ) (bytes : List ℕ) (rectangles : List Rectangle) (stage : Stage) : Type 0 where
   pub link : (more : List ℕ) → unlimited_at width height (bytes ++ more)
       ≡ behind rectangles (resume width height stage (drop (start_of stage) bytes ++ more))
   pub begun : start_of stage ≤ length bytes
-  pub short : length bytes ≤ message_limit
+  pub short : length bytes ≤ limit
 
 -- and the field isn't whole
-pub record IsAt (width height : ℕ) (p : Progress) : Type 0 where
-  pub linked : Linked width height p.bytes.items p.rectangles.items p.stage
+pub record IsAt (limit width height : ℕ) (p : Progress) : Type 0 where
+  pub linked : Linked limit width height p.bytes.items p.rectangles.items p.stage
   pub unfinished : length p.bytes.items < start_of p.stage + wants_of p.stage

@@ -4,33 +4,34 @@ use Rattle.std.specs.List.{flat_map, AllByRecursion}
 use Rattle.pixel_format.specs.Reading.{More, Bad}
 use Rattle.rfb_wire.specs.declared.fault.WireFault.{WireFault}
 use Rattle.rfb_wire.specs.declared.fault.WireFault.TheVariants as faults
-use Rattle.rfb_wire.specs.Grammar.{message_at, message_limit}
+use Rattle.rfb_wire.specs.Grammar.{message_at}
 use Rattle.rfb_wire.specs.Host.{Host, IsRecorded}
 
 -- a recorded message for a screen of this size
-pub record IsFor (width height : ℕ) (m : Host) : Type 0 where
+pub record IsFor (limit width height : ℕ) (m : Host) : Type 0 where
   pub width_is : m.width ≡ width
   pub height_is : m.height ≡ height
-  pub recorded : IsRecorded m
+  pub recorded : IsRecorded limit m
 
 abbrev pub bytes_of : Host → List ℕ
 bytes_of m = m.bytes
 
 -- the stream begins with these messages, and a rest follows
-pub record Reads (width height : ℕ) (stream : List ℕ) (messages : List Host) (rest : List ℕ) : Type 0 where
-  pub each : AllByRecursion (IsFor width height) messages
+pub record Reads (limit width height : ℕ) (stream : List ℕ) (messages : List Host) (rest : List ℕ) : Type 0 where
+  pub each : AllByRecursion (IsFor limit width height) messages
   pub stream_is : stream ≡ flat_map bytes_of messages ++ rest
 
 -- no whole message begins these bytes
-abbrev pub BeginsNone : ℕ → ℕ → List ℕ → Type 0
-BeginsNone width height bytes = (m : Host) → (more : List ℕ) → IsFor width height m → bytes ≡ m.bytes ++ more → ⊥
+abbrev pub BeginsNone : ℕ → ℕ → ℕ → List ℕ → Type 0
+BeginsNone limit width height bytes =
+    (m : Host) → (more : List ℕ) → IsFor limit width height m → bytes ≡ m.bytes ++ more → ⊥
 
 -- the stream's first fault: messages, and then a rest that begins with a fault
-pub record FaultOf (width height : ℕ) (stream : List ℕ) (f : WireFault) : Type 0 where
+pub record FaultOf (limit width height : ℕ) (stream : List ℕ) (f : WireFault) : Type 0 where
   pub messages : List Host
   pub rest : List ℕ
-  pub reads : Reads width height stream messages rest
-  pub fault : message_at message_limit width height rest ≡ Bad f
+  pub reads : Reads limit width height stream messages rest
+  pub fault : message_at limit width height rest ≡ Bad f
 
 -- What a reader stands for: the bytes of an unfinished message, of which it keeps some and counts the
 -- others, which are read over.
@@ -40,18 +41,18 @@ pub record StandsFor (kept : List ℕ) (passed : ℕ) (rest : List ℕ) : Type 0
   pub is : rest ≡ kept ++ skipped
 
 -- the messages that new has behind old are those that the stream begins with
-pub record Gives (width height : ℕ) (old new : List Host) (stream rest : List ℕ) : Type 0 where
+pub record Gives (limit width height : ℕ) (old new : List Host) (stream rest : List ℕ) : Type 0 where
   pub messages : List Host
   pub given : new ≡ old ++ messages
-  pub reads : Reads width height stream messages rest
+  pub reads : Reads limit width height stream messages rest
 
 -- The stream's messages are given, and the reader stands for the rest, which is an unfinished message
 -- with no fault so far.
-pub record Goes (width height : ℕ) (kept : List ℕ) (passed : ℕ) (old new : List Host) (stream : List ℕ) : Type 0 where
+pub record Goes (limit width height : ℕ) (kept : List ℕ) (passed : ℕ) (old new : List Host) (stream : List ℕ) : Type 0 where
   pub rest : List ℕ
-  pub gives : Gives width height old new stream rest
+  pub gives : Gives limit width height old new stream rest
   pub stands : StandsFor kept passed rest
-  pub waits : message_at message_limit width height rest ≡ More
+  pub waits : message_at limit width height rest ≡ More
 
 -- what holds of a fault that the bytes caused
 abbrev pub UnlessMemory : WireFault → Type 0 → Type 0
@@ -63,7 +64,7 @@ UnlessMemory faults.NoMemory P = Unit {0}
 
 -- The messages before the place where a reader stops are given. Unless memory ran out there, a fault of
 -- the stream stands at that place.
-pub record Stops (width height : ℕ) (f : WireFault) (old new : List Host) (stream : List ℕ) : Type 0 where
+pub record Stops (limit width height : ℕ) (f : WireFault) (old new : List Host) (stream : List ℕ) : Type 0 where
   pub rest : List ℕ
-  pub gives : Gives width height old new stream rest
-  pub fault : UnlessMemory f (message_at message_limit width height rest ≡ Bad f)
+  pub gives : Gives limit width height old new stream rest
+  pub fault : UnlessMemory f (message_at limit width height rest ≡ Bad f)

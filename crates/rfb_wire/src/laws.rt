@@ -4,7 +4,7 @@ ghost use Rattle.std.specs.Prelude.{◌≡◌, ◌↔◌, ℕ, List, [], ◌++�
 ghost use Rattle.pixel_format.specs.Reading.{Got, More, Bad};
 ghost use Rattle.rfb_wire.specs.declared.message.Rectangle.{Rectangle};
 ghost use Rattle.rfb_wire.specs.declared.fault.WireFault.{WireFault};
-ghost use Rattle.rfb_wire.specs.Grammar.{message_at, Recorded, message_limit};
+ghost use Rattle.rfb_wire.specs.Grammar.{message_at, Recorded};
 ghost use Rattle.rfb_wire.specs.Host.{Host};
 ghost use Rattle.rfb_wire.specs.Message.{IsMessage};
 ghost use Rattle.rfb_wire.specs.Stream.{Reads, BeginsNone};
@@ -13,33 +13,38 @@ ghost use Rattle.rfb_wire.specs.Stream.{Reads, BeginsNone};
 /// it reads.
 pub fn grammar_reads_messages()
     ensures { (limit width height : ℕ) → (bytes : List ℕ) → (rectangles : List Rectangle)
-        → (message_at limit width height bytes ≡ Got (Recorded rectangles) []) ↔ IsMessage limit width height bytes rectangles }
+        → (message_at limit width height bytes ≡ Got (Recorded rectangles) [])
+        ↔ IsMessage limit width height bytes rectangles }
 {}
 
 /// Bytes have at most one reading as a recorded message.
 pub fn one_reading_of_bytes()
     ensures { (limit width height : ℕ) → (bytes : List ℕ) → (rectangles others : List Rectangle)
-        → IsMessage limit width height bytes rectangles → IsMessage limit width height bytes others → rectangles ≡ others }
+        → IsMessage limit width height bytes rectangles → IsMessage limit width height bytes others
+        → rectangles ≡ others }
 {}
 
 /// No recorded message begins another.
 pub fn no_message_begins_another()
-    ensures { (limit width height : ℕ) → (bytes more : List ℕ) → (rectangles others : List Rectangle)
-        → IsMessage limit width height bytes rectangles → IsMessage limit width height (bytes ++ more) others → more ≡ [] }
+    ensures { (limit width height : ℕ) → (bytes more : List ℕ)
+        → (rectangles others : List Rectangle)
+        → IsMessage limit width height bytes rectangles
+        → IsMessage limit width height (bytes ++ more) others → more ≡ [] }
 {}
 
 /// No whole message begins a rest that waits, or that begins with a fault.
 pub fn a_rest_begins_none()
-    ensures waits { (width height : ℕ) → (rest : List ℕ) → message_at message_limit width height rest ≡ More
-        → BeginsNone width height rest }
-    ensures fault { (width height : ℕ) → (rest : List ℕ) → (f : WireFault) → message_at message_limit width height rest ≡ Bad f
-        → BeginsNone width height rest }
+    ensures waits { (limit width height : ℕ) → (rest : List ℕ)
+        → message_at limit width height rest ≡ More → BeginsNone limit width height rest }
+    ensures fault { (limit width height : ℕ) → (rest : List ℕ) → (f : WireFault)
+        → message_at limit width height rest ≡ Bad f → BeginsNone limit width height rest }
 {}
 
 /// A stream has at most one reading: messages, and a rest that no whole message begins.
 pub fn one_reading_of_a_stream()
-    ensures { (width height : ℕ) → (stream : List ℕ) → (messages others : List Host) → (rest other : List ℕ)
-        → Reads width height stream messages rest → BeginsNone width height rest
-        → Reads width height stream others other → BeginsNone width height other
+    ensures { (limit width height : ℕ) → (stream : List ℕ) → (messages others : List Host)
+        → (rest other : List ℕ)
+        → Reads limit width height stream messages rest → BeginsNone limit width height rest
+        → Reads limit width height stream others other → BeginsNone limit width height other
         → (messages ≡ others) × (rest ≡ other) }
 {}

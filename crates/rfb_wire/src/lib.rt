@@ -4,6 +4,7 @@
 mod fault;
 mod laws;
 mod message;
+mod plain;
 mod progress;
 mod reader;
 mod step;
@@ -14,6 +15,7 @@ pub use laws::{
     one_reading_of_bytes,
 };
 pub use message::{Area, Encoding, HostMessage, Rectangle};
+pub use plain::read_message;
 pub use reader::ServerReader;
 
 #[cfg(test)]

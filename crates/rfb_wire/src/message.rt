@@ -24,8 +24,8 @@ pub enum Encoding {
     Raw,
 }
 
-/// A rectangle of an update: its area of the screen, and where in the message's bytes its data begin
-/// and end.
+/// A rectangle of an update: its area of the screen, and where in the message's bytes its data
+/// begin and end.
 #[derive(Clone, Copy, Debug, PartialEq, Eq)]
 pub struct Rectangle {
     pub area: Area,
@@ -45,6 +45,7 @@ pub struct HostMessage {
 }
 
 impl Model for HostMessage {
+    ghost use Rattle.rfb_wire.specs.Grammar.{message_limit};
     ghost use Rattle.rfb_wire.specs.Host.{Host, IsRecorded};
 
     ghost Value = { Host };
@@ -56,7 +57,7 @@ impl Model for HostMessage {
       rectangles = m.rectangles.items;
     } };
 
-    ghost invariant = { λ m. IsRecorded (record {
+    ghost invariant = { λ m. IsRecorded message_limit (record {
       width = m.width;
       height = m.height;
       bytes = m.bytes.items;
@@ -67,6 +68,7 @@ impl Model for HostMessage {
 impl HostMessage {
     ghost use Rattle.rfb_wire.specs.Grammar.{message_limit};
     ghost use Rattle.rfb_wire.specs.declared.fault.WireFault.{WireFault};
+    ghost use Rattle.rfb_wire.specs.Grammar.{message_limit};
     ghost use Rattle.rfb_wire.specs.Host.{Host, host_of, IsRecorded, IsPlaced};
     ghost use Rattle.rfb_wire.specs.Stream.{IsFor, FaultOf, UnlessMemory};
 
@@ -77,7 +79,7 @@ impl HostMessage {
         bytes: Vec<u8>,
         rectangles: Vec<Rectangle>,
     ) -> HostMessage
-        requires { IsRecorded (host_of width height bytes.items rectangles.items) }
+        requires { IsRecorded message_limit (host_of width height bytes.items rectangles.items) }
         ensures { result ≡ host_of width height bytes.items rectangles.items }
     {
         HostMessage {
@@ -88,21 +90,24 @@ impl HostMessage {
         }
     }
 
-    /// The message that is all of the bytes, for a screen of this size. Where they aren't exactly one
-    /// recorded message, the fault is that of a reader which is fed them, else `NotOne`.
+    /// The message that is all of the bytes, for a screen of this size. Where they aren't exactly
+    /// one recorded message, the fault is that of a reader which is fed them, else `NotOne`.
     pub fn from_bytes(
         alloc: Global,
         width: u16,
         height: u16,
         bytes: &[u8],
     ) -> Result<HostMessage, BytesFault>
-        ensures ok { IfOk result (λ m. IsFor width height m × (m.bytes ≡ bytes.now)) }
+        ensures ok { IfOk result (λ m. IsFor message_limit width height m × (m.bytes ≡ bytes.now)) }
         // What is one message is read as that message.
-        ensures whole { (m : Host) → IsFor width height m → m.bytes ≡ bytes.now
+        ensures whole { (m : Host) → IsFor message_limit width height m → m.bytes ≡ bytes.now
             → MatchResult result (λ n. n ≡ m) (λ f. f ≡ BytesFault.Wire WireFault.NoMemory) }
-        ensures not_one { result ≡ Err BytesFault.NotOne → (m : Host) → IsFor width height m → m.bytes ≡ bytes.now → ⊥ }
-        ensures no_fault { result ≡ Err BytesFault.NotOne → (f : WireFault) → FaultOf width height bytes.now f → ⊥ }
-        ensures wire { (f : WireFault) → result ≡ Err (BytesFault.Wire f) → UnlessMemory f (FaultOf width height bytes.now f) }
+        ensures not_one { result ≡ Err BytesFault.NotOne → (m : Host)
+            → IsFor message_limit width height m → m.bytes ≡ bytes.now → ⊥ }
+        ensures no_fault { result ≡ Err BytesFault.NotOne → (f : WireFault)
+            → FaultOf message_limit width height bytes.now f → ⊥ }
+        ensures wire { (f : WireFault) → result ≡ Err (BytesFault.Wire f)
+            → UnlessMemory f (FaultOf message_limit width height bytes.now f) }
     {
         let mut reader = ServerReader::new(alloc, width, height);
         let mut messages = Vec::new(alloc);
@@ -134,7 +139,7 @@ impl HostMessage {
 
     /// Does nothing: its contract is what the type keeps.
     pub fn known(&self)
-        ensures recorded { IsRecorded self.now }
+        ensures recorded { IsRecorded message_limit self.now }
         ensures short { length self.now.bytes ≤ message_limit }
     {
         let _ = &self.bytes;
@@ -144,7 +149,7 @@ impl HostMessage {
     /// screen.
     pub fn rectangles(&self) -> &[Rectangle]
         ensures value { result.now ≡ self.now.rectangles }
-        ensures recorded { IsRecorded self.now }
+        ensures recorded { IsRecorded message_limit self.now }
         ensures placed { All (IsPlaced self.now) self.now.rectangles }
     {
         &self.rectangles

@@ -79,7 +79,7 @@ impl Progress {
 
     /// A reader at the start of a message.
     pub fn new(alloc: Global) -> Progress
-        ensures at { (width height : ℕ) → IsAt width height result }
+        ensures at { (width height : ℕ) → IsAt message_limit width height result }
         ensures none { result.bytes.items ≡ [] }
     {
         Progress {
@@ -91,13 +91,17 @@ impl Progress {
 
     // The field is whole: goes on behind it, and answers whether the message is whole.
     fn advance(&mut self, width: u16, height: u16) -> Result<bool, WireFault>
-        requires linked { Linked width height self.old.bytes.items self.old.rectangles.items self.old.stage }
-        requires whole { length self.old.bytes.items ≡ start_of self.old.stage + wants_of self.old.stage }
+        requires linked { Linked message_limit width height self.old.bytes.items
+            self.old.rectangles.items self.old.stage }
+        requires whole { length self.old.bytes.items
+            ≡ start_of self.old.stage + wants_of self.old.stage }
         ensures bytes { self.new.bytes ≡ self.old.bytes }
         ensures goes { IfOk result (λ ended. MatchBool ended
-            (unlimited_at width height self.old.bytes.items ≡ Got (Recorded self.new.rectangles.items) [])
-            (IsAt width height self.new)) }
-        ensures faults { IfErr result (λ f. UnlessMemory f (unlimited_at width height self.old.bytes.items ≡ Bad f)) }
+            (unlimited_at width height self.old.bytes.items
+            ≡ Got (Recorded self.new.rectangles.items) [])
+            (IsAt message_limit width height self.new)) }
+        ensures faults { IfErr result (λ f. UnlessMemory f
+            (unlimited_at width height self.old.bytes.items ≡ Bad f)) }
     {
         let field = &self.bytes[self.stage.start()..];
         let whole = step(width, height, self.stage, field)?;
@@ -119,10 +123,13 @@ impl Progress {
         height: u16,
         out: &mut Vec<HostMessage>,
     ) -> Result<(), WireFault>
-        requires { IsRecorded (host_of width height self.old.bytes.items self.old.rectangles.items) }
-        ensures at { IsAt width height self.new }
+        requires { IsRecorded message_limit
+            (host_of width height self.old.bytes.items self.old.rectangles.items) }
+        ensures at { IsAt message_limit width height self.new }
         ensures none { self.new.bytes.items ≡ [] }
-        ensures ok { OnOk result (out.new.items ≡ out.old.items ++ host_of width height self.old.bytes.items self.old.rectangles.items ∷ []) }
+        ensures ok { OnOk result (out.new.items
+            ≡ out.old.items
+            ++ host_of width height self.old.bytes.items self.old.rectangles.items ∷ []) }
         ensures err { OnErr result (out.new.items ≡ out.old.items) }
         ensures only { IfErr result (λ f. f ≡ WireFault.NoMemory) }
     {
@@ -136,8 +143,8 @@ impl Progress {
         Ok(())
     }
 
-    // Takes bytes up to the end of a field, or up to the limit, and answers how many. The message is
-    // given once it is whole.
+    // Takes bytes up to the end of a field, or up to the limit, and answers how many. The message
+    // is given once it is whole.
     fn turn(
         &mut self,
         alloc: Global,
@@ -146,11 +153,12 @@ impl Progress {
         piece: &[u8],
         out: &mut Vec<HostMessage>,
     ) -> Result<usize, WireFault>
-        requires at { IsAt width height self.old }
+        requires at { IsAt message_limit width height self.old }
         requires some { 0 < length piece.now }
         ensures taken { IfOk result (λ n. (0 < n) × (n ≤ length piece.now)) }
-        ensures at { OnOk result (IsAt width height self.new) }
-        ensures gives { IfOk result (λ n. Gives width height out.old.items out.new.items
+        ensures at { OnOk result (IsAt message_limit width height self.new) }
+        ensures gives { IfOk result (λ n. Gives message_limit width height
+            out.old.items out.new.items
             (self.old.bytes.items ++ take n piece.now) self.new.bytes.items) }
         ensures faults { IfErr result (λ f. UnlessMemory f
             (message_at message_limit width height (self.old.bytes.items ++ piece.now) ≡ Bad f)) }
@@ -173,12 +181,12 @@ impl Progress {
         piece: &[u8],
         out: &mut Vec<HostMessage>,
     ) -> Result<(), WireFault>
-        requires { IsAt width height self.old }
-        ensures at { OnOk result (IsAt width height self.new) }
-        ensures gives { OnOk result (Gives width height out.old.items out.new.items
+        requires { IsAt message_limit width height self.old }
+        ensures at { OnOk result (IsAt message_limit width height self.new) }
+        ensures gives { OnOk result (Gives message_limit width height out.old.items out.new.items
             (self.old.bytes.items ++ piece.now) self.new.bytes.items) }
-        ensures faults { IfErr result (λ f. Stops width height f out.old.items out.new.items
-            (self.old.bytes.items ++ piece.now)) }
+        ensures faults { IfErr result (λ f. Stops message_limit width height f
+            out.old.items out.new.items (self.old.bytes.items ++ piece.now)) }
     {
         let mut rest = piece;
         while !rest.is_empty() {
@@ -210,7 +218,8 @@ fn take(bytes: &mut Vec<u8>, end: usize, piece: &[u8]) -> Result<usize, WireFaul
     ensures bytes { IfOk result (λ n. bytes.new.items ≡ bytes.old.items ++ take n piece.now) }
     ensures ends { OnOk result (length bytes.new.items ≤ end) }
     ensures short { OnOk result (length bytes.new.items ≤ message_limit) }
-    ensures long { IfErr result (λ f. (f ≡ WireFault.NoMemory) ⊎ ((f ≡ WireFault.TooLong) × (length bytes.old.items ≡ message_limit))) }
+    ensures long { IfErr result (λ f. (f ≡ WireFault.NoMemory)
+        ⊎ ((f ≡ WireFault.TooLong) × (length bytes.old.items ≡ message_limit))) }
 {
     let room = end.min(MESSAGE_LIMIT) - bytes.len();
     if room == 0 {

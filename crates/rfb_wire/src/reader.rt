@@ -2,6 +2,7 @@
 
 ghost use Rattle.std.specs.Prelude.{◌≡◌, ℕ, List, [], ◌++◌, Option, Some, None, Ok, Err, OnOk, IfErr, OnErr};
 ghost use Rattle.rfb_wire.specs.declared.fault.WireFault.{WireFault};
+ghost use Rattle.rfb_wire.specs.Grammar.{message_limit};
 ghost use Rattle.rfb_wire.specs.Stream.{Goes, Stops, FaultOf, StandsFor};
 
 use crate::fault::WireFault;
@@ -23,6 +24,7 @@ pub struct ServerReader {
 }
 
 impl Model for ServerReader {
+    ghost use Rattle.rfb_wire.specs.Grammar.{message_limit};
     ghost use Rattle.rfb_wire.specs.Reader.{Reader};
     ghost use Rattle.rfb_wire.specs.Progress.{IsAt};
 
@@ -36,13 +38,14 @@ impl Model for ServerReader {
       fault = r.fault;
     } };
 
-    ghost invariant = { λ r. IsAt r.width r.height r.progress };
+    ghost invariant = { λ r. IsAt message_limit r.width r.height r.progress };
 }
 
 impl ServerReader {
     /// A reader at the start of a stream, for a screen of this size.
     pub fn new(alloc: Global, width: u16, height: u16) -> ServerReader
-        ensures { result ≡ record { width = width; height = height; kept = []; passed = 0; fault = None } }
+        ensures { result
+            ≡ record { width = width; height = height; kept = []; passed = 0; fault = None } }
     {
         ServerReader {
             width,
@@ -60,13 +63,17 @@ impl ServerReader {
     pub fn feed(&mut self, piece: &[u8], out: &mut Vec<HostMessage>) -> Result<(), WireFault>
         // The messages that are whole are given, and the reader stands for the rest.
         ensures goes { OnOk result ((rest : List ℕ) → StandsFor self.old.kept self.old.passed rest
-            → Goes self.old.width self.old.height self.new.kept self.new.passed out.old.items out.new.items (rest ++ piece.now)) }
+            → Goes message_limit self.old.width self.old.height self.new.kept self.new.passed
+            out.old.items out.new.items (rest ++ piece.now)) }
         // It does not wait at a fault.
-        ensures none { OnOk result ((rest : List ℕ) → (f : WireFault) → StandsFor self.old.kept self.old.passed rest
-            → FaultOf self.old.width self.old.height (rest ++ piece.now) f → ⊥) }
+        ensures none { OnOk result ((rest : List ℕ) → (f : WireFault)
+            → StandsFor self.old.kept self.old.passed rest
+            → FaultOf message_limit self.old.width self.old.height (rest ++ piece.now) f → ⊥) }
         // A fault stands in the stream, and the messages before it are given.
-        ensures faults { IfErr result (λ f. self.old.fault ≡ None → (rest : List ℕ) → StandsFor self.old.kept self.old.passed rest
-            → Stops self.old.width self.old.height f out.old.items out.new.items (rest ++ piece.now)) }
+        ensures faults { IfErr result (λ f. self.old.fault ≡ None → (rest : List ℕ)
+            → StandsFor self.old.kept self.old.passed rest
+            → Stops message_limit self.old.width self.old.height f
+            out.old.items out.new.items (rest ++ piece.now)) }
         ensures going { OnOk result (self.new.fault ≡ None) }
         ensures stopped { IfErr result (λ f. self.new.fault ≡ Some f) }
         ensures for_good { (f : WireFault) → self.old.fault ≡ Some f

@@ -9,9 +9,10 @@ use crate::fault::WireFault;
 use crate::message::{Area, Encoding, Rectangle};
 use crate::progress::{Stage, Step};
 
-// The numbers of a header, the higher byte first.
+/// The area that the header of a rectangle names: x, y, width and height, the higher byte of each
+/// first (RFC 6143, section 7.6.1).
 #[tactic(auto, unfolding(crate::specs::Grammar::area_of))]
-fn area_at(header: &[u8]) -> Area
+pub fn area_at(header: &[u8]) -> Area
     requires { length header.now ≡ 12 }
     ensures { result ≡ area_of header.now }
 {
@@ -23,17 +24,18 @@ fn area_at(header: &[u8]) -> Area
     }
 }
 
+/// The number of the encoding that the header of a rectangle names, as four unsigned bytes.
 #[tactic(auto, unfolding(crate::specs::Grammar::encoding_number))]
-fn encoding_at(header: &[u8]) -> u32
+pub fn encoding_at(header: &[u8]) -> u32
     requires { length header.now ≡ 12 }
     ensures { result ≡ encoding_number header.now }
 {
     u32::from_be_bytes([header[8], header[9], header[10], header[11]])
 }
 
-// Whether the area lies within a screen of this size.
+/// Whether the area lies within a screen of this size.
 #[tactic(auto, unfolding(crate::specs::Grammar::is_inside))]
-fn lies_inside(area: Area, width: u16, height: u16) -> bool
+pub fn lies_inside(area: Area, width: u16, height: u16) -> bool
     ensures { result ≡ is_inside width height area }
 {
     area.x as u32 + area.w as u32 <= width as u32 && area.y as u32 + area.h as u32 <= height as u32
@@ -77,7 +79,8 @@ fn behind_type(field: &[u8]) -> Result<Step, WireFault>
 fn behind_update_head(field: &[u8]) -> Step
     requires { length field.now ≡ 3 }
     ensures goes { (width height : ℕ) → (more : List ℕ)
-        → resume width height Stage.UpdateHead (field.now ++ more) ≡ step_on width height result more }
+        → resume width height Stage.UpdateHead (field.now ++ more)
+        ≡ step_on width height result more }
     ensures begins { IfSome result.next (BeginsAt 4) }
 {
     Step {
@@ -89,8 +92,10 @@ fn behind_update_head(field: &[u8]) -> Step
 // Behind the last byte of a Raw rectangle.
 fn behind_raw(at: usize, area: Area, others: u16, end: usize) -> Step
     requires { end ≡ at + 4 * (area.w * area.h) }
-    ensures goes { (width height : ℕ) → (content more : List ℕ) → length content ≡ 4 * (area.w * area.h)
-        → resume width height (Stage.RawData at area others) (content ++ more) ≡ step_on width height result more }
+    ensures goes { (width height : ℕ) → (content more : List ℕ)
+        → length content ≡ 4 * (area.w * area.h)
+        → resume width height (Stage.RawData at area others) (content ++ more)
+        ≡ step_on width height result more }
     ensures begins { IfSome result.next (BeginsAt end) }
 {
     let rectangle = Rectangle {
@@ -116,7 +121,8 @@ fn behind_header(
     requires whole { length header.now ≡ 12 }
     requires short { at + 12 ≤ message_limit }
     ensures goes { IfOk result (λ s. (more : List ℕ)
-        → resume width height (Stage.RectangleHead at others) (header.now ++ more) ≡ step_on width height s more) }
+        → resume width height (Stage.RectangleHead at others) (header.now ++ more)
+        ≡ step_on width height s more) }
     ensures begins { IfOk result (λ s. IfSome s.next (BeginsAt (at + 12))) }
     ensures faults { IfErr result (λ f. (more : List ℕ)
         → resume width height (Stage.RectangleHead at others) (header.now ++ more) ≡ Bad f) }
@@ -148,8 +154,10 @@ pub fn step(width: u16, height: u16, stage: Stage, field: &[u8]) -> Result<Step,
     requires short { start_of stage + length field.now ≤ message_limit }
     ensures goes { IfOk result (λ s. (more : List ℕ)
         → resume width height stage (field.now ++ more) ≡ step_on width height s more) }
-    ensures begins { IfOk result (λ s. IfSome s.next (BeginsAt (start_of stage + length field.now))) }
-    ensures faults { IfErr result (λ f. (more : List ℕ) → resume width height stage (field.now ++ more) ≡ Bad f) }
+    ensures begins { IfOk result (λ s.
+        IfSome s.next (BeginsAt (start_of stage + length field.now))) }
+    ensures faults { IfErr result (λ f. (more : List ℕ)
+        → resume width height stage (field.now ++ more) ≡ Bad f) }
 {
     match stage {
         Stage::Type => behind_type(field),

@@ -134,3 +134,30 @@ fn bytes_that_are_no_message(rt: HostRuntime) {
     assert_eq!(rt; fault.map(|f| f.number()), Some(1));
     assert_eq!(rt; BytesFault::NotOne.number(), 0);
 }
+
+// Whether the plain function and a reader, which gets one byte at a time, say the same of bytes that
+// begin with at most one message.
+fn agree(alloc: Global, bytes: &[u8]) -> bool {
+    let (messages, fault) = read(alloc, bytes, 1);
+    match read_message(alloc, 1, 1, bytes) {
+        Ok(Some(message)) => messages.len() == 1 && messages[0].bytes() == message.bytes(),
+        Ok(None) => messages.is_empty() && fault.is_none(),
+        Err(expected) => messages.is_empty() && fault == Some(expected),
+    }
+}
+
+#[test]
+fn plain_function_and_reader_agree(rt: HostRuntime) -> Result<(), Fail> {
+    for length in 0..=RED.len() {
+        assert!(rt; agree(rt.alloc(), &RED[..length]));
+    }
+    for place in 0..16 {
+        let mut bytes = RED;
+        bytes[place] = 200;
+        assert!(rt; agree(rt.alloc(), &bytes), "at {place}");
+    }
+    let message = read_message(rt.alloc(), 1, 1, &RED)?.ok_or("a message")?;
+    assert_eq!(rt; message.bytes(), RED.as_slice());
+    assert_eq!(rt; message.rectangles().len(), 1);
+    Ok(())
+}

@@ -1,12 +1,11 @@
-use Rattle.std.proofs.Common.{◌≡◌, ℕ, ◌+◌, ◌*◌, [], nat_eq, true, false, refl, sym, ◌∙◌, ap, eq-eqb, ◌⊎◌, inl, inr}
+use Rattle.std.proofs.Common.{◌≡◌, ◌<◌, ℕ, ◌+◌, ◌*◌, [], nat_eq, true, false, refl, sym, ◌∙◌, ap, eq-eqb, ◌⊎◌, inl, inr}
 use Rattle.std.proofs.Math.Nat.{zero-mul, mul-zero}
 use Rattle.std.proofs.lemmas.Bool.{ne_eqb}
 use Rattle.std.proofs.lemmas.Int.{of_z-to_z}
-use Rattle.std.specs.Int.{w32, cast_signed, cast_unsigned}
 use Rattle.pixel_format.specs.Reading.{Bad}
 use Rattle.rfb_wire.specs.declared.fault.WireFault.TheVariants as faults
 use Rattle.rfb_wire.specs.declared.progress.Stage.TheVariants as stages
-use Rattle.rfb_wire.specs.Grammar.{area_of, encoding_number, is_inside}
+use Rattle.rfb_wire.specs.Grammar.{signed, area_of, encoding_number, is_inside}
 use Rattle.rfb_wire.specs.Progress.{go_on, resume}
 use Rattle.rfb_wire.proofs.Resume.{header_outside, header_unknown, header_of_raw, behind_nil}
 use Rattle.rfb_wire.proofs.step.behind_header.Goals as goal
@@ -20,10 +19,10 @@ pub returns-then-number-ne0-clause-faults : goal.returns-then-number-ne0-clause-
 returns-then-number-ne0-clause-faults c = λ more.
     let inside : is_inside c.args.width c.args.height (area_of c.args.header.now) ≡ true = cc in
     let unknown : nat_eq (encoding_number c.args.header.now) 0 ≡ false = rw (← c.encoding_at-number.ensures) (ne_eqb c.encoding_at-number.result 0 c.if-number-ne0.true) in
-    let back : cast_unsigned w32 c.cast_signed.result ≡ encoding_number c.args.header.now =
-    ap (cast_unsigned w32) c.cast_signed.ensures ∙ of_z-to_z w32 c.encoding_at-number.result c.encoding_at-number.type_inv ∙ c.encoding_at-number.ensures in
-    header_unknown c.args.width c.args.height c.args.at c.args.others c.args.header.now more c.requires.whole inside unknown
-    ∙ ap (λ n. Bad (faults.Encoding (cast_signed w32 n))) (sym back)
+    let fits : c.encoding_at-number.result < 4294967296 = c.encoding_at-number.type_inv in
+    rw (c.cast_signed.ensures, of_z-to_z)
+    (header_unknown c.args.width c.args.height c.args.at c.args.others c.args.header.now more c.requires.whole inside unknown
+    ∙ ap (λ n. Bad (faults.Encoding (signed n))) (sym c.encoding_at-number.ensures))
 
 no_area : (w h : ℕ) → (w ≡ 0) ⊎ ((w ≡ 0 → ⊥) × (h ≡ 0)) → 0 ≡ 4 * (w * h)
 no_area w h (inl e) = rw (e, zero-mul) refl

@@ -1,6 +1,7 @@
 use Rattle.std.proofs.Common.{◌≡◌, [], ◌∙◌, sym, ap, refl, length}
 use Rattle.std.proofs.lemmas.List.{append-nil}
 use Rattle.rfb_wire.specs.Stream.{StandsFor}
+use Rattle.rfb_wire.specs.Grammar.{message_limit}
 use Rattle.rfb_wire.proofs.Streams.{stands_whole}
 use Rattle.rfb_wire.proofs.Whole.{whole_is, none_given, other_given, same_by_bytes, memory_alone}
 use Rattle.rfb_wire.specs.declared.fault.BytesFault.TheVariants as bytes_faults
@@ -21,27 +22,27 @@ returns-in_default-pop-clause-not_one c = λ _ m for same.
     let stands : StandsFor c.new-reader.result.kept c.new-reader.result.passed [] = rw c.new-reader.ensures (stands_whole []) in
     let goes = rw (c.new-reader.ensures, c.new-messages.ensures.items) at (c.in_default.ensures.goes [] stands) in
     let p = c.in_default-pop.ensures in
-    none_given c.args.width c.args.height _ _ c.args.bytes.now c.feed.new.out.items m goes (p.items ∙ append-nil c.pop.new.self.items ∙ p.rest ∙ rw p.cases.0 refl) for same
+    none_given message_limit c.args.width c.args.height _ _ c.args.bytes.now c.feed.new.out.items m goes (p.items ∙ append-nil c.pop.new.self.items ∙ p.rest ∙ rw p.cases.0 refl) for same
 
 pub returns-clause-ok : goal.returns-clause-ok
 returns-clause-ok c =
     let stands : StandsFor c.new-reader.result.kept c.new-reader.result.passed [] = rw c.new-reader.ensures (stands_whole []) in
     let goes = rw (c.new-reader.ensures, c.new-messages.ensures.items) at (c.in_default.ensures.goes [] stands) in
     let same : length c.in-Some.message.bytes ≡ length c.args.bytes.now = ap length (sym c.bytes.ensures.value) ∙ c.if-bytes.false in
-    whole_is c.args.width c.args.height _ _ c.args.bytes.now c.feed.new.out.items c.pop.new.self.items c.in-Some.message goes c.in-Some.ensures.items same
+    whole_is message_limit c.args.width c.args.height _ _ c.args.bytes.now c.feed.new.out.items c.pop.new.self.items c.in-Some.message goes c.in-Some.ensures.items same
 
 pub returns-then-bytes-clause-not_one : goal.returns-then-bytes-clause-not_one
 returns-then-bytes-clause-not_one c = λ _ m for same.
     let stands : StandsFor c.new-reader.result.kept c.new-reader.result.passed [] = rw c.new-reader.ensures (stands_whole []) in
     let goes = rw (c.new-reader.ensures, c.new-messages.ensures.items) at (c.in_default.ensures.goes [] stands) in
-    other_given c.args.width c.args.height _ _ c.args.bytes.now c.feed.new.out.items c.pop.new.self.items c.in-Some.message m goes c.in-Some.ensures.items
+    other_given message_limit c.args.width c.args.height _ _ c.args.bytes.now c.feed.new.out.items c.pop.new.self.items c.in-Some.message m goes c.in-Some.ensures.items
     (λ e. c.if-bytes.true (ap length c.bytes.ensures.value ∙ e)) for same
 
 pub returns-in-Err-clause-whole : goal.returns-in-Err-clause-whole
 returns-in-Err-clause-whole c = λ m for same.
     let stands : StandsFor c.new-reader.result.kept c.new-reader.result.passed [] = rw c.new-reader.ensures (stands_whole []) in
     let stops = rw (c.new-reader.ensures, c.new-messages.ensures.items) at (c.in-Err.ensures.faults (rw c.new-reader.ensures refl) [] stands) in
-    ap bytes_faults.Wire (memory_alone c.args.width c.args.height m c.args.bytes.now c.feed.new.out.items c.in-Err.fault for same stops)
+    ap bytes_faults.Wire (memory_alone message_limit c.args.width c.args.height m c.args.bytes.now c.feed.new.out.items c.in-Err.fault for same stops)
 
 pub returns-then-bytes-clause-whole : goal.returns-then-bytes-clause-whole
 returns-then-bytes-clause-whole c = λ m for same. absurd (returns-then-bytes-clause-not_one c refl m for same)
@@ -49,4 +50,4 @@ returns-then-bytes-clause-whole c = λ m for same. absurd (returns-then-bytes-cl
 pub returns-clause-whole : goal.returns-clause-whole
 returns-clause-whole c = λ m for same.
     let one = returns-clause-ok c in
-    same_by_bytes c.args.width c.args.height c.in-Some.message m c.args.bytes.now one.0 one.1 for same
+    same_by_bytes message_limit c.args.width c.args.height c.in-Some.message m c.args.bytes.now one.0 one.1 for same

@@ -7,5 +7,5 @@ use Rattle.rfb_wire.proofs.message.HostMessage.known.Goals as goal
 pub returns-clause-short : goal.returns-clause-short
 returns-clause-short c =
     let m = c.args.self.now in
-    let recorded : IsRecorded m = subst IsRecorded c.self.view_is c.self.invariant in
+    let recorded : IsRecorded message_limit m = subst (IsRecorded message_limit) c.self.view_is c.self.invariant in
     (read_is_message message_limit m.width m.height m.bytes m.rectangles recorded).short

@@ -2,6 +2,7 @@ use Rattle.std.proofs.Common.{◌≡◌, ℕ, List, ◌++◌, ◌-◌, ◌+◌, 
 use Rattle.std.proofs.lemmas.List.{take_rest, length-drop}
 use Rattle.std.proofs.lemmas.Result.{err_from_is_err_and}
 use Rattle.rfb_wire.specs.Progress.{resume, start_of, BeginsAt}
+use Rattle.rfb_wire.specs.Grammar.{message_limit}
 use Rattle.rfb_wire.proofs.Turns.{field_goes, whole_ends, whole_goes, field_faults, unless_memory}
 use Rattle.rfb_wire.proofs.progress.Progress.advance.Goals as goal
 
@@ -14,7 +15,7 @@ returns-in_err-whole-clause-faults c =
     let p = err_from_is_err_and c.from_residual.result c.from_residual.ensures.1 in
     let s = c.args.self.now in
     let field = field_is c.deref.result.now s.bytes.items c.start.result (start_of s.stage) c.deref.ensures.value c.start.ensures in
-    let faults = field_faults c.args.width c.args.height s.bytes.items s.rectangles.items s.stage c.in_err-whole.field-0.0 c.requires.linked
+    let faults = field_faults message_limit c.args.width c.args.height s.bytes.items s.rectangles.items s.stage c.in_err-whole.field-0.0 c.requires.linked
     (λ more. ap (λ f. resume c.args.width c.args.height s.stage (f ++ more)) (sym field) ∙ c.in_err-whole.ensures.faults more) in
     rw (p.1, p.2) (unless_memory _ _ faults)
 
@@ -23,7 +24,7 @@ returns-in-None-clause-goes c =
     let s = c.args.self.now in
     let field = field_is c.deref.result.now s.bytes.items c.start.result (start_of s.stage) c.deref.ensures.value c.start.ensures in
     whole_ends c.args.width c.args.height s.bytes.items c.append.new.rectangles.items c.in_ok-whole.whole.next
-    (field_goes c.args.width c.args.height s.bytes.items s.rectangles.items c.append.new.rectangles.items s.stage c.in_ok-whole.whole c.requires.linked
+    (field_goes message_limit c.args.width c.args.height s.bytes.items s.rectangles.items c.append.new.rectangles.items s.stage c.in_ok-whole.whole c.requires.linked
     (λ more. ap (λ f. resume c.args.width c.args.height s.stage (f ++ more)) (sym field) ∙ c.in_ok-whole.ensures.goes more) c.in_ok-append.ensures.ok)
     c.in-None.is
 
@@ -35,8 +36,8 @@ returns-in-Some-clause-goes c =
     rw (← field) (rw c.in-Some.is at c.in_ok-whole.ensures.begins) in
     let end : start_of s.stage + length (drop (start_of s.stage) s.bytes.items) ≡ length s.bytes.items = rw length-drop (omega (arith, c.requires.linked.begun)) in
     record {
-      linked = whole_goes c.args.width c.args.height s.bytes.items c.append.new.rectangles.items c.in_ok-whole.whole.next c.in-Some.stage
-          (field_goes c.args.width c.args.height s.bytes.items s.rectangles.items c.append.new.rectangles.items s.stage c.in_ok-whole.whole c.requires.linked
+      linked = whole_goes message_limit c.args.width c.args.height s.bytes.items c.append.new.rectangles.items c.in_ok-whole.whole.next c.in-Some.stage
+          (field_goes message_limit c.args.width c.args.height s.bytes.items s.rectangles.items c.append.new.rectangles.items s.stage c.in_ok-whole.whole c.requires.linked
           (λ more. ap (λ f. resume c.args.width c.args.height s.stage (f ++ more)) (sym field) ∙ c.in_ok-whole.ensures.goes more) c.in_ok-append.ensures.ok)
           c.in-Some.is (begins.start ∙ end) c.requires.linked.short;
       unfinished = omega (arith, begins.start, begins.some, end);

@@ -1,0 +1,87 @@
+-- The message that bytes begin with, by the update that their front begins with.
+use Rattle.std.proofs.Common.{◌≡◌, ℕ, ◌-◌, ◌<◌, ◌≤◌, true, false, List, ◌++◌, length, take, drop, nat_eq, nat_lt, inl, inr, slice_index, refl, sym, ap, ◌∙◌, arith, length-append}
+use Rattle.std.specs.Prelude.{min}
+use Rattle.std.proofs.lemmas.List.{take_all, take_at, length-take, get_or-take}
+use Rattle.std.proofs.lemmas.Bool.{eqb-true, ltb-true, ltb-false}
+use Rattle.pixel_format.specs.Reading.{Got, More, Bad, field, within}
+use Rattle.pixel_format.proofs.Readings.{field_got, true_or_false, within-short, within-long}
+use Rattle.rfb_wire.specs.declared.message.Rectangle.{Rectangle}
+use Rattle.rfb_wire.specs.declared.fault.WireFault.{WireFault}
+use Rattle.rfb_wire.specs.declared.fault.WireFault.TheVariants as faults
+use Rattle.rfb_wire.specs.Grammar.{update_at, message_at, Message, Recorded, message_limit}
+use Rattle.rfb_wire.specs.Host.{host_of, IsRecorded}
+use Rattle.rfb_wire.proofs.Messages.{update_read, message_is_read}
+
+pub kind_short : (limit width height : ℕ) (bytes : List ℕ) → field {E = WireFault} 1 bytes ≡ More → message_at limit width height bytes ≡ More
+unfolding message_at
+kind_short limit width height bytes e = rw e refl
+
+pub kind_unknown : (limit width height : ℕ) (bytes kind rest : List ℕ) → field {E = WireFault} 1 bytes ≡ Got kind rest → nat_eq (slice_index kind 0) 0 ≡ false
+    → message_at limit width height bytes ≡ Bad faults.UnknownType
+unfolding message_at
+kind_unknown limit width height bytes kind rest e other = rw (e, other) refl
+
+kind_update : (limit width height : ℕ) (bytes kind rest : List ℕ) → field {E = WireFault} 1 bytes ≡ Got kind rest → nat_eq (slice_index kind 0) 0 ≡ true
+    → message_at limit width height bytes ≡ within limit faults.TooLong (update_at width height) bytes
+unfolding message_at
+kind_update limit width height bytes kind rest e is = rw (e, is) refl
+
+pub front_long : (limit width height : ℕ) (bytes kind rest : List ℕ) → field {E = WireFault} 1 bytes ≡ Got kind rest → nat_eq (slice_index kind 0) 0 ≡ true
+    → update_at width height (take limit bytes) ≡ More → limit < length bytes → message_at limit width height bytes ≡ Bad faults.TooLong
+front_long limit width height bytes kind rest e is waits long =
+    kind_update limit width height bytes kind rest e is ∙ within-long limit faults.TooLong (update_at width height) bytes long waits
+
+pub front_short : (limit width height : ℕ) (bytes kind rest : List ℕ) → field {E = WireFault} 1 bytes ≡ Got kind rest → nat_eq (slice_index kind 0) 0 ≡ true
+    → update_at width height (take limit bytes) ≡ More → length bytes ≤ limit → message_at limit width height bytes ≡ More
+front_short limit width height bytes kind rest e is waits short =
+    kind_update limit width height bytes kind rest e is ∙ within-short limit faults.TooLong (update_at width height) bytes short
+    ∙ ap (update_at width height) (sym (take_all limit bytes short)) ∙ waits
+
+pub front_bad : (limit width height : ℕ) (bytes kind rest : List ℕ) (f : WireFault) → field {E = WireFault} 1 bytes ≡ Got kind rest → nat_eq (slice_index kind 0) 0 ≡ true
+    → update_at width height (take limit bytes) ≡ Bad f → message_at limit width height bytes ≡ Bad f
+unfolding within
+front_bad limit width height bytes kind rest f e is bad = kind_update limit width height bytes kind rest e is ∙ rw bad refl
+
+front_got : (limit width height : ℕ) (bytes kind rest after : List ℕ) (m : Message) → field {E = WireFault} 1 bytes ≡ Got kind rest → nat_eq (slice_index kind 0) 0 ≡ true
+    → update_at width height (take limit bytes) ≡ Got m after → message_at limit width height bytes ≡ Got m (after ++ drop limit bytes)
+unfolding within
+front_got limit width height bytes kind rest after m e is got = kind_update limit width height bytes kind rest e is ∙ rw got refl
+
+-- a front of the bytes that is a whole message
+pub record WholeFront (width height : ℕ) (bytes after : List ℕ) (rs : List Rectangle) : Type 0 where
+  pub whole : List ℕ
+  pub front_is : take message_limit bytes ≡ whole ++ after
+  pub recorded : IsRecorded message_limit (host_of width height whole rs)
+  pub reads : message_at message_limit width height bytes ≡ Got (Recorded rs) (after ++ drop message_limit bytes)
+
+pub front_whole : (width height : ℕ) (bytes kind rest after : List ℕ) (rs : List Rectangle) → field {E = WireFault} 1 bytes ≡ Got kind rest → nat_eq (slice_index kind 0) 0 ≡ true
+    → update_at width height (take message_limit bytes) ≡ Got (Recorded rs) after → WholeFront width height bytes after rs
+front_whole width height bytes kind rest after rs e is got =
+    let f = field_got 1 bytes kind rest e in
+    let first : slice_index bytes 0 ≡ 0 = sym (get_or-take 1 bytes 0 0 (omega arith)) ∙ ap (λ z. slice_index z 0) (sym f.is) ∙ eqb-true (slice_index kind 0) 0 is in
+    let front : slice_index (take message_limit bytes) 0 ≡ 0 = get_or-take message_limit bytes 0 0 (omega arith) ∙ first in
+    let u = update_read width height (take message_limit bytes) rs after front got in
+    let lengths = ap length u.1 in
+    let short : length u.0 ≤ message_limit = omega (arith, length-append u.0 after, length-take message_limit bytes) in
+    record {
+      whole = u.0;
+      front_is = u.1;
+      recorded = message_is_read message_limit width height u.0 rs (record { update = u.2; short = short });
+      reads = front_got message_limit width height bytes kind rest after (Recorded rs) e is got;
+    }
+
+-- the front that the code takes
+pub front_taken : (n : ℕ) (bytes : List ℕ) → n ≡ min (length bytes) message_limit → take n bytes ≡ take message_limit bytes
+front_taken n bytes is = elim (true_or_false (nat_lt message_limit (length bytes))) [
+  | inl t ↦ (let long = ltb-true message_limit (length bytes) t in let e : n ≡ message_limit = omega arith in ap (λ k. take k bytes) e)
+  | inr t ↦
+      (let short = ltb-false message_limit (length bytes) t in
+      let e : n ≡ length bytes = omega arith in
+      take_all n bytes (omega arith) ∙ sym (take_all message_limit bytes short))
+]
+
+-- the bytes of the message that the code takes
+pub whole_taken : (front whole after : List ℕ) → front ≡ whole ++ after → take (length front - length after) front ≡ whole
+whole_taken front whole after is =
+    let n : length front - length after ≡ length whole = rw (is, length-append) (omega arith) in
+    ap (λ k. take k front) n ∙ ap (take (length whole)) is ∙ take_at whole after (length whole) refl

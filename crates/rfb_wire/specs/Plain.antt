@@ -1,0 +1,25 @@
+-- What a function that reads from the front of bytes answers, by the grammar.
+use Rattle.std.specs.Prelude.{◌≡◌, ℕ, List, ◌++◌, Option, Some, None, Result, Ok, Err}
+use Rattle.pixel_format.specs.Reading.{Reading, Got, More, Bad}
+use Rattle.rfb_wire.specs.declared.fault.WireFault.{WireFault}
+use Rattle.rfb_wire.specs.Grammar.{Message, Recorded}
+use Rattle.rfb_wire.specs.Host.{Host}
+use Rattle.rfb_wire.specs.Stream.{IsFor, UnlessMemory}
+
+-- the value and the bytes behind it, nothing where they are too few, or the fault
+abbrev pub Says : {X A : Type 0} → (X → A) → (X → List ℕ) → Result (Option X) WireFault → Reading A WireFault → Type 0
+Says value rest (Ok (Some x)) reading = reading ≡ Got (value x) (rest x)
+Says value rest (Ok None) reading = reading ≡ More
+Says value rest (Err f) reading = UnlessMemory f (reading ≡ Bad f)
+
+-- the same of a message, which is a front of the bytes
+pub record Begins (limit width height : ℕ) (bytes : List ℕ) (m : Host) (reading : Reading Message WireFault) : Type 0 where
+  pub is : IsFor limit width height m
+  pub behind : List ℕ
+  pub bytes_are : bytes ≡ m.bytes ++ behind
+  pub reads : reading ≡ Got (Recorded m.rectangles) behind
+
+abbrev pub SaysMessage : ℕ → ℕ → ℕ → List ℕ → Result (Option Host) WireFault → Reading Message WireFault → Type 0
+SaysMessage limit width height bytes (Ok (Some m)) reading = Begins limit width height bytes m reading
+SaysMessage limit width height bytes (Ok None) reading = reading ≡ More
+SaysMessage limit width height bytes (Err f) reading = UnlessMemory f (reading ≡ Bad f)
