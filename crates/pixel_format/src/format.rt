@@ -1,6 +1,6 @@
-ghost use Rattle.std.specs.Prelude.{◌≡◌, ℕ, ◌/◌, ◌%◌, ◌+◌, ◌^◌, ◌<◌, ◌⊎◌, [], ◌∷◌, length};
+ghost use Rattle.std.specs.Prelude.{◌≡◌, ℕ, ◌/◌, ◌%◌, ◌+◌, ◌*◌, ◌^◌, ◌<◌, ◌≤◌, ◌⊎◌, [], ◌∷◌, length};
 ghost use Rattle.pixel_format.specs.Format.{Format, pixel_bytes, host_format};
-ghost use Rattle.pixel_format.specs.Pixel.{pixel_number, channel_value, pixel_color, host_color};
+ghost use Rattle.pixel_format.specs.Pixel.{pixel_number, channel_value, pixel_color, host_color, IsWithin, color_number, IsScreenColor, converted, converted_channel};
 
 use crate::Color;
 use std::marker::Model;
@@ -88,6 +88,53 @@ impl PixelFormat {
         }
     }
 
+    /// Writes the pixel of a colour, its bytes as they stand on the wire. Bits that belong to no
+    /// channel are 0.
+    pub fn put(&self, color: Color, bytes: &mut [u8])
+        requires whole { length bytes.old ≡ pixel_bytes self.now }
+        requires within { IsWithin self.now color }
+        ensures number { pixel_number self.now bytes.new ≡ color_number self.now color }
+        ensures color { pixel_color self.now bytes.new ≡ color }
+    {
+        let red = placed(self.red, color.r);
+        let green = placed(self.green, color.g);
+        let blue = placed(self.blue, color.b);
+        self.put_number(red + green + blue, bytes);
+    }
+
+    /// A colour of a screen, as this format has it: each channel in proportion, rounded to the
+    /// nearest.
+    pub fn convert(&self, color: Color) -> Color
+        requires { IsScreenColor color }
+        ensures value { result ≡ converted self.now color }
+        ensures within { IsWithin self.now result }
+    {
+        Color {
+            r: proportion(color.r, self.red.max),
+            g: proportion(color.g, self.green.max),
+            b: proportion(color.b, self.blue.max),
+        }
+    }
+
+    // Writes the pixel of a number.
+    fn put_number(&self, number: u32, bytes: &mut [u8])
+        requires whole { length bytes.old ≡ pixel_bytes self.now }
+        requires fits { number < 2 ^ self.now.bits }
+        ensures { pixel_number self.now bytes.new ≡ number }
+    {
+        if self.bits == 8 {
+            bytes.copy_from_slice(&[number as u8]);
+        } else if self.bits == 16 && self.big_endian {
+            bytes.copy_from_slice(&(number as u16).to_be_bytes());
+        } else if self.bits == 16 {
+            bytes.copy_from_slice(&(number as u16).to_le_bytes());
+        } else if self.big_endian {
+            bytes.copy_from_slice(&number.to_be_bytes());
+        } else {
+            bytes.copy_from_slice(&number.to_le_bytes());
+        }
+    }
+
     // The number of a pixel.
     fn number(&self, bytes: &[u8]) -> u32
         requires { length bytes.now ≡ pixel_bytes self.now }
@@ -112,6 +159,28 @@ fn value_of(channel: Channel, number: u32) -> u16
         return 0;
     }
     ((number >> channel.shift) % (channel.max as u32 + 1)) as u16
+}
+
+// A value of a channel, at its place in a pixel's number. Where the maximum is 0, the shift may lie
+// beyond the number.
+fn placed(channel: Channel, value: u16) -> u32
+    requires within { value ≤ channel.max }
+    requires fits { channel.max * 2 ^ channel.shift < 2 ^ 32 }
+    ensures { result ≡ value * 2 ^ channel.shift }
+{
+    if value == 0 {
+        return 0;
+    }
+    (value as u32) << channel.shift
+}
+
+// A value of at most 255, in proportion to another maximum.
+fn proportion(value: u16, max: u16) -> u16
+    requires { value ≤ 255 }
+    ensures value { result ≡ converted_channel max value }
+    ensures within { result ≤ max }
+{
+    ((value as u32 * max as u32 + 127) / 255) as u16
 }
 
 /// A pixel of the host format: its bytes are blue, green, red, and one that plays no part. (A law:
