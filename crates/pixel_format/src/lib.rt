@@ -2,8 +2,10 @@
 //! section 7.4).
 #![tactic(auto)]
 
+mod fault;
 mod format;
 
+pub use fault::FormatFault;
 pub use format::{PixelFormat, host_pixel};
 
 /// The fault of want of memory.
