@@ -1,15 +1,16 @@
 -- What the tests of a pixel format say, and what is read of the bytes of a format.
 use Rattle.std.proofs.Common.{◌≡◌, ℕ, zero, suc, ◌+◌, ◌-◌, ◌*◌, ◌/◌, ◌%◌, ◌^◌, ◌<◌, ◌≤◌, ◌∙◌, ◌⊎◌, inl, inr, Bool, true, false, refl, sym, ap, subst, arith, eq-eqb}
-use Rattle.std.specs.Prelude.{List, nat_eq, nat_lt, nat_le, ◌||◌, ◌&&◌, Ok, Err, slice_index, bit_and}
+use Rattle.std.specs.Prelude.{List, nat_eq, nat_lt, not, Result, ◌||◌, ◌&&◌, Ok, Err, slice_index, bit_and}
 use Rattle.std.specs.Int.{to_be_bytes, w16}
 use Rattle.std.specs.Prelude.{slice_index_or}
 use mir.Val.{bool_byte}
 use Rattle.std.proofs.Math.Nat.{pow-le-pow_right}
 use Rattle.std.proofs.lemmas.Nat.{pow_pos, pow-add, pow_below, mul-le}
-use Rattle.std.proofs.lemmas.Bool.{cases_lt, eqb-true, lt-ltb, le-ltb, ltb-true}
+use Rattle.std.proofs.lemmas.Bool.{cases_lt, eqb-true, ne_eqb, lt-ltb, le-ltb, ltb-true}
 use Rattle.pixel_format.specs.Format.{Channel, Format, IsChannel, IsValid, mask}
+use Rattle.pixel_format.specs.declared.fault.FormatFault.{FormatFault}
 use Rattle.pixel_format.specs.declared.fault.FormatFault.TheVariants as faults
-use Rattle.pixel_format.specs.Written.{is_ones, is_flag, flag, has_bits, has_maxima, lies_inside, has_fields_inside, are_apart, has_fields_apart, format_of, format_at, format_bytes}
+use Rattle.pixel_format.specs.Written.{unless, is_ones, is_flag, flag, has_bits, has_maxima, lies_inside, has_fields_inside, are_apart, has_fields_apart, format_of, format_at, format_bytes}
 use Rattle.pixel_format.proofs.Readings.{true_or_false}
 
 -- a maximum of N bits
@@ -157,6 +158,19 @@ full-valid bits c v = is-ones 16 c.max v.full.0 v.full.1 v.full.2
 inside-valid : (bits : ℕ) (c : Channel) → IsChannel bits c → lies_inside bits c ≡ true
 inside-valid bits c v = lt-ltb (mask c) (2 ^ bits) v.inside
 
+maxima-valid : (f : Format) → IsValid f → has_maxima f ≡ true
+maxima-valid f v = rw (full-valid f.bits f.red v.red, full-valid f.bits f.green v.green, full-valid f.bits f.blue v.blue) refl
+
+fields_inside-valid : (f : Format) → IsValid f → has_fields_inside f ≡ true
+fields_inside-valid f v = rw (inside-valid f.bits f.red v.red, inside-valid f.bits f.green v.green, inside-valid f.bits f.blue v.blue) refl
+
+fields_apart-valid : (f : Format) → IsValid f → has_fields_apart f ≡ true
+fields_apart-valid f v = rw (v.red_and_green, v.red_and_blue, v.green_and_blue) refl
+
+-- an accepted format
+ok_is : (f g : Format) → ◌≡◌ {A = Result Format FormatFault} (Ok f) (Ok g) → f ≡ g
+ok_is f g e = cc
+
 -- a format that is written is read again
 flag_is : (b : Bool) → is_flag (flag b) ≡ b
 flag_is true = refl
@@ -172,9 +186,9 @@ pub read_written : (f : Format) → IsValid f → format_at (format_bytes f) ≡
 read_written f v =
     let is = of_written f in
     let bits : has_bits f ≡ true = has_bits-valid f.bits v.whole in
-    let maxima : has_maxima f ≡ true = rw (full-valid f.bits f.red v.red, full-valid f.bits f.green v.green, full-valid f.bits f.blue v.blue) refl in
-    let inside : has_fields_inside f ≡ true = rw (inside-valid f.bits f.red v.red, inside-valid f.bits f.green v.green, inside-valid f.bits f.blue v.blue) refl in
-    let apart : has_fields_apart f ≡ true = rw (v.red_and_green, v.red_and_blue, v.green_and_blue) refl in
+    let maxima : has_maxima f ≡ true = maxima-valid f v in
+    let inside : has_fields_inside f ≡ true = fields_inside-valid f v in
+    let apart : has_fields_apart f ≡ true = fields_apart-valid f v in
     accepted (format_bytes f)
     (subst (λ (g : Format). has_bits g ≡ true) (sym is) bits) refl
     (subst (λ (g : Format). has_maxima g ≡ true) (sym is) maxima)
@@ -197,3 +211,43 @@ pub max_small : (bits : ℕ) (c : Channel) → IsChannel bits c → c.max < 2 ^ 
 max_small bits c v =
     let power : 2 ^ v.full.0 ≤ 2 ^ 16 = pow-le-pow_right (omega arith) v.full.1 in
     omega (arith, v.full.2)
+
+-- what is accepted passed each test
+pub unless_ok : (b : Bool) (fault : FormatFault) (next : Result Format FormatFault) (f : Format) → unless b fault next ≡ Ok f → (b ≡ true) × (next ≡ Ok f)
+unless_ok true fault next f e = (refl, e)
+unless_ok false fault next f e = absurd (cc)
+
+pub record Accepted (bytes : List ℕ) (f : Format) : Type 0 where
+  pub is : f ≡ format_of bytes
+  pub color : is_flag (slice_index bytes 3) ≡ true
+  pub valid : IsValid f
+
+pub accepted_is : (bytes : List ℕ) (f : Format) → format_at bytes ≡ Ok f → Accepted bytes f
+unfolding format_at
+accepted_is bytes f e =
+    let bits = unless_ok (has_bits (format_of bytes)) faults.BadBits (unless (is_flag (slice_index bytes 3)) faults.NoTrueColor
+    (unless (has_maxima (format_of bytes)) faults.BadMax (unless (has_fields_inside (format_of bytes)) faults.FieldOutside
+    (unless (has_fields_apart (format_of bytes)) faults.FieldsOverlap (Ok (format_of bytes)))))) f e in
+    let color = unless_ok (is_flag (slice_index bytes 3)) faults.NoTrueColor (unless (has_maxima (format_of bytes)) faults.BadMax
+    (unless (has_fields_inside (format_of bytes)) faults.FieldOutside (unless (has_fields_apart (format_of bytes)) faults.FieldsOverlap (Ok (format_of bytes))))) f bits.1 in
+    let maxima = unless_ok (has_maxima (format_of bytes)) faults.BadMax (unless (has_fields_inside (format_of bytes)) faults.FieldOutside
+    (unless (has_fields_apart (format_of bytes)) faults.FieldsOverlap (Ok (format_of bytes)))) f color.1 in
+    let inside = unless_ok (has_fields_inside (format_of bytes)) faults.FieldOutside
+    (unless (has_fields_apart (format_of bytes)) faults.FieldsOverlap (Ok (format_of bytes))) f maxima.1 in
+    let apart = unless_ok (has_fields_apart (format_of bytes)) faults.FieldsOverlap (Ok (format_of bytes)) f inside.1 in
+    let is : f ≡ format_of bytes = sym (ok_is (format_of bytes) f apart.1) in
+    record { is = is; color = color.0; valid = subst IsValid (sym is) (passes_valid (format_of bytes) bits.0 maxima.0 inside.0 apart.0) }
+
+pub is_accepted : (bytes : List ℕ) (f : Format) → f ≡ format_of bytes → 0 < slice_index bytes 3 → IsValid f → format_at bytes ≡ Ok f
+is_accepted bytes f is color v =
+    let flag_of : is_flag (slice_index bytes 3) ≡ true = ap not (ne_eqb (slice_index bytes 3) 0 (λ none. absurd (omega arith))) in
+    let valid : IsValid (format_of bytes) = subst IsValid is v in
+    let bits : has_bits (format_of bytes) ≡ true = has_bits-valid (format_of bytes).bits valid.whole in
+    let maxima : has_maxima (format_of bytes) ≡ true = maxima-valid (format_of bytes) valid in
+    let inside : has_fields_inside (format_of bytes) ≡ true = fields_inside-valid (format_of bytes) valid in
+    let apart : has_fields_apart (format_of bytes) ≡ true = fields_apart-valid (format_of bytes) valid in
+    accepted bytes bits flag_of maxima inside apart ∙ ap Ok (sym is)
+
+pub flag_some : (n : ℕ) → is_flag n ≡ true → 0 < n
+flag_some zero e = absurd (cc)
+flag_some (suc n) e = omega arith

@@ -4,9 +4,11 @@
 
 mod fault;
 mod format;
+mod laws;
 
 pub use fault::FormatFault;
 pub use format::{PixelFormat, host_pixel};
+pub use laws::{valid_formats, written_as_read};
 
 /// The fault of want of memory.
 pub type NoMemory = std::alloc::AllocError;
