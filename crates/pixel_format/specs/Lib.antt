@@ -1,3 +1,5 @@
 pub mod Reading
 pub mod Format
 pub mod Pixel
+pub mod Fault
+pub mod Written

@@ -2,9 +2,13 @@
 //! section 7.4).
 #![tactic(auto)]
 
+mod fault;
 mod format;
+mod laws;
 
+pub use fault::FormatFault;
 pub use format::{PixelFormat, host_pixel};
+pub use laws::{valid_formats, written_as_read};
 
 /// The fault of want of memory.
 pub type NoMemory = std::alloc::AllocError;
