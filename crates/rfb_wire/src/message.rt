@@ -66,7 +66,6 @@ impl Model for HostMessage {
 }
 
 impl HostMessage {
-    ghost use Rattle.rfb_wire.specs.Grammar.{message_limit};
     ghost use Rattle.rfb_wire.specs.declared.fault.WireFault.{WireFault};
     ghost use Rattle.rfb_wire.specs.Grammar.{message_limit};
     ghost use Rattle.rfb_wire.specs.Host.{Host, host_of, IsRecorded, IsPlaced};
@@ -142,7 +141,7 @@ impl HostMessage {
         ensures recorded { IsRecorded message_limit self.now }
         ensures short { length self.now.bytes ≤ message_limit }
     {
-        let _ = &self.bytes;
+        let _ = &self.width;
     }
 
     /// The rectangles of an update, in their order; none of another message. Each lies within the
