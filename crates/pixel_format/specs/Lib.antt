@@ -1,3 +1,4 @@
 pub mod Reading
 pub mod Format
 pub mod Pixel
+pub mod Canvas

@@ -2,8 +2,10 @@
 //! section 7.4).
 #![tactic(auto)]
 
+mod canvas;
 mod format;
 
+pub use canvas::Canvas;
 pub use format::{PixelFormat, host_pixel};
 
 /// The fault of want of memory.

@@ -1,0 +1,11 @@
+//! The RRE encoding of rectangles: rise-and-run-length encoding (RFC 6143, section 7.7.3). The data of
+//! a rectangle are a background, and subrectangles of one colour each which are painted over it.
+#![tactic(auto)]
+
+mod data;
+mod fault;
+mod measuring;
+
+pub use data::Subrectangle;
+pub use fault::Measure;
+pub use measuring::{Measuring, measure};
