@@ -1,7 +1,7 @@
 //! Where pictures are painted.
 
-ghost use Rattle.std.specs.Prelude.{◌≡◌, ℕ, ◌+◌, ◌<◌, ◌≤◌, if◌then◌else◌};
-ghost use Rattle.pixel_format.specs.Canvas.{Picture, covers};
+ghost use Rattle.std.specs.Prelude.{◌≡◌, ℕ, ◌+◌, ◌≤◌};
+ghost use Rattle.pixel_format.specs.Canvas.{Picture, filled, Agree};
 
 use crate::Color;
 
@@ -21,6 +21,5 @@ pub trait Canvas {
         requires rows { y + h ≤ height self.old }
         ensures width { width self.new ≡ width self.old }
         ensures height { height self.new ≡ height self.old }
-        ensures painted { (column row : ℕ) → column < width self.old → row < height self.old
-            → picture self.new column row ≡ (if covers x y w h column row then color else picture self.old column row) };
+        ensures painted { Agree (width self.old) (height self.old) (picture self.new) (filled x y w h color (picture self.old)) };
 }

@@ -15,12 +15,12 @@ use Rattle.rre.proofs.Steps.{subrectangle_whole}
 -- ---- fields
 
 -- a field and what stands behind it
-field_front : (n : ℕ) (bytes f rest : List ℕ) → FieldIs n bytes f rest → (bytes ≡ f ++ rest) × (length f ≡ n)
+pub field_front : (n : ℕ) (bytes f rest : List ℕ) → FieldIs n bytes f rest → (bytes ≡ f ++ rest) × (length f ≡ n)
 field_front n bytes f rest is =
     (rw (is.is, is.rest_is) (sym (take-append-drop n bytes)), rw is.is (length-take-le n bytes is.enough))
 
 -- a whole field is the bytes of its subrectangle
-bytes_of_field : (f : Format) (bytes : List ℕ) → length bytes ≡ subrectangle_bytes f → AreBytesOf f (subrectangle_of f bytes) bytes
+pub bytes_of_field : (f : Format) (bytes : List ℕ) → length bytes ≡ subrectangle_bytes f → AreBytesOf f (subrectangle_of f bytes) bytes
 unfolding subrectangle_of
 bytes_of_field f bytes whole = record {
   pixel = take (pixel_bytes f) bytes;
@@ -52,7 +52,7 @@ within_is w h s e =
     let parts = and_parts _ _ e in
     record { columns = leb-true _ _ parts.0; rows = leb-true _ _ parts.1 }
 
-inside_is : (w h : ℕ) (s : Subrectangle) → IsWithin w h s → is_inside w h s ≡ true
+pub inside_is : (w h : ℕ) (s : Subrectangle) → IsWithin w h s → is_inside w h s ≡ true
 unfolding is_inside
 inside_is w h s is = rw (le-leb (s.x + s.w) w is.columns, le-leb (s.y + s.h) h is.rows) refl
 
@@ -64,13 +64,13 @@ outside_is w h s leaves = elim (true_or_false (is_inside w h s)) [
 
 -- ---- subrectangles
 
-record SubrectangleRead (f : Format) (w h : ℕ) (bytes : List ℕ) (s : Subrectangle) (rest : List ℕ) : Type 0 where
+pub record SubrectangleRead (f : Format) (w h : ℕ) (bytes : List ℕ) (s : Subrectangle) (rest : List ℕ) : Type 0 where
   pub first : List ℕ
   pub bytes_are : bytes ≡ first ++ rest
   pub is : AreBytesOf f s first
   pub within : IsWithin w h s
 
-subrectangle_read : (f : Format) (w h : ℕ) (bytes : List ℕ) (s : Subrectangle) (rest : List ℕ) → subrectangle_at f w h bytes ≡ Got s rest
+pub subrectangle_read : (f : Format) (w h : ℕ) (bytes : List ℕ) (s : Subrectangle) (rest : List ℕ) → subrectangle_at f w h bytes ≡ Got s rest
     → SubrectangleRead f w h bytes s rest
 unfolding subrectangle_at
 subrectangle_read f w h bytes s rest e =
@@ -157,7 +157,7 @@ four_numbers (a ∷ b ∷ c ∷ []) pixel e = absurd (omega arith)
 four_numbers (a ∷ b ∷ c ∷ d ∷ []) pixel e = refl
 four_numbers (a ∷ b ∷ c ∷ d ∷ x ∷ xs) pixel e = absurd (omega arith)
 
-head_is : (f : Format) (head : List ℕ) → length head ≡ head_bytes f → IsHead f head (u32_at head 0) (drop 4 head)
+pub head_is : (f : Format) (head : List ℕ) → length head ≡ head_bytes f → IsHead f head (u32_at head 0) (drop 4 head)
 head_is f head whole =
     let number : length (take 4 head) ≡ 4 = length-take-le 4 head (omega arith) in
     record {

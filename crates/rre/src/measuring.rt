@@ -1,6 +1,6 @@
 //! Judging data field by field, as they come.
 
-ghost use Rattle.std.specs.Prelude.{◌≡◌, ℕ, ◌<◌, ◌≤◌, ◌+◌, ◌++◌, List, length, IfOk, IfErr};
+ghost use Rattle.std.specs.Prelude.{◌≡◌, ◌↔◌, ℕ, ◌<◌, ◌≤◌, ◌+◌, ◌++◌, List, length, take, IfOk, IfErr, Ok, Err};
 ghost use Rattle.pixel_format.specs.Reading.{Bad};
 ghost use Rattle.pixel_format.specs.Format.{Format};
 ghost use Rattle.rre.specs.Grammar.{Outside, subrectangles_at, data_at};
@@ -20,6 +20,7 @@ pub enum Measuring {
     Subrectangle { more: u32 },
 }
 
+ghost use Rattle.rre.specs.Data.{AreData, IsRefused};
 ghost use Rattle.rre.specs.Measuring.{go_on, resume, wants_of, judged, measured};
 
 // The field of the next of so many subrectangles.
@@ -75,9 +76,9 @@ impl Measuring {
     }
 }
 
-/// The length of the data of a rectangle of w by h that begin the bytes.
-pub fn measure(format: &PixelFormat, w: u16, h: u16, bytes: &[u8]) -> Result<usize, Measure>
-    ensures value { result ≡ measured (length bytes.now) (data_at format.now w h bytes.now) }
+// The same as `measure`, in the words of the grammar.
+fn measure_by_fields(format: &PixelFormat, w: u16, h: u16, bytes: &[u8]) -> Result<usize, Measure>
+    ensures { result ≡ measured (length bytes.now) (data_at format.now w h bytes.now) }
 {
     let mut rest = bytes;
     let mut next = Some(Measuring::Head);
@@ -90,4 +91,17 @@ pub fn measure(format: &PixelFormat, w: u16, h: u16, bytes: &[u8]) -> Result<usi
         rest = &rest[wants..];
     }
     Ok(bytes.len() - rest.len())
+}
+
+/// The length of the data of a rectangle of w by h that begin the bytes (RFC 6143, section 7.7.3).
+/// `Measure::Bad` comes at the last byte of the first subrectangle that leaves the rectangle, and
+/// `Measure::NeedMore` for all other bytes that no data begin. It takes no memory.
+pub fn measure(format: &PixelFormat, w: u16, h: u16, bytes: &[u8]) -> Result<usize, Measure>
+    ensures value { result ≡ measured (length bytes.now) (data_at format.now w h bytes.now) }
+    ensures ok { IfOk result (λ n. (n ≤ length bytes.now) × AreData format.now w h (take n bytes.now)) }
+    ensures whole { (front more : List ℕ) → bytes.now ≡ front ++ more → AreData format.now w h front
+        → result ≡ Ok (length front) }
+    ensures bad { (result ≡ Err Measure.Bad) ↔ IsRefused format.now w h bytes.now }
+{
+    measure_by_fields(format, w, h, bytes)
 }

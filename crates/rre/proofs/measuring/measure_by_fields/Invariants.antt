@@ -1,7 +1,7 @@
 use Rattle.std.proofs.Common.{◌≡◌, ◌≤◌, length}
 use Rattle.rre.specs.Grammar.{data_at}
 use Rattle.rre.specs.Measuring.{judged, go_on}
-use Rattle.rre.proofs.measuring.measure.Given as goal
+use Rattle.rre.proofs.measuring.measure_by_fields.Given as goal
 
 -- the bytes are judged as what is left of them is, from the next field on
 abbrev pub invariant-loop-next : goal.invariant-loop-next
