@@ -1,11 +1,10 @@
 -- What the grammar reads is data of a rectangle, and data are what it reads. The same of what is refused.
-use Rattle.std.proofs.Common.{◌≡◌, ℕ, zero, suc, ◌+◌, ◌<◌, ◌≤◌, ◌⊎◌, inl, inr, Bool, true, false, List, [], ◌∷◌, ◌++◌, length, take, drop, refl, sym, ap, ◌∙◌, subst, arith, append_assoc, length-append}
-use Rattle.std.specs.Prelude.{nat_lt, nat_le, ◌&&◌, if◌then◌else◌}
+use Rattle.std.proofs.Common.{◌≡◌, ℕ, zero, suc, ◌+◌, ◌<◌, inl, inr, true, false, List, [], ◌∷◌, ◌++◌, length, take, drop, refl, sym, ap, ◌∙◌, subst, arith, append_assoc, length-append}
 use Rattle.std.proofs.lemmas.Bool.{le-leb, leb-true, and_parts}
-use Rattle.std.proofs.lemmas.List.{length-take-le, length-drop, take-append-drop, take_at, drop_at, append-nil}
+use Rattle.std.proofs.lemmas.List.{length-take-le, length-drop, take-append-drop, take_at, drop_at}
 use Rattle.pixel_format.specs.Format.{Format, pixel_bytes}
 use Rattle.pixel_format.specs.Pixel.{pixel_color}
-use Rattle.pixel_format.specs.Reading.{Reading, Got, More, Bad, ◌>>=◌, field, guard}
+use Rattle.pixel_format.specs.Reading.{Got, Bad, ◌>>=◌, field, guard}
 use Rattle.pixel_format.proofs.Readings.{bind_got, guard_got, FieldIs, field_got, field-whole, true_or_false}
 use Rattle.rre.specs.declared.data.Subrectangle.{Subrectangle}
 use Rattle.rre.specs.Grammar.{Content, Fault, Outside, u32_at, head_bytes, subrectangle_bytes, subrectangle_of, is_inside, subrectangle_at, subrectangles_at, data_at}
@@ -144,8 +143,11 @@ subrectangles_refused f w h [] (suc count) body outside field more none less is 
     rw (none, subrectangle_refused f w h outside field more is leaves) refl
 subrectangles_refused f w h (s ∷ earlier) (suc count) body outside field more are less is leaves =
     let all : body ++ (field ++ more) ≡ are.0 ++ (are.1 ++ (field ++ more)) = ap (λ z. z ++ (field ++ more)) are.2 ∙ append_assoc are.0 are.1 (field ++ more) in
-    rw (all, subrectangle_again f w h s are.0 (are.1 ++ (field ++ more)) are.3 are.4,
-      subrectangles_refused f w h earlier count are.1 outside field more are.5 (omega arith) is leaves) refl
+    rw (
+      all,
+      subrectangle_again f w h s are.0 (are.1 ++ (field ++ more)) are.3 are.4,
+      subrectangles_refused f w h earlier count are.1 outside field more are.5 (omega arith) is leaves,
+    ) refl
 
 -- ---- the head
 
@@ -216,13 +218,21 @@ unfolding data_at
 data_again f w h front more content is =
     let all : front ++ more ≡ is.head ++ (is.body ++ more) = ap (λ z. z ++ more) is.bytes_are ∙ append_assoc is.head is.body more in
     let count = length content.subrectangles in
-    rw (all, field-whole {E = Fault} (head_bytes f) is.head (is.body ++ more) (head_length f is.head count is.pixel is.head_is),
-      head_count f is.head count is.pixel is.head_is, head_pixel f is.head count is.pixel is.head_is,
-      subrectangles_again f w h content.subrectangles is.body more is.body_is, ← is.background_is) refl
+    rw (
+      all,
+      field-whole {E = Fault} (head_bytes f) is.head (is.body ++ more) (head_length f is.head count is.pixel is.head_is),
+      head_count f is.head count is.pixel is.head_is,
+      head_pixel f is.head count is.pixel is.head_is,
+      subrectangles_again f w h content.subrectangles is.body more is.body_is,
+      ← is.background_is,
+    ) refl
 
 pub refused_again : (f : Format) (w h : ℕ) (bytes : List ℕ) → IsRefused f w h bytes → data_at f w h bytes ≡ Bad Outside
 unfolding data_at
 refused_again f w h bytes is =
-    rw (is.bytes_are, field-whole {E = Fault} (head_bytes f) is.head (is.body ++ (is.field ++ is.more)) (head_length f is.head is.count is.pixel is.head_is),
+    rw (
+      is.bytes_are,
+      field-whole {E = Fault} (head_bytes f) is.head (is.body ++ (is.field ++ is.more)) (head_length f is.head is.count is.pixel is.head_is),
       head_count f is.head is.count is.pixel is.head_is,
-      subrectangles_refused f w h is.earlier is.count is.body is.outside is.field is.more is.body_is is.one_of_them is.field_is is.leaves) refl
+      subrectangles_refused f w h is.earlier is.count is.body is.outside is.field is.more is.body_is is.one_of_them is.field_is is.leaves,
+    ) refl

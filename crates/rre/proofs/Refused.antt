@@ -1,7 +1,7 @@
 -- What is refused has a subrectangle outside, and what is measured is data.
 use Rattle.std.proofs.Common.{◌≡◌, ℕ, zero, suc, ◌+◌, ◌-◌, ◌<◌, ◌≤◌, ◌⊎◌, inl, inr, Bool, true, false, List, [], ◌∷◌, ◌++◌, length, take, drop, refl, sym, ap, ◌∙◌, subst, arith, append_assoc, length-append, Ok, Err}
 use Rattle.std.specs.Prelude.{nat_lt, Result, IfOk}
-use Rattle.std.proofs.lemmas.List.{take_at, append-nil, take-append-drop}
+use Rattle.std.proofs.lemmas.List.{take_at}
 use Rattle.pixel_format.specs.Format.{Format}
 use Rattle.pixel_format.specs.Pixel.{pixel_color}
 use Rattle.pixel_format.specs.Reading.{Reading, Got, More, Bad, ◌>>=◌, field, guard}
@@ -9,7 +9,7 @@ use Rattle.pixel_format.proofs.Readings.{field_got, true_or_false}
 use Rattle.rre.specs.declared.data.Subrectangle.{Subrectangle}
 use Rattle.rre.specs.declared.fault.Measure.{Measure}
 use Rattle.rre.specs.declared.fault.Measure.TheVariants as answers
-use Rattle.rre.specs.Grammar.{Content, Fault, Outside, u32_at, head_bytes, subrectangle_bytes, subrectangle_of, is_inside, subrectangle_at, subrectangles_at, data_at}
+use Rattle.rre.specs.Grammar.{Fault, Outside, u32_at, head_bytes, subrectangle_bytes, subrectangle_of, is_inside, subrectangle_at, subrectangles_at, data_at}
 use Rattle.rre.specs.Data.{IsWithin, AreBytesOf, AreSubrectangles, IsData, AreData, IsRefused}
 use Rattle.rre.specs.Measuring.{measured}
 use Rattle.rre.proofs.Content.{field_front, bytes_of_field, inside_is, subrectangle_read, head_is, data_read, data_again, refused_again}

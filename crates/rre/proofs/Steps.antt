@@ -1,5 +1,5 @@
 -- What follows from a whole field.
-use Rattle.std.proofs.Common.{◌≡◌, ℕ, suc, ◌+◌, ◌<◌, true, false, List, ◌∷◌, ◌++◌, length, drop, refl, ◌∙◌, ap}
+use Rattle.std.proofs.Common.{◌≡◌, ℕ, ◌<◌, true, false, List, ◌∷◌, ◌++◌, length, drop, refl}
 use Rattle.pixel_format.specs.Format.{Format}
 use Rattle.pixel_format.specs.Pixel.{pixel_color}
 use Rattle.pixel_format.specs.Reading.{Reading, Got, More, Bad, ◌>>=◌, guard}
@@ -7,7 +7,7 @@ use Rattle.pixel_format.proofs.Readings.{field-whole, field-short}
 use Rattle.rre.specs.declared.data.Subrectangle.{Subrectangle}
 use Rattle.rre.specs.declared.measuring.Measuring.{Measuring}
 use Rattle.rre.specs.declared.measuring.Measuring.TheVariants as stages
-use Rattle.rre.specs.Grammar.{Content, Fault, Outside, u32_at, head_bytes, subrectangle_bytes, subrectangle_of, is_inside, subrectangle_at, subrectangles_at, data_at}
+use Rattle.rre.specs.Grammar.{Fault, Outside, u32_at, head_bytes, subrectangle_bytes, subrectangle_of, is_inside, subrectangle_at, subrectangles_at, data_at}
 use Rattle.rre.specs.Measuring.{wants_of, judged, resume, measured}
 
 -- what is made of a value plays no part in how its bytes are judged

@@ -1,5 +1,5 @@
 -- What is left of data that are judged field by field.
-use Rattle.std.specs.Prelude.{◌≡◌, ℕ, suc, ◌+◌, ◌-◌, List, length, Option, Some, None, Result, Ok, Err}
+use Rattle.std.specs.Prelude.{ℕ, suc, ◌-◌, List, length, Option, Some, None, Result, Ok, Err}
 use Rattle.pixel_format.specs.Format.{Format}
 use Rattle.pixel_format.specs.Reading.{Reading, Got, More, Bad, ◌>>=◌}
 use Rattle.rre.specs.declared.fault.Measure.{Measure}

@@ -6,8 +6,10 @@ mod data;
 mod fault;
 mod laws;
 mod measuring;
+mod painting;
 
 pub use data::Subrectangle;
 pub use fault::Measure;
 pub use laws::{grammar_reads_data, no_data_begin_others, one_reading_of_data};
 pub use measuring::{Measuring, measure};
+pub use painting::paint;

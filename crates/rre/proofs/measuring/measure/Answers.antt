@@ -1,4 +1,4 @@
-use Rattle.std.proofs.Common.{◌≡◌, Ok, Err, sym, ◌∙◌}
+use Rattle.std.proofs.Common.{sym, ◌∙◌}
 use Rattle.rre.proofs.Refused.{if_measured, data_are_measured, measured_is_refused, refused_is_measured}
 use Rattle.rre.proofs.measuring.measure.Goals as goal
 

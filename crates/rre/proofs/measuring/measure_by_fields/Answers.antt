@@ -1,8 +1,8 @@
-use Rattle.std.proofs.Common.{◌≡◌, ◌<◌, ◌-◌, ◌∙◌, ◌++◌, sym, ap, refl, take, drop, length, arith, Some}
+use Rattle.std.proofs.Common.{◌<◌, ◌∙◌, sym, ap, refl, drop, length, arith}
 use Rattle.std.proofs.lemmas.List.{take_rest, take-append-drop, length-drop}
 use Rattle.std.proofs.lemmas.Result.{err_from_is_err_and}
-use Rattle.rre.specs.Grammar.{data_at, Outside}
-use Rattle.rre.specs.Measuring.{wants_of, resume, go_on, judged, measured}
+use Rattle.rre.specs.Grammar.{data_at}
+use Rattle.rre.specs.Measuring.{wants_of, resume, go_on, measured}
 use Rattle.rre.proofs.Steps.{field_waits, measured_judged}
 use Rattle.rre.proofs.measuring.measure_by_fields.Goals as goal
 
@@ -18,7 +18,7 @@ returns-then-rest-wants c =
     let short : length c.loop-next.rest.now < wants_of f c.in-Some.stage = rw (← c.wants-wants.ensures.value) c.if-rest-wants.true in
     let same = rw c.in-Some.is at c.loop-next.invariant.same in
     sym (sym (measured_judged size (data_at f c.args.w c.args.h c.args.bytes.now))
-          ∙ ap (measured size) (same ∙ field_waits f c.args.w c.args.h c.in-Some.stage c.loop-next.rest.now short))
+    ∙ ap (measured size) (same ∙ field_waits f c.args.w c.args.h c.in-Some.stage c.loop-next.rest.now short))
 
 pub returns-in_err-next : goal.returns-in_err-next
 unfolding go_on
@@ -31,7 +31,7 @@ returns-in_err-next c =
     let same = rw c.in-Some.is at c.loop-next.invariant.same in
     let judged_bad = same ∙ ap (resume f c.args.w c.args.h c.in-Some.stage) (sym (take-append-drop n rest)) ∙ c.in_err-next.ensures.refused (drop n rest) in
     rw (p.1, p.2, c.in_err-next.ensures.only)
-          (sym (sym (measured_judged size (data_at f c.args.w c.args.h c.args.bytes.now)) ∙ ap (measured size) judged_bad))
+    (sym (sym (measured_judged size (data_at f c.args.w c.args.h c.args.bytes.now)) ∙ ap (measured size) judged_bad))
 
 pub loop-next-preserved : goal.loop-next-preserved
 unfolding go_on

@@ -1,6 +1,6 @@
 use Rattle.std.proofs.Common.{◌≡◌, ◌∙◌, true, false, length, sym, ap}
-use Rattle.rre.specs.Grammar.{u32_at, head_bytes, subrectangle_bytes, subrectangle_of, is_inside, subrectangles_at}
-use Rattle.rre.specs.Measuring.{wants_of, resume, judged}
+use Rattle.rre.specs.Grammar.{head_bytes, subrectangle_bytes, subrectangle_of, is_inside, subrectangles_at}
+use Rattle.rre.specs.Measuring.{wants_of, judged}
 use Rattle.rre.proofs.Steps.{head_whole, part_inside, part_outside}
 use Rattle.rre.proofs.measuring.Measuring.step.Goals as goal
 
