@@ -1,5 +1,5 @@
 -- The colour of a pixel (RFC 6143, section 7.4).
-use Rattle.std.specs.Prelude.{ℕ, ◌+◌, ◌*◌, ◌/◌, ◌%◌, ◌^◌, List, [], ◌∷◌, if◌then◌else◌}
+use Rattle.std.specs.Prelude.{ℕ, ◌+◌, ◌*◌, ◌/◌, ◌%◌, ◌^◌, ◌≤◌, List, [], ◌∷◌, if◌then◌else◌}
 use Rattle.pixel_format.specs.declared.Color.{Color}
 use Rattle.pixel_format.specs.Format.{Channel, Format, host_format}
 
@@ -32,3 +32,31 @@ pixel_color f bytes = record {
 -- the colour of a pixel of a host
 abbrev pub host_color : List ℕ → Color
 host_color bytes = pixel_color host_format bytes
+
+-- the colour's channels are within the format's maxima
+pub record IsWithin (f : Format) (c : Color) : Type 0 where
+  pub red : c.r ≤ f.red.max
+  pub green : c.g ≤ f.green.max
+  pub blue : c.b ≤ f.blue.max
+
+-- the number of the pixel of a colour: each channel at its place, and the other bits 0
+abbrev pub color_number : Format → Color → ℕ
+color_number f c = c.r * 2 ^ f.red.shift + c.g * 2 ^ f.green.shift + c.b * 2 ^ f.blue.shift
+
+-- a colour of a screen: each channel is at most 255
+pub record IsScreenColor (c : Color) : Type 0 where
+  pub red : c.r ≤ 255
+  pub green : c.g ≤ 255
+  pub blue : c.b ≤ 255
+
+-- a channel of a screen, in proportion to another maximum, rounded to the nearest
+abbrev pub converted_channel : ℕ → ℕ → ℕ
+converted_channel max v = (v * max + 127) / 255
+
+-- a screen's colour, as a format has it
+abbrev pub converted : Format → Color → Color
+converted f c = record {
+  r = converted_channel f.red.max c.r;
+  g = converted_channel f.green.max c.g;
+  b = converted_channel f.blue.max c.b;
+}

@@ -1,8 +1,10 @@
-ghost use Rattle.std.specs.Prelude.{◌≡◌, ℕ, ◌/◌, ◌%◌, ◌+◌, ◌^◌, ◌<◌, ◌⊎◌, [], ◌∷◌, length};
+ghost use Rattle.std.specs.Prelude.{◌≡◌, ℕ, ◌/◌, ◌%◌, ◌+◌, ◌*◌, ◌^◌, ◌<◌, ◌≤◌, ◌⊎◌, ◌||◌, ◌&&◌, nat_eq, nat_lt, bit_and, [], ◌∷◌, length, Ok};
 ghost use Rattle.pixel_format.specs.Format.{Format, pixel_bytes, host_format};
-ghost use Rattle.pixel_format.specs.Pixel.{pixel_number, channel_value, pixel_color, host_color};
+ghost use Rattle.pixel_format.specs.Written.{channel_at, format_of, format_at, format_bytes, is_ones};
+ghost use Rattle.pixel_format.specs.Pixel.{pixel_number, channel_value, pixel_color, host_color, IsWithin, color_number, IsScreenColor, converted, converted_channel};
 
 use crate::Color;
+use crate::fault::FormatFault;
 use std::marker::Model;
 
 /// A true-color pixel format that is valid (RFC 6143, section 7.4): a pixel has 8, 16 or 32 bits,
@@ -22,6 +24,14 @@ pub struct PixelFormat {
 struct Channel {
     max: u16,
     shift: u8,
+}
+
+// The three channels of a format.
+#[derive(Clone, Copy)]
+struct Channels {
+    red: Channel,
+    green: Channel,
+    blue: Channel,
 }
 
 impl Model for PixelFormat {
@@ -67,6 +77,67 @@ impl PixelFormat {
         }
     }
 
+    /// The format that 16 bytes say (RFC 6143, section 7.4), or the first test that they fail. A flag
+    /// is true when it is not 0; depth is kept and plays no part.
+    pub fn read(bytes: &[u8; 16]) -> Result<PixelFormat, FormatFault>
+        ensures { result ≡ format_at bytes.now }
+    {
+        let bits = bytes[0];
+        let channels = Channels::at(bytes);
+        if !is_pixel_width(bits) {
+            return Err(FormatFault::BadBits);
+        }
+        if bytes[3] == 0 {
+            return Err(FormatFault::NoTrueColor);
+        }
+        if !channels.are_full() {
+            return Err(FormatFault::BadMax);
+        }
+        if !channels.are_inside(bits) {
+            return Err(FormatFault::FieldOutside);
+        }
+        if !channels.are_apart() {
+            return Err(FormatFault::FieldsOverlap);
+        }
+        Ok(PixelFormat {
+            bits,
+            depth: bytes[1],
+            big_endian: bytes[2] != 0,
+            red: channels.red,
+            green: channels.green,
+            blue: channels.blue,
+        })
+    }
+
+    /// The format's 16 bytes (RFC 6143, section 7.4). A flag that is true is written as 1, padding as
+    /// 0.
+    pub fn write(&self) -> [u8; 16]
+        ensures bytes { result ≡ format_bytes self.now }
+        ensures read { format_at result ≡ Ok self.now }
+    {
+        let [red_high, red_low] = self.red.max.to_be_bytes();
+        let [green_high, green_low] = self.green.max.to_be_bytes();
+        let [blue_high, blue_low] = self.blue.max.to_be_bytes();
+        [
+            self.bits,
+            self.depth,
+            self.big_endian as u8,
+            1,
+            red_high,
+            red_low,
+            green_high,
+            green_low,
+            blue_high,
+            blue_low,
+            self.red.shift,
+            self.green.shift,
+            self.blue.shift,
+            0,
+            0,
+            0,
+        ]
+    }
+
     /// How many bytes a pixel takes: 1, 2 or 4.
     pub fn bytes(&self) -> usize
         ensures value { result ≡ pixel_bytes self.now }
@@ -88,6 +159,53 @@ impl PixelFormat {
         }
     }
 
+    /// Writes the pixel of a colour, its bytes as they stand on the wire. Bits that belong to no
+    /// channel are 0.
+    pub fn put(&self, color: Color, bytes: &mut [u8])
+        requires whole { length bytes.old ≡ pixel_bytes self.now }
+        requires within { IsWithin self.now color }
+        ensures number { pixel_number self.now bytes.new ≡ color_number self.now color }
+        ensures color { pixel_color self.now bytes.new ≡ color }
+    {
+        let red = placed(self.red, color.r);
+        let green = placed(self.green, color.g);
+        let blue = placed(self.blue, color.b);
+        self.put_number(red + green + blue, bytes);
+    }
+
+    /// A colour of a screen, as this format has it: each channel in proportion, rounded to the
+    /// nearest.
+    pub fn convert(&self, color: Color) -> Color
+        requires { IsScreenColor color }
+        ensures value { result ≡ converted self.now color }
+        ensures within { IsWithin self.now result }
+    {
+        Color {
+            r: proportion(color.r, self.red.max),
+            g: proportion(color.g, self.green.max),
+            b: proportion(color.b, self.blue.max),
+        }
+    }
+
+    // Writes the pixel of a number.
+    fn put_number(&self, number: u32, bytes: &mut [u8])
+        requires whole { length bytes.old ≡ pixel_bytes self.now }
+        requires fits { number < 2 ^ self.now.bits }
+        ensures { pixel_number self.now bytes.new ≡ number }
+    {
+        if self.bits == 8 {
+            bytes.copy_from_slice(&[number as u8]);
+        } else if self.bits == 16 && self.big_endian {
+            bytes.copy_from_slice(&(number as u16).to_be_bytes());
+        } else if self.bits == 16 {
+            bytes.copy_from_slice(&(number as u16).to_le_bytes());
+        } else if self.big_endian {
+            bytes.copy_from_slice(&number.to_be_bytes());
+        } else {
+            bytes.copy_from_slice(&number.to_le_bytes());
+        }
+    }
+
     // The number of a pixel.
     fn number(&self, bytes: &[u8]) -> u32
         requires { length bytes.now ≡ pixel_bytes self.now }
@@ -104,6 +222,95 @@ impl PixelFormat {
     }
 }
 
+// Whether a pixel may have so many bits.
+fn is_pixel_width(bits: u8) -> bool
+    ensures { result ≡ (nat_eq bits 8 || nat_eq bits 16 || nat_eq bits 32) }
+{
+    bits == 8 || bits == 16 || bits == 32
+}
+
+impl Channels {
+    // What stands in a format's bytes.
+    fn at(bytes: &[u8; 16]) -> Channels
+        ensures red { (result.red.max ≡ (format_of bytes.now).red.max) × (result.red.shift ≡ (format_of bytes.now).red.shift) }
+        ensures green { (result.green.max ≡ (format_of bytes.now).green.max) × (result.green.shift ≡ (format_of bytes.now).green.shift) }
+        ensures blue { (result.blue.max ≡ (format_of bytes.now).blue.max) × (result.blue.shift ≡ (format_of bytes.now).blue.shift) }
+    {
+        Channels {
+            red: Channel::at(bytes, 4, 10),
+            green: Channel::at(bytes, 6, 11),
+            blue: Channel::at(bytes, 8, 12),
+        }
+    }
+
+    fn are_full(self) -> bool
+        ensures { result ≡ (is_ones 16 self.red.max && is_ones 16 self.green.max && is_ones 16 self.blue.max) }
+    {
+        self.red.is_full() && self.green.is_full() && self.blue.is_full()
+    }
+
+    fn are_inside(self, bits: u8) -> bool
+        requires { (bits ≡ 8) ⊎ ((bits ≡ 16) ⊎ (bits ≡ 32)) }
+        ensures { result ≡ (nat_lt (self.red.max * 2 ^ self.red.shift) (2 ^ bits) && nat_lt (self.green.max * 2 ^ self.green.shift) (2 ^ bits)
+            && nat_lt (self.blue.max * 2 ^ self.blue.shift) (2 ^ bits)) }
+    {
+        self.red.is_inside(bits) && self.green.is_inside(bits) && self.blue.is_inside(bits)
+    }
+
+    fn are_apart(self) -> bool
+        requires red { self.red.max * 2 ^ self.red.shift < 2 ^ 32 }
+        requires green { self.green.max * 2 ^ self.green.shift < 2 ^ 32 }
+        requires blue { self.blue.max * 2 ^ self.blue.shift < 2 ^ 32 }
+        ensures { result ≡ (nat_eq (bit_and (self.red.max * 2 ^ self.red.shift) (self.green.max * 2 ^ self.green.shift)) 0
+            && nat_eq (bit_and (self.red.max * 2 ^ self.red.shift) (self.blue.max * 2 ^ self.blue.shift)) 0
+            && nat_eq (bit_and (self.green.max * 2 ^ self.green.shift) (self.blue.max * 2 ^ self.blue.shift)) 0) }
+    {
+        self.red.is_apart(self.green)
+            && self.red.is_apart(self.blue)
+            && self.green.is_apart(self.blue)
+    }
+}
+
+impl Channel {
+    // The channel whose maximum and shift stand at these places.
+    fn at(bytes: &[u8; 16], max: usize, shift: usize) -> Channel
+        requires max { max < 15 }
+        requires shift { shift < 16 }
+        ensures max { result.max ≡ (channel_at bytes.now max shift).max }
+        ensures shift { result.shift ≡ (channel_at bytes.now max shift).shift }
+    {
+        Channel {
+            max: u16::from_be_bytes([bytes[max], bytes[max + 1]]),
+            shift: bytes[shift],
+        }
+    }
+
+    // Whether the maximum is one less than a power of two.
+    fn is_full(self) -> bool
+        ensures { result ≡ is_ones 16 self.max }
+    {
+        self.max as u32 == 0xffff_u32 >> self.max.leading_zeros()
+    }
+
+    // Whether the channel's bits lie in a pixel of so many bits.
+    fn is_inside(self, bits: u8) -> bool
+        requires { (bits ≡ 8) ⊎ ((bits ≡ 16) ⊎ (bits ≡ 32)) }
+        ensures { result ≡ nat_lt (self.max * 2 ^ self.shift) (2 ^ bits) }
+    {
+        self.max == 0
+            || (self.shift < bits && (self.max as u64) << self.shift < 1 << bits)
+    }
+
+    // Whether no bit is one of both channels, whose bits lie in 32 bits.
+    fn is_apart(self, other: Channel) -> bool
+        requires one { self.max * 2 ^ self.shift < 2 ^ 32 }
+        requires other { other.max * 2 ^ other.shift < 2 ^ 32 }
+        ensures { result ≡ nat_eq (bit_and (self.max * 2 ^ self.shift) (other.max * 2 ^ other.shift)) 0 }
+    {
+        placed(self, self.max) & placed(other, other.max) == 0
+    }
+}
+
 // The value of a channel in a pixel's number. A channel of maximum 0 may have a shift beyond it.
 fn value_of(channel: Channel, number: u32) -> u16
     ensures { result ≡ number / 2 ^ channel.shift % (channel.max + 1) }
@@ -112,6 +319,28 @@ fn value_of(channel: Channel, number: u32) -> u16
         return 0;
     }
     ((number >> channel.shift) % (channel.max as u32 + 1)) as u16
+}
+
+// A value of a channel, at its place in a pixel's number. Where the maximum is 0, the shift may lie
+// beyond the number.
+fn placed(channel: Channel, value: u16) -> u32
+    requires within { value ≤ channel.max }
+    requires fits { channel.max * 2 ^ channel.shift < 2 ^ 32 }
+    ensures { result ≡ value * 2 ^ channel.shift }
+{
+    if value == 0 {
+        return 0;
+    }
+    (value as u32) << channel.shift
+}
+
+// A value of at most 255, in proportion to another maximum.
+fn proportion(value: u16, max: u16) -> u16
+    requires { value ≤ 255 }
+    ensures value { result ≡ converted_channel max value }
+    ensures within { result ≤ max }
+{
+    ((value as u32 * max as u32 + 127) / 255) as u16
 }
 
 /// A pixel of the host format: its bytes are blue, green, red, and one that plays no part. (A law:

@@ -3,10 +3,14 @@
 #![tactic(auto)]
 
 mod canvas;
+mod fault;
 mod format;
+mod laws;
 
 pub use canvas::Canvas;
+pub use fault::FormatFault;
 pub use format::{PixelFormat, host_pixel};
+pub use laws::{valid_formats, written_as_read};
 
 /// The fault of want of memory.
 pub type NoMemory = std::alloc::AllocError;

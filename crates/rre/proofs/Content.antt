@@ -8,7 +8,7 @@ use Rattle.pixel_format.specs.Reading.{Got, Bad, ◌>>=◌, field, guard}
 use Rattle.pixel_format.proofs.Readings.{bind_got, guard_got, FieldIs, field_got, field-whole, true_or_false}
 use Rattle.rre.specs.declared.data.Subrectangle.{Subrectangle}
 use Rattle.rre.specs.Grammar.{Content, Fault, Outside, u32_at, head_bytes, subrectangle_bytes, subrectangle_of, is_inside, subrectangle_at, subrectangles_at, data_at}
-use Rattle.rre.specs.Data.{IsWithin, AreBytesOf, AreSubrectangles, IsHead, IsData, IsRefused}
+use Rattle.rre.specs.Data.{LiesWithin, AreBytesOf, AreSubrectangles, IsHead, IsData, IsRefused}
 use Rattle.rre.proofs.Steps.{subrectangle_whole}
 
 -- ---- fields
@@ -45,17 +45,17 @@ bytes_subrectangle f s bytes b =
     let behind : drop (pixel_bytes f) bytes ≡ b.area = rw b.bytes_are (drop_at b.pixel b.area (pixel_bytes f) b.pixel_length) in
     rw (front, behind, ← b.x_is, ← b.y_is, ← b.w_is, ← b.h_is, ← b.color_is) refl
 
-pub within_is : (w h : ℕ) (s : Subrectangle) → is_inside w h s ≡ true → IsWithin w h s
+pub within_is : (w h : ℕ) (s : Subrectangle) → is_inside w h s ≡ true → LiesWithin w h s
 unfolding is_inside
 within_is w h s e =
     let parts = and_parts _ _ e in
     record { columns = leb-true _ _ parts.0; rows = leb-true _ _ parts.1 }
 
-pub inside_is : (w h : ℕ) (s : Subrectangle) → IsWithin w h s → is_inside w h s ≡ true
+pub inside_is : (w h : ℕ) (s : Subrectangle) → LiesWithin w h s → is_inside w h s ≡ true
 unfolding is_inside
 inside_is w h s is = rw (le-leb (s.x + s.w) w is.columns, le-leb (s.y + s.h) h is.rows) refl
 
-outside_is : (w h : ℕ) (s : Subrectangle) → (IsWithin w h s → ⊥) → is_inside w h s ≡ false
+outside_is : (w h : ℕ) (s : Subrectangle) → (LiesWithin w h s → ⊥) → is_inside w h s ≡ false
 outside_is w h s leaves = elim (true_or_false (is_inside w h s)) [
   | inl t ↦ absurd (leaves (within_is w h s t))
   | inr t ↦ t
@@ -67,7 +67,7 @@ pub record SubrectangleRead (f : Format) (w h : ℕ) (bytes : List ℕ) (s : Sub
   pub first : List ℕ
   pub bytes_are : bytes ≡ first ++ rest
   pub is : AreBytesOf f s first
-  pub within : IsWithin w h s
+  pub within : LiesWithin w h s
 
 pub subrectangle_read : (f : Format) (w h : ℕ) (bytes : List ℕ) (s : Subrectangle) (rest : List ℕ) → subrectangle_at f w h bytes ≡ Got s rest
     → SubrectangleRead f w h bytes s rest
@@ -83,16 +83,16 @@ subrectangle_read f w h bytes s rest e =
       first = b.value;
       bytes_are = k.0 ∙ ap (λ z. b.value ++ z) rest_is;
       is = subst (λ (z : Subrectangle). AreBytesOf f z b.value) is (bytes_of_field f b.value k.1);
-      within = subst (λ (z : Subrectangle). IsWithin w h z) is (within_is w h (subrectangle_of f b.value) g.0);
+      within = subst (λ (z : Subrectangle). LiesWithin w h z) is (within_is w h (subrectangle_of f b.value) g.0);
     }
 
-subrectangle_again : (f : Format) (w h : ℕ) (s : Subrectangle) (first more : List ℕ) → AreBytesOf f s first → IsWithin w h s
+subrectangle_again : (f : Format) (w h : ℕ) (s : Subrectangle) (first more : List ℕ) → AreBytesOf f s first → LiesWithin w h s
     → subrectangle_at f w h (first ++ more) ≡ Got s more
 subrectangle_again f w h s first more is within =
     subrectangle_whole f w h first more (bytes_length f s first is)
     ∙ rw (bytes_subrectangle f s first is, inside_is w h s within) refl
 
-subrectangle_refused : (f : Format) (w h : ℕ) (s : Subrectangle) (first more : List ℕ) → AreBytesOf f s first → (IsWithin w h s → ⊥)
+subrectangle_refused : (f : Format) (w h : ℕ) (s : Subrectangle) (first more : List ℕ) → AreBytesOf f s first → (LiesWithin w h s → ⊥)
     → subrectangle_at f w h (first ++ more) ≡ Bad Outside
 subrectangle_refused f w h s first more is leaves =
     subrectangle_whole f w h first more (bytes_length f s first is)
@@ -135,7 +135,7 @@ subrectangles_again f w h (s ∷ ss) body more are =
     rw (all, subrectangle_again f w h s are.0 (are.1 ++ more) are.3 are.4, subrectangles_again f w h ss are.1 more are.5) refl
 
 subrectangles_refused : (f : Format) (w h : ℕ) (earlier : List Subrectangle) (count : ℕ) (body : List ℕ) (outside : Subrectangle) (field more : List ℕ)
-    → AreSubrectangles f w h earlier body → length earlier < count → AreBytesOf f outside field → (IsWithin w h outside → ⊥)
+    → AreSubrectangles f w h earlier body → length earlier < count → AreBytesOf f outside field → (LiesWithin w h outside → ⊥)
     → subrectangles_at f w h count (body ++ (field ++ more)) ≡ Bad Outside
 unfolding subrectangles_at
 subrectangles_refused f w h earlier zero body outside field more are less is leaves = absurd (omega arith)

@@ -8,7 +8,7 @@ use Rattle.pixel_format.specs.Pixel.{pixel_color}
 use Rattle.pixel_format.specs.Canvas.{Picture, covers, filled, Agree}
 use Rattle.rre.specs.declared.data.Subrectangle.{Subrectangle}
 use Rattle.rre.specs.Grammar.{Content, head_bytes, subrectangle_bytes, subrectangle_of}
-use Rattle.rre.specs.Data.{IsWithin, AreSubrectangles, IsData}
+use Rattle.rre.specs.Data.{LiesWithin, AreSubrectangles, IsData}
 use Rattle.rre.specs.Picture.{is_covered, picture_of, painted_over}
 use Rattle.rre.proofs.Content.{bytes_length, bytes_subrectangle, head_length, head_pixel}
 use Rattle.rre.proofs.Covering.{in_is, shifted, part_outside}
@@ -23,7 +23,7 @@ pub one_more : (background : Color) (done : List Subrectangle) (s : Subrectangle
 one_more background done s column row = rw (reverse-append done (s ∷ [])) refl
 
 -- one subrectangle more is painted
-pub part_painted : (x y w h : ℕ) (background : Color) (done : List Subrectangle) (s : Subrectangle) (before : Picture) (column row : ℕ) → IsWithin w h s
+pub part_painted : (x y w h : ℕ) (background : Color) (done : List Subrectangle) (s : Subrectangle) (before : Picture) (column row : ℕ) → LiesWithin w h s
     → filled (x + s.x) (y + s.y) s.w s.h s.color (painted_over x y w h (content_of background done) before) column row
     ≡ painted_over x y w h (content_of background (done ++ s ∷ [])) before column row
 part_painted x y w h background done s before column row within =
@@ -71,7 +71,7 @@ pub record NextIs (f : Format) (w h : ℕ) (others : List Subrectangle) (rest : 
   pub others_are : others ≡ part ∷ later
   pub enough : subrectangle_bytes f ≤ length rest
   pub is : subrectangle_of f (take (subrectangle_bytes f) rest) ≡ part
-  pub within : IsWithin w h part
+  pub within : LiesWithin w h part
   pub left : AreSubrectangles f w h later (drop (subrectangle_bytes f) rest)
 
 pub next_is : (f : Format) (w h : ℕ) (others : List Subrectangle) (rest : List ℕ) → AreSubrectangles f w h others rest → 0 < length rest

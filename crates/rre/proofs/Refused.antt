@@ -10,7 +10,7 @@ use Rattle.rre.specs.declared.data.Subrectangle.{Subrectangle}
 use Rattle.rre.specs.declared.fault.Measure.{Measure}
 use Rattle.rre.specs.declared.fault.Measure.TheVariants as answers
 use Rattle.rre.specs.Grammar.{Fault, Outside, u32_at, head_bytes, subrectangle_bytes, subrectangle_of, is_inside, subrectangle_at, subrectangles_at, data_at}
-use Rattle.rre.specs.Data.{IsWithin, AreBytesOf, AreSubrectangles, IsData, AreData, IsRefused}
+use Rattle.rre.specs.Data.{LiesWithin, AreBytesOf, AreSubrectangles, IsData, AreData, IsRefused}
 use Rattle.rre.specs.Measuring.{measured}
 use Rattle.rre.proofs.Content.{field_front, bytes_of_field, inside_is, subrectangle_read, head_is, data_read, data_again, refused_again}
 
@@ -53,7 +53,7 @@ record Leaves (f : Format) (w h : ℕ) (bytes : List ℕ) : Type 0 where
   pub outside : Subrectangle
   pub bytes_are : bytes ≡ field ++ more
   pub is : AreBytesOf f outside field
-  pub leaves : IsWithin w h outside → ⊥
+  pub leaves : LiesWithin w h outside → ⊥
 
 subrectangle_bad : (f : Format) (w h : ℕ) (bytes : List ℕ) → subrectangle_at f w h bytes ≡ Bad Outside → Leaves f w h bytes
 unfolding subrectangle_at

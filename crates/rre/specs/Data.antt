@@ -7,7 +7,7 @@ use Rattle.rre.specs.declared.data.Subrectangle.{Subrectangle}
 use Rattle.rre.specs.Grammar.{Content, u16_at, u32_at}
 
 -- the subrectangle lies within a rectangle of w by h
-pub record IsWithin (w h : ℕ) (s : Subrectangle) : Type 0 where
+pub record LiesWithin (w h : ℕ) (s : Subrectangle) : Type 0 where
   pub columns : s.x + s.w ≤ w
   pub rows : s.y + s.h ≤ h
 
@@ -28,7 +28,7 @@ pub record AreBytesOf (f : Format) (s : Subrectangle) (bytes : List ℕ) : Type 
 abbrev pub AreSubrectangles : Format → ℕ → ℕ → List Subrectangle → List ℕ → Type 0
 AreSubrectangles f w h [] bytes = bytes ≡ []
 AreSubrectangles f w h (s ∷ others) bytes =
-    (first : List ℕ) × (rest : List ℕ) × (bytes ≡ first ++ rest) × AreBytesOf f s first × IsWithin w h s × AreSubrectangles f w h others rest
+    (first : List ℕ) × (rest : List ℕ) × (bytes ≡ first ++ rest) × AreBytesOf f s first × LiesWithin w h s × AreSubrectangles f w h others rest
 
 -- how many subrectangles follow, in four bytes, and the background's pixel
 pub record IsHead (f : Format) (head : List ℕ) (count : ℕ) (pixel : List ℕ) : Type 0 where
@@ -67,4 +67,4 @@ pub record IsRefused (f : Format) (w h : ℕ) (bytes : List ℕ) : Type 0 where
   pub body_is : AreSubrectangles f w h earlier body
   pub one_of_them : length earlier < count
   pub field_is : AreBytesOf f outside field
-  pub leaves : IsWithin w h outside → ⊥
+  pub leaves : LiesWithin w h outside → ⊥

@@ -5,7 +5,7 @@ use Rattle.pixel_format.specs.Format.{Format, pixel_bytes}
 use Rattle.pixel_format.specs.Pixel.{pixel_color}
 use Rattle.rre.specs.declared.data.Subrectangle.{Subrectangle}
 use Rattle.rre.specs.Grammar.{head_bytes, subrectangle_bytes, subrectangle_of}
-use Rattle.rre.specs.Data.{IsWithin, AreSubrectangles}
+use Rattle.rre.specs.Data.{LiesWithin, AreSubrectangles}
 use Rattle.rre.proofs.Painted.{begun, next_is, progress_begins, progress_goes, progress_ends}
 use Rattle.rre.proofs.painting.paint.Goals as goal
 
@@ -25,10 +25,10 @@ part_taken f n field rest part is e same = same ∙ ap (subrectangle_of f) (e �
 
 -- it lies within the rectangle
 part_within : (f : Format) (w h : ℕ) (others : List Subrectangle) (rest : List ℕ) (part : Subrectangle) → AreSubrectangles f w h others rest → 0 < length rest
-    → part ≡ subrectangle_of f (take (subrectangle_bytes f) rest) → IsWithin w h part
+    → part ≡ subrectangle_of f (take (subrectangle_bytes f) rest) → LiesWithin w h part
 part_within f w h others rest part are some same =
     let next = next_is f w h others rest are some in
-    subst (λ (s : Subrectangle). IsWithin w h s) (sym (same ∙ next.is)) next.within
+    subst (λ (s : Subrectangle). LiesWithin w h s) (sym (same ∙ next.is)) next.within
 
 pub loop-rest-init : goal.loop-rest-init
 loop-rest-init g c =

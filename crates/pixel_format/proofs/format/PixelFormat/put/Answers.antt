@@ -1,0 +1,39 @@
+use Rattle.std.proofs.Common.{◌≡◌, ℕ, ◌+◌, ◌∙◌, ◌<◌, ◌^◌, refl, arith}
+use Rattle.pixel_format.specs.Format.{IsValid}
+use Rattle.pixel_format.specs.Pixel.{color_number}
+use Rattle.pixel_format.proofs.Lanes.{placed_apart, Placed, color_found, below_32}
+use Rattle.pixel_format.proofs.format.PixelFormat.put.Goals as goal
+
+pub put_number-requires-clause-fits : goal.put_number-requires-clause-fits
+put_number-requires-clause-fits c =
+    let p = placed_apart c.args.self.now c.args.color.r c.args.color.g c.args.color.b (rw (← c.self.view_is) c.self.invariant) c.requires.within.red c.requires.within.green c.requires.within.blue in
+    let number : c.placed-red.result + c.placed-green.result + c.placed-blue.result ≡ color_number c.args.self.now c.args.color =
+    rw (c.placed-red.ensures, c.placed-green.ensures, c.placed-blue.ensures, ← c.self.view_is) refl in
+    rw number p.below
+
+pub overflow_add-red-2 : goal.overflow_add-red-2
+overflow_add-red-2 c =
+    let valid : IsValid c.args.self.now = rw (← c.self.view_is) c.self.invariant in
+    let p = placed_apart c.args.self.now c.args.color.r c.args.color.g c.args.color.b valid c.requires.within.red c.requires.within.green c.requires.within.blue in
+    let number : c.placed-red.result + c.placed-green.result + c.placed-blue.result ≡ color_number c.args.self.now c.args.color =
+    rw (c.placed-red.ensures, c.placed-green.ensures, c.placed-blue.ensures, ← c.self.view_is) refl in
+    let all : color_number c.args.self.now c.args.color < 2 ^ 32 = below_32 c.args.self.now.bits (color_number c.args.self.now c.args.color) valid.whole p.below in
+    let both : c.placed-red.result + c.placed-green.result + c.placed-blue.result < 2 ^ 32 = rw number all in
+    omega arith
+
+pub overflow_add-red : goal.overflow_add-red
+overflow_add-red c =
+    let valid : IsValid c.args.self.now = rw (← c.self.view_is) c.self.invariant in
+    let p = placed_apart c.args.self.now c.args.color.r c.args.color.g c.args.color.b valid c.requires.within.red c.requires.within.green c.requires.within.blue in
+    let number : c.placed-red.result + c.placed-green.result + c.placed-blue.result ≡ color_number c.args.self.now c.args.color =
+    rw (c.placed-red.ensures, c.placed-green.ensures, c.placed-blue.ensures, ← c.self.view_is) refl in
+    let all : color_number c.args.self.now c.args.color < 2 ^ 32 = below_32 c.args.self.now.bits (color_number c.args.self.now c.args.color) valid.whole p.below in
+    let both : c.placed-red.result + c.placed-green.result + c.placed-blue.result < 2 ^ 32 = rw number all in
+    omega arith
+
+pub returns-clause-color : goal.returns-clause-color
+returns-clause-color c =
+    let p = placed_apart c.args.self.now c.args.color.r c.args.color.g c.args.color.b (rw (← c.self.view_is) c.self.invariant) c.requires.within.red c.requires.within.green c.requires.within.blue in
+    let number : c.placed-red.result + c.placed-green.result + c.placed-blue.result ≡ color_number c.args.self.now c.args.color =
+    rw (c.placed-red.ensures, c.placed-green.ensures, c.placed-blue.ensures, ← c.self.view_is) refl in
+    color_found c.args.self.now c.args.color c.put_number.new.bytes p (c.put_number.ensures ∙ number)
