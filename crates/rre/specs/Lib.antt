@@ -4,3 +4,4 @@ pub mod Grammar
 pub mod Data
 pub mod Picture
 pub mod Measuring
+pub mod Encoded

@@ -2,6 +2,7 @@
 //! a rectangle are a background, and subrectangles of one colour each which are painted over it.
 #![tactic(auto)]
 
+mod cover;
 mod data;
 mod fault;
 mod laws;
