@@ -1,11 +1,12 @@
 -- What an encoder makes of colours by rows: a background, and subrectangles of one colour each.
-use Rattle.std.specs.Prelude.{◌≡◌, ℕ, ◌+◌, ◌*◌, ◌<◌, ◌≤◌, ◌⊎◌, List, [], ◌∷◌, length, slice_index, slice_index_or}
+use Rattle.std.specs.Prelude.{◌≡◌, ℕ, ◌+◌, ◌*◌, ◌<◌, ◌≤◌, ◌⊎◌, List, [], ◌∷◌, ◌++◌, length, slice_index, slice_index_or}
 use Rattle.pixel_format.specs.declared.Color.{Color}
-use Rattle.pixel_format.specs.Format.{Format}
+use Rattle.pixel_format.specs.Format.{Format, pixel_bytes}
+use Rattle.pixel_format.specs.Pixel.{pixel_color}
 use Rattle.pixel_format.specs.Canvas.{Picture, Agree}
 use Rattle.rre.specs.declared.data.Subrectangle.{Subrectangle}
-use Rattle.rre.specs.Grammar.{Content}
-use Rattle.rre.specs.Data.{LiesWithin, IsData}
+use Rattle.rre.specs.Grammar.{Content, u16_at}
+use Rattle.rre.specs.Data.{LiesWithin, AreBytesOf, IsHead, IsData}
 use Rattle.rre.specs.Picture.{picture_of}
 
 abbrev pub black : Color
@@ -54,3 +55,43 @@ pub record Reaches (colors : List Color) (w h : ℕ) (background : Color) (parts
       → (part_picture background parts c r ≡ rows_of colors w c r) ⊎ (part_picture background parts c r ≡ background)
   pub before : (c r : ℕ) → c < w → r < h → StandsBefore c r column row → part_picture background parts c r ≡ rows_of colors w c r
   pub below : (c r : ℕ) → c < w → r < h → row ≤ r → r < slice_index reach c → part_picture background parts c r ≡ rows_of colors w c r
+
+-- ---- what is appended
+
+-- bytes of which this holds stand behind the old ones
+pub record Appends (P : List ℕ → Type 0) (old new : List ℕ) : Type 0 where
+  pub bytes : List ℕ
+  pub is : new ≡ old ++ bytes
+  pub are : P bytes
+
+-- some bytes
+abbrev pub Grows : List ℕ → List ℕ → Type 0
+Grows = Appends (λ _. Unit {0})
+
+pub record IsPixelOf (f : Format) (color : Color) (bytes : List ℕ) : Type 0 where
+  pub size : length bytes ≡ pixel_bytes f
+  pub color_is : pixel_color f bytes ≡ color
+
+-- the x, y, width and height of a subrectangle
+pub record IsAreaOf (s : Subrectangle) (bytes : List ℕ) : Type 0 where
+  pub size : length bytes ≡ 8
+  pub x_is : s.x ≡ u16_at bytes 0
+  pub y_is : s.y ≡ u16_at bytes 2
+  pub w_is : s.w ≡ u16_at bytes 4
+  pub h_is : s.h ≡ u16_at bytes 6
+
+-- subrectangles one behind the other
+abbrev pub AreBytesOfAll : Format → List Subrectangle → List ℕ → Type 0
+AreBytesOfAll f [] bytes = bytes ≡ []
+AreBytesOfAll f (s ∷ ss) bytes =
+    (first : List ℕ) × (rest : List ℕ) × (bytes ≡ first ++ rest) × AreBytesOf f s first × AreBytesOfAll f ss rest
+
+-- a head, and subrectangles wherever they lie
+pub record IsWritten (f : Format) (background : Color) (parts : List Subrectangle) (bytes : List ℕ) : Type 0 where
+  pub head : List ℕ
+  pub pixel : List ℕ
+  pub body : List ℕ
+  pub bytes_are : bytes ≡ head ++ body
+  pub head_is : IsHead f head (length parts) pixel
+  pub background_is : pixel_color f pixel ≡ background
+  pub body_is : AreBytesOfAll f parts body

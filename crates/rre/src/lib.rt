@@ -2,14 +2,17 @@
 //! a rectangle are a background, and subrectangles of one colour each which are painted over it.
 #![tactic(auto)]
 
+mod append;
 mod cover;
 mod data;
+mod encoding;
 mod fault;
 mod laws;
 mod measuring;
 mod painting;
 
 pub use data::Subrectangle;
+pub use encoding::encode;
 pub use fault::Measure;
 pub use laws::{grammar_reads_data, no_data_begin_others, one_reading_of_data};
 pub use measuring::{Measuring, measure};

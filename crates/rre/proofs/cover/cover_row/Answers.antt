@@ -1,6 +1,6 @@
-use Rattle.std.proofs.Common.{◌≡◌, ◌+◌, ◌≤◌, arith, length}
+use Rattle.std.proofs.Common.{arith, length}
 use Rattle.rre.specs.Encoded.{IsUniform}
-use Rattle.rre.proofs.Encoding.{part_listed}
+use Rattle.rre.proofs.Listed.{part_listed}
 use Rattle.rre.proofs.cover.cover_row.Goals as goal
 
 pub loop-column-preserved : goal.loop-column-preserved

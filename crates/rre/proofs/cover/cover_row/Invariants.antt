@@ -1,4 +1,4 @@
-use Rattle.std.proofs.Common.{◌≡◌, ◌-◌, ◌≤◌, length}
+use Rattle.std.proofs.Common.{◌-◌, ◌≤◌, length}
 use Rattle.rre.specs.Encoded.{Reaches}
 use Rattle.rre.proofs.cover.cover_row.Given as goal
 

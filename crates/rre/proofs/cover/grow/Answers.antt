@@ -1,4 +1,4 @@
-use Rattle.std.proofs.Common.{◌≡◌, ℕ, ◌+◌, ◌*◌, ◌<◌, ◌≤◌, inl, inr, refl, arith, ap, sym, ◌∙◌, length}
+use Rattle.std.proofs.Common.{◌≡◌, ◌+◌, ◌*◌, inl, inr, refl, arith, ap, ◌∙◌, length}
 use Rattle.std.proofs.lemmas.Bool.{cases_lt}
 use Rattle.rre.specs.Encoded.{nth}
 use Rattle.rre.proofs.cover.grow.Goals as goal

@@ -1,4 +1,4 @@
-use Rattle.std.proofs.Common.{◌≡◌, ℕ, ◌+◌, ◌<◌, cond, slice_index}
+use Rattle.std.proofs.Common.{◌≡◌, ℕ, cond, slice_index}
 use Rattle.std.specs.Prelude.{nat_lt, nat_le, ◌&&◌}
 use Rattle.rre.proofs.cover.raise.Given as goal
 

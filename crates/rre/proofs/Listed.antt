@@ -1,11 +1,11 @@
 -- Covering the places of a row, one subrectangle after the other.
-use Rattle.std.proofs.Common.{◌≡◌, ℕ, ◌+◌, ◌-◌, ◌*◌, ◌<◌, ◌≤◌, ◌⊎◌, inl, inr, Bool, true, false, cond, List, [], ◌∷◌, ◌++◌, length, slice_index, refl, sym, ap, ◌∙◌, arith, length-append}
+use Rattle.std.proofs.Common.{◌≡◌, ℕ, ◌+◌, ◌-◌, ◌⊎◌, inl, inr, cond, List, [], ◌∷◌, ◌++◌, slice_index, refl, sym, ◌∙◌, arith, length-append}
 use Rattle.std.specs.Prelude.{nat_le, nat_lt, ◌&&◌}
 use Rattle.std.proofs.lemmas.Bool.{cases_Bool, cases_lt, le-leb, lt-ltb, lt-leb, le-ltb}
 use Rattle.pixel_format.specs.declared.Color.{Color}
 use Rattle.pixel_format.specs.Canvas.{covers}
 use Rattle.rre.specs.declared.data.Subrectangle.{Subrectangle}
-use Rattle.rre.specs.Encoded.{rows_of, IsUniform, AreUniform, StandsBefore, part_picture, Reaches}
+use Rattle.rre.specs.Encoded.{rows_of, IsUniform, AreUniform, part_picture, Reaches}
 use Rattle.rre.proofs.Covering.{IsIn, in_is, is_in}
 use Rattle.rre.proofs.Painted.{one_more}
 
