@@ -1,5 +1,6 @@
-ghost use Rattle.std.specs.Prelude.{◌≡◌, ℕ, ◌/◌, ◌%◌, length, ◌<◌, ◌≤◌, ◌+◌, ◌*◌, ◌∷◌, [], slice_index_or, if◌then◌else◌};
+ghost use Rattle.std.specs.Prelude.{◌≡◌, ℕ, IfOk, All, ◌/◌, ◌%◌, length, ◌<◌, ◌≤◌, ◌+◌, ◌*◌, ◌∷◌, [], slice_index_or, if◌then◌else◌};
 ghost use Rattle.pixel_format.specs.Canvas.{covers};
+ghost use Rattle.pixel_format.specs.Pixel.{IsWithin, IsScreenColor};
 
 use super::*;
 use pixel_format::{Canvas, Color, NoMemory, PixelFormat};
@@ -254,5 +255,112 @@ fn as_the_plain_way(rt: HostRuntime) -> Result<(), Fail> {
             }
         }
     }
+    Ok(())
+}
+
+// A picture of 16 by 12 places: squares of a few colours, and single places.
+fn any_picture(alloc: Global, seed: &mut u64) -> Result<Vec<Color>, NoMemory>
+    ensures { IfOk result (λ colors. length colors.items ≡ 12 * 16) }
+{
+    let palette = [RED, GREEN, WHITE, any_color(seed)];
+    let mut colors = vec![in alloc; RED; 12 * 16]?;
+    for k in 0..192 {
+        let square = (k / 64 + k % 16 / 4) % 4;
+        let index = if below(seed, 8) == 0 {
+            below(seed, 4) as usize
+        } else {
+            square
+        };
+        colors[k] = palette[index];
+    }
+    Ok(colors)
+}
+
+fn screen_color(color: Color) -> Color
+    ensures { IsScreenColor result }
+{
+    Color {
+        r: color.r.min(255),
+        g: color.g.min(255),
+        b: color.b.min(255),
+    }
+}
+
+// The colours, as a format has them.
+fn converted(alloc: Global, format: &PixelFormat, colors: &[Color]) -> Result<Vec<Color>, NoMemory>
+    ensures within { IfOk result (λ v. All (IsWithin format.now) v.items) }
+    ensures size { IfOk result (λ v. length v.items ≡ length colors.now) }
+{
+    let mut all = Vec::new(alloc);
+    for color in colors {
+        all.push(format.convert(screen_color(*color)))?;
+    }
+    Ok(all)
+}
+
+#[test]
+fn encoded_and_painted(rt: HostRuntime) -> Result<(), Fail> {
+    let formats = [
+        PixelFormat::host(),
+        PixelFormat::read(&SIXTEEN)?,
+        PixelFormat::read(&EIGHT)?,
+    ];
+    let mut seed = 1;
+    for k in 0..21 {
+        let format = &formats[k % 3];
+        let picture = any_picture(rt.alloc(), &mut seed)?;
+        let colors = converted(rt.alloc(), format, &picture)?;
+        let mut bytes = vec![in rt.alloc(); 9, 9]?;
+        encode(rt.alloc(), format, 16, 12, &colors, &mut bytes)?;
+        assert_eq!(rt; &bytes[..2], [9, 9].as_slice());
+        assert_eq!(rt; measure(format, 16, 12, &bytes[2..]), Ok(bytes.len() - 2));
+        let sheet = painted(format, 16, 12, &bytes[2..])?;
+        for row in 0..12 {
+            for column in 0..16 {
+                assert_eq!(rt;
+                    sheet.color(column, row),
+                    colors[16 * row as usize + column as usize]
+                );
+            }
+        }
+    }
+    Ok(())
+}
+
+// The data of 16 by 16 places, in the host format.
+fn encoded(alloc: Global, picture: &[Color]) -> Result<Vec<u8>, NoMemory>
+    requires { length picture.now ≡ 16 * 16 }
+{
+    let host = PixelFormat::host();
+    let colors = converted(alloc, &host, picture)?;
+    let mut bytes = Vec::new(alloc);
+    encode(alloc, &host, 16, 16, &colors, &mut bytes)?;
+    Ok(bytes)
+}
+
+// One colour is a background and no subrectangle, and a rectangle in it is one subrectangle.
+#[test]
+fn encoded_shortly(rt: HostRuntime) -> Result<(), Fail> {
+    let mut picture = vec![in rt.alloc(); RED; 16 * 16]?;
+    let bytes = encoded(rt.alloc(), &picture)?;
+    assert_eq!(rt; bytes.as_slice(), [0, 0, 0, 0, 0, 0, 255, 0].as_slice());
+    for row in 3..7 {
+        for column in 2..12 {
+            picture[16 * row + column] = GREEN;
+        }
+    }
+    let bytes = encoded(rt.alloc(), &picture)?;
+    let green = [
+        0, 0, 0, 1, 0, 0, 255, 0, 0, 255, 0, 0, 0, 2, 0, 3, 0, 10, 0, 4,
+    ];
+    assert_eq!(rt; bytes.as_slice(), green.as_slice());
+    Ok(())
+}
+
+#[test]
+fn nothing_encoded(rt: HostRuntime) -> Result<(), Fail> {
+    let mut bytes = Vec::new(rt.alloc());
+    encode(rt.alloc(), &PixelFormat::host(), 0, 5, &[], &mut bytes)?;
+    assert_eq!(rt; bytes.as_slice(), [0; 8].as_slice());
     Ok(())
 }
