@@ -1,5 +1,6 @@
 pub mod Reading
 pub mod Format
 pub mod Pixel
+pub mod Canvas
 pub mod Fault
 pub mod Written

@@ -2,10 +2,12 @@
 //! section 7.4).
 #![tactic(auto)]
 
+mod canvas;
 mod fault;
 mod format;
 mod laws;
 
+pub use canvas::Canvas;
 pub use fault::FormatFault;
 pub use format::{PixelFormat, host_pixel};
 pub use laws::{valid_formats, written_as_read};

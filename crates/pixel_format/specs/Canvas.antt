@@ -1,0 +1,19 @@
+-- Pictures, and the areas of which they are painted.
+use Rattle.std.specs.Prelude.{◌≡◌, ℕ, ◌+◌, ◌<◌, ◌&&◌, nat_le, nat_lt, Bool, if◌then◌else◌}
+use Rattle.pixel_format.specs.declared.Color.{Color}
+
+-- a picture: the colour at each place, from its column and its row, counted from the left and the top
+abbrev pub Picture : Type 0
+Picture = ℕ → ℕ → Color
+
+-- the place (column, row) lies in the area of w by h whose upper left corner is (x, y)
+abbrev pub covers : ℕ → ℕ → ℕ → ℕ → ℕ → ℕ → Bool
+covers x y w h column row = (nat_le x column && nat_lt column (x + w)) && (nat_le y row && nat_lt row (y + h))
+
+-- a picture with one colour in that area, and as it was elsewhere
+abbrev pub filled : ℕ → ℕ → ℕ → ℕ → Color → Picture → Picture
+filled x y w h color before column row = if covers x y w h column row then color else before column row
+
+-- two pictures agree at the places of a canvas of this size
+abbrev pub Agree : ℕ → ℕ → Picture → Picture → Type 0
+Agree width height p q = (column row : ℕ) → column < width → row < height → p column row ≡ q column row

@@ -1,0 +1,9 @@
+use Rattle.std.proofs.Common.{◌≡◌, length}
+use Rattle.rre.specs.Encoded.{Reaches}
+use Rattle.rre.proofs.cover.cover.Given as goal
+
+abbrev pub invariant-loop-row : goal.invariant-loop-row
+invariant-loop-row l = record {
+  columns : length l.reach.items ≡ l.w;
+  reaches : Reaches l.colors l.w l.h l.background l.parts.items l.reach.items 0 l.row;
+}

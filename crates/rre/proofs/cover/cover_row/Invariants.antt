@@ -1,0 +1,12 @@
+use Rattle.std.proofs.Common.{◌-◌, ◌≤◌, length}
+use Rattle.rre.specs.Encoded.{Reaches}
+use Rattle.rre.proofs.cover.cover_row.Given as goal
+
+abbrev pub invariant-loop-column : goal.invariant-loop-column
+invariant-loop-column l = record {
+  within : l.column ≤ length l.reach;
+  reaches : Reaches l.colors (length l.initial.reach) l.h l.background l.parts.items l.reach l.column l.row;
+}
+
+abbrev pub decreases-loop-column : goal.decreases-loop-column
+decreases-loop-column l = length l.reach - l.column

@@ -1,0 +1,97 @@
+-- What an encoder makes of colours by rows: a background, and subrectangles of one colour each.
+use Rattle.std.specs.Prelude.{◌≡◌, ℕ, ◌+◌, ◌*◌, ◌<◌, ◌≤◌, ◌⊎◌, List, [], ◌∷◌, ◌++◌, length, slice_index, slice_index_or}
+use Rattle.pixel_format.specs.declared.Color.{Color}
+use Rattle.pixel_format.specs.Format.{Format, pixel_bytes}
+use Rattle.pixel_format.specs.Pixel.{pixel_color}
+use Rattle.pixel_format.specs.Canvas.{Picture, Agree}
+use Rattle.rre.specs.declared.data.Subrectangle.{Subrectangle}
+use Rattle.rre.specs.Grammar.{Content, u16_at}
+use Rattle.rre.specs.Data.{LiesWithin, AreBytesOf, IsHead, IsData}
+use Rattle.rre.specs.Picture.{picture_of}
+
+abbrev pub black : Color
+black = record { r = 0; g = 0; b = 0 }
+
+-- the colour at an index
+abbrev pub nth : List Color → ℕ → Color
+nth colors i = slice_index_or colors i black
+
+-- the picture that colours by rows are, for rows of w places
+abbrev pub rows_of : List Color → ℕ → Picture
+rows_of colors w column row = nth colors (row * w + column)
+
+-- bytes are data of a rectangle whose picture is the colours, at every place
+pub record Shows (f : Format) (w h : ℕ) (colors : List Color) (bytes : List ℕ) : Type 0 where
+  pub content : Content
+  pub is : IsData f w h bytes content
+  pub picture : Agree w h (picture_of content) (rows_of colors w)
+
+-- ---- how the encoder goes on
+
+-- a subrectangle all of whose places have its colour
+pub record IsUniform (colors : List Color) (w h : ℕ) (s : Subrectangle) : Type 0 where
+  pub within : LiesWithin w h s
+  pub across : 0 < s.w
+  pub down : 0 < s.h
+  pub same : (a b : ℕ) → a < s.w → b < s.h → rows_of colors w (s.x + a) (s.y + b) ≡ s.color
+
+abbrev pub AreUniform : List Color → ℕ → ℕ → List Subrectangle → Type 0
+AreUniform colors w h [] = Unit {0}
+AreUniform colors w h (s ∷ ss) = IsUniform colors w h s × AreUniform colors w h ss
+
+-- the place stands before another one, by rows
+abbrev pub StandsBefore : ℕ → ℕ → ℕ → ℕ → Type 0
+StandsBefore c r column row = (r < row) ⊎ ((r ≡ row) × (c < column))
+
+abbrev pub part_picture : Color → List Subrectangle → Picture
+part_picture background parts = picture_of (record { background = background; subrectangles = parts })
+
+-- The places before (column, row) have their colours; in each column also those from there to its
+-- reach; and no place has a wrong colour but the background's.
+pub record Reaches (colors : List Color) (w h : ℕ) (background : Color) (parts : List Subrectangle) (reach : List ℕ) (column row : ℕ) : Type 0 where
+  pub uniform : AreUniform colors w h parts
+  pub few : length parts ≤ row * w + column
+  pub sound : (c r : ℕ) → c < w → r < h
+      → (part_picture background parts c r ≡ rows_of colors w c r) ⊎ (part_picture background parts c r ≡ background)
+  pub before : (c r : ℕ) → c < w → r < h → StandsBefore c r column row → part_picture background parts c r ≡ rows_of colors w c r
+  pub below : (c r : ℕ) → c < w → r < h → row ≤ r → r < slice_index reach c → part_picture background parts c r ≡ rows_of colors w c r
+
+-- ---- what is appended
+
+-- bytes of which this holds stand behind the old ones
+pub record Appends (P : List ℕ → Type 0) (old new : List ℕ) : Type 0 where
+  pub bytes : List ℕ
+  pub is : new ≡ old ++ bytes
+  pub are : P bytes
+
+-- some bytes
+abbrev pub Grows : List ℕ → List ℕ → Type 0
+Grows = Appends (λ _. Unit {0})
+
+pub record IsPixelOf (f : Format) (color : Color) (bytes : List ℕ) : Type 0 where
+  pub size : length bytes ≡ pixel_bytes f
+  pub color_is : pixel_color f bytes ≡ color
+
+-- the x, y, width and height of a subrectangle
+pub record IsAreaOf (s : Subrectangle) (bytes : List ℕ) : Type 0 where
+  pub size : length bytes ≡ 8
+  pub x_is : s.x ≡ u16_at bytes 0
+  pub y_is : s.y ≡ u16_at bytes 2
+  pub w_is : s.w ≡ u16_at bytes 4
+  pub h_is : s.h ≡ u16_at bytes 6
+
+-- subrectangles one behind the other
+abbrev pub AreBytesOfAll : Format → List Subrectangle → List ℕ → Type 0
+AreBytesOfAll f [] bytes = bytes ≡ []
+AreBytesOfAll f (s ∷ ss) bytes =
+    (first : List ℕ) × (rest : List ℕ) × (bytes ≡ first ++ rest) × AreBytesOf f s first × AreBytesOfAll f ss rest
+
+-- a head, and subrectangles wherever they lie
+pub record IsWritten (f : Format) (background : Color) (parts : List Subrectangle) (bytes : List ℕ) : Type 0 where
+  pub head : List ℕ
+  pub pixel : List ℕ
+  pub body : List ℕ
+  pub bytes_are : bytes ≡ head ++ body
+  pub head_is : IsHead f head (length parts) pixel
+  pub background_is : pixel_color f pixel ≡ background
+  pub body_is : AreBytesOfAll f parts body

@@ -1,0 +1,34 @@
+-- What is left of data that are judged field by field.
+use Rattle.std.specs.Prelude.{ℕ, suc, ◌-◌, List, length, Option, Some, None, Result, Ok, Err}
+use Rattle.pixel_format.specs.Format.{Format}
+use Rattle.pixel_format.specs.Reading.{Reading, Got, More, Bad, ◌>>=◌}
+use Rattle.rre.specs.declared.fault.Measure.{Measure}
+use Rattle.rre.specs.declared.fault.Measure.TheVariants as answers
+use Rattle.rre.specs.declared.measuring.Measuring.{Measuring}
+use Rattle.rre.specs.declared.measuring.Measuring.TheVariants as stages
+use Rattle.rre.specs.Grammar.{Fault, head_bytes, subrectangle_bytes, subrectangles_at, data_at}
+
+-- how many bytes the field that comes next has
+abbrev pub wants_of : Format → Measuring → ℕ
+wants_of f stages.Head = head_bytes f
+wants_of f (stages.Subrectangle more) = subrectangle_bytes f
+
+-- whether data are whole, faulty or too short, whatever they say
+abbrev pub judged : {A : Type 0} → Reading A Fault → Reading Unit Fault
+judged r = r >>= λ content rest. Got tt rest
+
+-- what the bytes from the next field on are, up to the data's end
+unfoldable pub resume : Format → ℕ → ℕ → Measuring → List ℕ → Reading Unit Fault
+resume f w h stages.Head bytes = judged (data_at f w h bytes)
+resume f w h (stages.Subrectangle more) bytes = judged (subrectangles_at f w h (suc more) bytes)
+
+-- with no field to come the data are whole
+unfoldable pub go_on : Format → ℕ → ℕ → Option Measuring → List ℕ → Reading Unit Fault
+go_on f w h None bytes = Got tt bytes
+go_on f w h (Some stage) bytes = resume f w h stage bytes
+
+-- what a reading of so many bytes is to one who measures: the length of what is whole
+abbrev pub measured : {A : Type 0} → ℕ → Reading A Fault → Result ℕ Measure
+measured size (Got x rest) = Ok (size - length rest)
+measured size More = Err answers.NeedMore
+measured size (Bad fault) = Err answers.Bad

@@ -1,0 +1,90 @@
+//! Writing the data of a rectangle.
+
+ghost use Rattle.std.specs.Prelude.{◌≡◌, ◌<◌, ◌^◌, ◌+◌, All, OnOk, OnErr, length};
+ghost use Rattle.pixel_format.specs.Pixel.{IsWithin};
+ghost use Rattle.rre.specs.Grammar.{u32_at};
+ghost use Rattle.rre.specs.Data.{AreBytesOf};
+ghost use Rattle.rre.specs.Encoded.{Appends, Grows, IsPixelOf, IsAreaOf, AreBytesOfAll, IsWritten};
+
+use crate::data::Subrectangle;
+use pixel_format::{Color, NoMemory, PixelFormat};
+
+// Appends the pixel of a colour.
+fn append_pixel(format: &PixelFormat, color: Color, bytes: &mut Vec<u8>) -> Result<(), NoMemory>
+    requires { IsWithin format.now color }
+    ensures ok { OnOk result (Appends (IsPixelOf format.now color) bytes.old.items bytes.new.items) }
+    ensures grows { Grows bytes.old.items bytes.new.items }
+{
+    let mut pixel = [0; 4];
+    let size = format.bytes();
+    format.put(color, &mut pixel[..size]);
+    bytes.extend_from_slice(&pixel[..size])
+}
+
+// The x, y, width and height of a subrectangle, in two bytes each.
+fn area_of(part: Subrectangle) -> [u8; 8]
+    ensures { IsAreaOf part result }
+{
+    let [x, x_low] = part.x.to_be_bytes();
+    let [y, y_low] = part.y.to_be_bytes();
+    let [w, w_low] = part.w.to_be_bytes();
+    let [h, h_low] = part.h.to_be_bytes();
+    [x, x_low, y, y_low, w, w_low, h, h_low]
+}
+
+// Appends a subrectangle: its pixel, and its place and size.
+fn append_part(
+    format: &PixelFormat,
+    part: Subrectangle,
+    bytes: &mut Vec<u8>,
+) -> Result<(), NoMemory>
+    requires { IsWithin format.now part.color }
+    ensures ok { OnOk result (Appends (AreBytesOf format.now part) bytes.old.items bytes.new.items) }
+    ensures grows { Grows bytes.old.items bytes.new.items }
+{
+    append_pixel(format, part.color, bytes)?;
+    bytes.extend_from_slice(&area_of(part))?;
+    Ok(())
+}
+
+fn append_parts(
+    format: &PixelFormat,
+    parts: &[Subrectangle],
+    bytes: &mut Vec<u8>,
+) -> Result<(), NoMemory>
+    requires { All (λ s. IsWithin format.now s.color) parts.now }
+    ensures ok { OnOk result (Appends (AreBytesOfAll format.now parts.now) bytes.old.items bytes.new.items) }
+    ensures grows { Grows bytes.old.items bytes.new.items }
+{
+    for part in parts {
+        append_part(format, *part, bytes)?;
+    }
+    Ok(())
+}
+
+// A number in four bytes, the higher ones first.
+fn four_bytes(number: u32) -> [u8; 4]
+    ensures size { length result ≡ 4 }
+    ensures value { u32_at result 0 ≡ number }
+{
+    number.to_be_bytes()
+}
+
+/// Appends the data of a background and subrectangles. Want of memory may leave some of the bytes.
+pub(crate) fn append_data(
+    format: &PixelFormat,
+    background: Color,
+    parts: &[Subrectangle],
+    bytes: &mut Vec<u8>,
+) -> Result<(), NoMemory>
+    requires background { IsWithin format.now background }
+    requires parts { All (λ s. IsWithin format.now s.color) parts.now }
+    requires few { length parts.now < 2 ^ 32 }
+    ensures ok { OnOk result (Appends (IsWritten format.now background parts.now) bytes.old.items bytes.new.items) }
+    ensures grows { Grows bytes.old.items bytes.new.items }
+{
+    bytes.extend_from_slice(&four_bytes(parts.len() as u32))?;
+    append_pixel(format, background, bytes)?;
+    append_parts(format, parts, bytes)?;
+    Ok(())
+}

@@ -1,0 +1,160 @@
+//! Which subrectangles an encoder lists.
+
+ghost use Rattle.std.specs.Prelude.{◌≡◌, ◌↔◌, ℕ, ◌+◌, ◌*◌, ◌<◌, ◌≤◌, length, IsTrue, OnOk, IfOk, slice_index, if◌then◌else◌, ◌&&◌, nat_le, nat_lt};
+ghost use Rattle.rre.specs.Encoded.{nth, rows_of, IsUniform, AreUniform, Reaches, part_picture};
+ghost use Rattle.pixel_format.specs.Canvas.{Agree};
+
+use crate::data::Subrectangle;
+use pixel_format::{Color, NoMemory};
+use std::alloc::Global;
+
+fn same(one: Color, other: Color) -> bool
+    ensures { IsTrue result ↔ (one ≡ other) }
+{
+    one.r == other.r && one.g == other.g && one.b == other.b
+}
+
+/// The index of a colour that most of the places have, if one colour has more than half of them.
+pub(crate) fn background(colors: &[Color]) -> usize
+    requires { 0 < length colors.now }
+    ensures { result < length colors.now }
+{
+    let mut place = 0;
+    let mut votes = 0usize;
+    for k in 0..colors.len() {
+        if votes == 0 {
+            place = k;
+            votes = 1;
+        } else if same(colors[k], colors[place]) {
+            votes += 1;
+        } else {
+            votes -= 1;
+        }
+    }
+    place
+}
+
+// Whether so many places of a row, from a column on, have the colour.
+fn has_color(colors: &[Color], start: usize, width: u16, color: Color) -> bool
+    requires { start + width ≤ length colors.now }
+    ensures { IsTrue result → (k : ℕ) → k < width → nth colors.now (start + k) ≡ color }
+{
+    for k in 0..width {
+        if !same(colors[start + k as usize], color) {
+            return false;
+        }
+    }
+    true
+}
+
+// The end of the run of places of one colour that begins at a column, up to a place that is covered.
+fn run_end(colors: &[Color], start: usize, column: u16, row: u16, reach: &[u16]) -> u16
+    requires some { column < length reach.now }
+    requires narrow { length reach.now < 65536 }
+    requires fits { start + length reach.now ≤ length colors.now }
+    ensures some { column < result }
+    ensures within { result ≤ length reach.now }
+    ensures same { (k : ℕ) → column ≤ k → k < result → nth colors.now (start + k) ≡ nth colors.now (start + column) }
+{
+    let color = colors[start + column as usize];
+    let mut end = column + 1;
+    while (end as usize) < reach.len()
+        && reach[end as usize] <= row
+        && same(colors[start + end as usize], color)
+    {
+        end += 1;
+    }
+    end
+}
+
+// The subrectangle of one colour that begins at a place: as wide as its row lets it be, and then as
+// high as it can be.
+fn grow(colors: &[Color], h: u16, column: u16, row: u16, reach: &[u16]) -> Subrectangle
+    requires column { column < length reach.now }
+    requires narrow { length reach.now < 65536 }
+    requires row { row < h }
+    requires size { length colors.now ≡ h * length reach.now }
+    ensures x { result.x ≡ column }
+    ensures y { result.y ≡ row }
+    ensures uniform { IsUniform colors.now (length reach.now) h result }
+{
+    let w = reach.len();
+    let start = row as usize * w;
+    let width = run_end(colors, start, column, row, reach) - column;
+    let color = colors[start + column as usize];
+    let mut end = row + 1;
+    while end < h && has_color(colors, end as usize * w + column as usize, width, color) {
+        end += 1;
+    }
+    Subrectangle {
+        x: column,
+        y: row,
+        w: width,
+        h: end - row,
+        color,
+    }
+}
+
+// Gives the columns of a subrectangle their reach.
+fn raise(reach: &mut [u16], column: u16, width: u16, end: u16)
+    requires narrow { length reach.old < 65536 }
+    requires within { column + width ≤ length reach.old }
+    ensures { (c : ℕ) → slice_index reach.new c
+        ≡ (if nat_le column c && nat_lt c (column + width) then end else slice_index reach.old c) }
+{
+    for c in column..column + width {
+        reach[c as usize] = end;
+    }
+}
+
+// Covers the places of a row that have another colour than the background.
+fn cover_row(
+    colors: &[Color],
+    h: u16,
+    row: u16,
+    background: Color,
+    reach: &mut [u16],
+    parts: &mut Vec<Subrectangle>,
+) -> Result<(), NoMemory>
+    requires narrow { length reach.old < 65536 }
+    requires row { row < h }
+    requires size { length colors.now ≡ h * length reach.old }
+    requires reaches { Reaches colors.now (length reach.old) h background parts.old.items reach.old 0 row }
+    ensures { OnOk result (Reaches colors.now (length reach.old) h background parts.new.items reach.new 0 (row + 1)) }
+{
+    let start = row as usize * reach.len();
+    let mut column = 0;
+    while (column as usize) < reach.len() {
+        if reach[column as usize] > row || same(colors[start + column as usize], background) {
+            column += 1;
+        } else {
+            let part = grow(colors, h, column, row, reach);
+            parts.push(part)?;
+            raise(reach, column, part.w, row + part.h);
+            column += part.w;
+        }
+    }
+    Ok(())
+}
+
+/// Subrectangles of one colour each that, over the background, give every place of colours by rows its
+/// colour. Each place is looked at a bounded number of times.
+pub(crate) fn cover(
+    alloc: Global,
+    w: u16,
+    h: u16,
+    colors: &[Color],
+    background: Color,
+) -> Result<Vec<Subrectangle>, NoMemory>
+    requires { length colors.now ≡ h * w }
+    ensures uniform { IfOk result (λ parts. AreUniform colors.now w h parts.items) }
+    ensures few { IfOk result (λ parts. length parts.items ≤ h * w) }
+    ensures picture { IfOk result (λ parts. Agree w h (part_picture background parts.items) (rows_of colors.now w)) }
+{
+    let mut parts = Vec::new(alloc);
+    let mut reach = vec![in alloc; 0; w as usize]?;
+    for row in 0..h {
+        cover_row(colors, h, row, background, &mut reach, &mut parts)?;
+    }
+    Ok(parts)
+}

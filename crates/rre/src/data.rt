@@ -1,0 +1,50 @@
+//! The fields of a rectangle's data.
+
+ghost use Rattle.std.specs.Prelude.{◌≡◌, ◌≤◌, ◌+◌, length, drop, take};
+ghost use Rattle.pixel_format.specs.Format.{pixel_bytes};
+ghost use Rattle.rre.specs.Grammar.{subrectangle_of, subrectangle_bytes, is_inside, head_bytes, u16_at, u32_at};
+
+use pixel_format::{Color, PixelFormat};
+
+/// A part of a rectangle that has one colour. Its corner (x, y) counts from the rectangle's upper left
+/// corner.
+#[derive(Clone, Copy, Debug, PartialEq, Eq)]
+pub struct Subrectangle {
+    pub x: u16,
+    pub y: u16,
+    pub w: u16,
+    pub h: u16,
+    pub color: Color,
+}
+
+// The subrectangle that a whole field is.
+#[tactic(auto, unfolding(crate::specs::Grammar::subrectangle_of))]
+pub(crate) fn read_subrectangle(format: &PixelFormat, field: &[u8]) -> Subrectangle
+    requires { length field.now ≡ subrectangle_bytes format.now }
+    ensures { result ≡ subrectangle_of format.now field.now }
+{
+    let (pixel, area) = field.split_at(format.bytes());
+    Subrectangle {
+        x: u16::from_be_bytes([area[0], area[1]]),
+        y: u16::from_be_bytes([area[2], area[3]]),
+        w: u16::from_be_bytes([area[4], area[5]]),
+        h: u16::from_be_bytes([area[6], area[7]]),
+        color: format.pixel(pixel),
+    }
+}
+
+// Whether the subrectangle lies within a rectangle of w by h.
+#[tactic(auto, unfolding(crate::specs::Grammar::is_inside))]
+pub(crate) fn lies_inside(part: Subrectangle, w: u16, h: u16) -> bool
+    ensures { result ≡ is_inside w h part }
+{
+    part.x as u32 + part.w as u32 <= w as u32 && part.y as u32 + part.h as u32 <= h as u32
+}
+
+// How many subrectangles follow a head.
+pub(crate) fn read_count(head: &[u8]) -> u32
+    requires { 4 ≤ length head.now }
+    ensures { result ≡ u32_at head.now 0 }
+{
+    u32::from_be_bytes([head[0], head[1], head[2], head[3]])
+}
