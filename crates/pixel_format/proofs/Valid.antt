@@ -1,11 +1,9 @@
 -- What the tests of a pixel format say, and what is read of the bytes of a format.
 use Rattle.std.proofs.Common.{◌≡◌, ℕ, zero, suc, ◌+◌, ◌-◌, ◌*◌, ◌/◌, ◌%◌, ◌^◌, ◌<◌, ◌≤◌, ◌∙◌, ◌⊎◌, inl, inr, Bool, true, false, refl, sym, ap, subst, arith, eq-eqb}
 use Rattle.std.specs.Prelude.{List, nat_eq, nat_lt, not, Result, ◌||◌, ◌&&◌, Ok, Err, slice_index, bit_and}
-use Rattle.std.specs.Int.{to_be_bytes, w16}
-use Rattle.std.specs.Prelude.{slice_index_or}
 use mir.Val.{bool_byte}
 use Rattle.std.proofs.Math.Nat.{pow-le-pow_right}
-use Rattle.std.proofs.lemmas.Nat.{pow_pos, pow-add, pow_below, mul-le}
+use Rattle.std.proofs.lemmas.Nat.{pow_pos, pow-add, mul-le}
 use Rattle.std.proofs.lemmas.Bool.{cases_lt, eqb-true, ne_eqb, lt-ltb, le-ltb, ltb-true}
 use Rattle.pixel_format.specs.Format.{Channel, Format, IsChannel, IsValid, mask}
 use Rattle.pixel_format.specs.declared.fault.FormatFault.{FormatFault}
@@ -33,12 +31,12 @@ is-ones zero max k small e =
 is-ones (suc n) max k small e = elim (true_or_false (nat_eq (max + 1) (2 ^ suc n))) [
   | inl t ↦ rw t refl
   | inr f ↦ elim (cases_lt k (suc n)) [
-      | inl less ↦ rw f (is-ones n max k (omega arith) e)
-      | inr more ↦
-          (let same : k ≡ suc n = omega arith in
-          let e' : max + 1 ≡ 2 ^ suc n = subst (λ (j : ℕ). max + 1 ≡ 2 ^ j) same e in
-          rw (eq-eqb (max + 1) (2 ^ suc n) e') refl)
-    ]
+    | inl less ↦ rw f (is-ones n max k (omega arith) e)
+    | inr more ↦
+        (let same : k ≡ suc n = omega arith in
+        let e' : max + 1 ≡ 2 ^ suc n = subst (λ (j : ℕ). max + 1 ≡ 2 ^ j) same e in
+        rw (eq-eqb (max + 1) (2 ^ suc n) e') refl)
+  ]
 ]
 
 -- the bits of a number that is one less than a power of two
@@ -60,13 +58,13 @@ full_is a m small below above = elim (true_or_false (is_ones 16 a)) [
       let same : a + 1 ≡ 2 ^ m = same_power a m k.0 below above k.2 in
       rw t (eq-eqb a (2 ^ m - 1) (omega arith)))
   | inr f ↦ elim (true_or_false (nat_eq a (2 ^ m - 1))) [
-      | inl t ↦
-          (let is : a ≡ 2 ^ m - 1 = eqb-true a (2 ^ m - 1) t in
-          let some : 0 < 2 ^ m = pow_pos m in
-          let ones : is_ones 16 a ≡ true = is-ones 16 a m small (omega arith) in
-          absurd (cc))
-      | inr g ↦ rw (f, g) refl
-    ]
+    | inl t ↦
+        (let is : a ≡ 2 ^ m - 1 = eqb-true a (2 ^ m - 1) t in
+        let some : 0 < 2 ^ m = pow_pos m in
+        let ones : is_ones 16 a ≡ true = is-ones 16 a m small (omega arith) in
+        absurd (cc))
+    | inr g ↦ rw (f, g) refl
+  ]
 ]
 
 -- whether a channel's bits lie in the pixel, by its shift
@@ -123,9 +121,9 @@ bits_valid : (bits : ℕ) → (nat_eq bits 8 || nat_eq bits 16 || nat_eq bits 32
 bits_valid bits e = elim (either_true (nat_eq bits 8 || nat_eq bits 16) (nat_eq bits 32) e) [
   | inr t ↦ inr (inr (eqb-true bits 32 t))
   | inl t ↦ elim (either_true (nat_eq bits 8) (nat_eq bits 16) t) [
-      | inl u ↦ inl (eqb-true bits 8 u)
-      | inr u ↦ inr (inl (eqb-true bits 16 u))
-    ]
+    | inl u ↦ inl (eqb-true bits 8 u)
+    | inr u ↦ inr (inl (eqb-true bits 16 u))
+  ]
 ]
 
 pub passes_valid : (f : Format) → has_bits f ≡ true → has_maxima f ≡ true → has_fields_inside f ≡ true → has_fields_apart f ≡ true → IsValid f
@@ -200,11 +198,8 @@ pub flag-byte : (b : Bool) → bool_byte b ≡ flag b
 flag-byte true = refl
 flag-byte false = refl
 
-pub high_byte : (n : ℕ) → n < 2 ^ 16 → slice_index_or (to_be_bytes w16 n) 0 0 ≡ n / 256
-high_byte n small = let h : n / 256 % 256 ≡ n / 256 = omega arith in h
-
-pub low_byte : (n : ℕ) → slice_index_or (to_be_bytes w16 n) 1 0 ≡ n % 256
-low_byte n = refl
+pub high_byte : (n : ℕ) → n < 2 ^ 16 → n / 256 % 256 ≡ n / 256
+high_byte n small = omega arith
 
 -- a maximum has two bytes
 pub max_small : (bits : ℕ) (c : Channel) → IsChannel bits c → c.max < 2 ^ 16

@@ -297,8 +297,7 @@ impl Channel {
         requires { (bits ≡ 8) ⊎ ((bits ≡ 16) ⊎ (bits ≡ 32)) }
         ensures { result ≡ nat_lt (self.max * 2 ^ self.shift) (2 ^ bits) }
     {
-        self.max == 0
-            || (self.shift < bits && (self.max as u64) << self.shift < 1 << bits)
+        self.max == 0 || (self.shift < bits && (self.max as u64) << self.shift < 1 << bits)
     }
 
     // Whether no bit is one of both channels, whose bits lie in 32 bits.

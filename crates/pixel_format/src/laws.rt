@@ -13,8 +13,8 @@ pub fn valid_formats()
 /// What is accepted is written as it was read, but for flags, which are written as 1, and padding, as
 /// 0.
 pub fn written_as_read()
-    ensures { (bits depth order color r1 r0 g1 g0 b1 b0 r g b : ℕ) → (padding : List ℕ) → (f : Format)
-        → r0 < 256 → g0 < 256 → b0 < 256
-        → format_at (bits ∷ depth ∷ order ∷ color ∷ r1 ∷ r0 ∷ g1 ∷ g0 ∷ b1 ∷ b0 ∷ r ∷ g ∷ b ∷ padding) ≡ Ok f
-        → format_bytes f ≡ bits ∷ depth ∷ flag (is_flag order) ∷ 1 ∷ r1 ∷ r0 ∷ g1 ∷ g0 ∷ b1 ∷ b0 ∷ r ∷ g ∷ b ∷ 0 ∷ 0 ∷ 0 ∷ [] }
+    ensures { (bits depth order color red_high red_low green_high green_low blue_high blue_low r g b : ℕ) → (padding : List ℕ) → (f : Format)
+        → red_low < 256 → green_low < 256 → blue_low < 256
+        → format_at (bits ∷ depth ∷ order ∷ color ∷ red_high ∷ red_low ∷ green_high ∷ green_low ∷ blue_high ∷ blue_low ∷ r ∷ g ∷ b ∷ padding) ≡ Ok f
+        → format_bytes f ≡ bits ∷ depth ∷ flag (is_flag order) ∷ 1 ∷ red_high ∷ red_low ∷ green_high ∷ green_low ∷ blue_high ∷ blue_low ∷ r ∷ g ∷ b ∷ 0 ∷ 0 ∷ 0 ∷ [] }
 {}

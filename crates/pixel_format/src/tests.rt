@@ -1,4 +1,5 @@
 use super::*;
+use std::test::Fail;
 
 #[test]
 fn host_pixels(rt: HostRuntime) {
@@ -19,7 +20,11 @@ const SIXTEEN: [u8; 16] = [16, 16, 1, 1, 0, 31, 0, 63, 0, 31, 11, 5, 0, 0, 0, 0]
 fn sixteen_bits(rt: HostRuntime) -> Result<(), Fail> {
     let format = PixelFormat::read(&SIXTEEN)?;
     assert_eq!(rt; format.bytes(), 2);
-    let screen = Color { r: 255, g: 128, b: 0 };
+    let screen = Color {
+        r: 255,
+        g: 128,
+        b: 0,
+    };
     let color = format.convert(screen);
     assert_eq!(rt; color, Color { r: 31, g: 32, b: 0 });
     let mut pixel = [0; 2];
@@ -32,7 +37,10 @@ fn sixteen_bits(rt: HostRuntime) -> Result<(), Fail> {
 
 // The fault's number, or 0.
 fn fault_of(bytes: [u8; 16]) -> u8 {
-    PixelFormat::read(&bytes).err().map_or(0, |fault| fault.number())
+    match PixelFormat::read(&bytes) {
+        Ok(_) => 0,
+        Err(fault) => fault.number(),
+    }
 }
 
 #[test]
@@ -56,6 +64,7 @@ fn channels_at_the_edges(rt: HostRuntime) -> Result<(), Fail> {
     // A channel of maximum 0 has no bits, whatever its shift.
     let bytes = [8, 8, 0, 9, 0, 0, 0, 255, 0, 0, 255, 0, 8, 1, 2, 3];
     let format = PixelFormat::read(&bytes)?;
+    assert_eq!(rt; format.bytes(), 1);
     assert_eq!(rt; format.pixel(&[200]), Color { r: 0, g: 200, b: 0 });
     // 16 bits of red above 16 bits of blue.
     let wide = [32, 32, 0, 1, 255, 255, 0, 0, 255, 255, 16, 40, 0, 0, 0, 0];

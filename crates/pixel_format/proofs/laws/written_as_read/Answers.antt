@@ -1,5 +1,5 @@
 use Rattle.std.proofs.Common.{◌≡◌, ℕ, ◌+◌, ◌*◌, ◌/◌, ◌%◌, ◌<◌, ap, arith, ◌∙◌, refl}
-use Rattle.std.specs.Prelude.{List, [], ◌∷◌}
+use Rattle.std.specs.Prelude.{◌∷◌}
 use Rattle.pixel_format.specs.Written.{format_bytes}
 use Rattle.pixel_format.proofs.Valid.{accepted_is}
 use Rattle.pixel_format.proofs.laws.written_as_read.Goals as goal
@@ -11,7 +11,7 @@ low : (h l : ℕ) → l < 256 → (256 * h + l) % 256 ≡ l
 low h l small = omega arith
 
 pub returns : goal.returns
-returns c = λ bits depth order color r1 r0 g1 g0 b1 b0 r g b padding f small_r small_g small_b e.
-    let a = accepted_is (bits ∷ depth ∷ order ∷ color ∷ r1 ∷ r0 ∷ g1 ∷ g0 ∷ b1 ∷ b0 ∷ r ∷ g ∷ b ∷ padding) f e in
+returns c = λ bits depth order color red_high red_low green_high green_low blue_high blue_low r g b padding f small_r small_g small_b e.
+    let a = accepted_is (bits ∷ depth ∷ order ∷ color ∷ red_high ∷ red_low ∷ green_high ∷ green_low ∷ blue_high ∷ blue_low ∷ r ∷ g ∷ b ∷ padding) f e in
     ap format_bytes a.is
-    ∙ rw (high r1 r0 small_r, low r1 r0 small_r, high g1 g0 small_g, low g1 g0 small_g, high b1 b0 small_b, low b1 b0 small_b) refl
+    ∙ rw (high red_high red_low small_r, low red_high red_low small_r, high green_high green_low small_g, low green_high green_low small_g, high blue_high blue_low small_b, low blue_high blue_low small_b) refl

@@ -1,7 +1,7 @@
-use Rattle.std.proofs.Common.{◌≡◌, ℕ, ◌+◌, ◌∙◌, ◌<◌, ◌^◌, refl, arith}
+use Rattle.std.proofs.Common.{◌≡◌, ◌+◌, ◌∙◌, ◌<◌, ◌^◌, refl, arith}
 use Rattle.pixel_format.specs.Format.{IsValid}
 use Rattle.pixel_format.specs.Pixel.{color_number}
-use Rattle.pixel_format.proofs.Lanes.{placed_apart, Placed, color_found, below_32}
+use Rattle.pixel_format.proofs.Lanes.{placed_apart, color_found, below_32}
 use Rattle.pixel_format.proofs.format.PixelFormat.put.Goals as goal
 
 pub put_number-requires-clause-fits : goal.put_number-requires-clause-fits

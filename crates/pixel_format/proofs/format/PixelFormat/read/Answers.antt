@@ -1,4 +1,4 @@
-use Rattle.std.proofs.Common.{◌≡◌, ◌∙◌, Bool, true, false, refl, ap, sym, arith, eq-eqb}
+use Rattle.std.proofs.Common.{◌≡◌, ◌∙◌, true, false, refl, sym}
 use Rattle.std.specs.Prelude.{slice_index}
 use Rattle.std.proofs.lemmas.Bool.{ne_eqb}
 use Rattle.pixel_format.specs.Format.{IsValid}
@@ -58,4 +58,3 @@ returns c =
     let apart : has_fields_apart (format_of c.args.bytes.now) ≡ true = rw (← c.at-channels.ensures.red.0, ← c.at-channels.ensures.green.0, ← c.at-channels.ensures.blue.0, ← c.at-channels.ensures.red.1, ← c.at-channels.ensures.green.1, ← c.at-channels.ensures.blue.1) (sym c.are_apart.ensures ∙ c.if-not-are_apart.false) in
     let is = accepted c.args.bytes.now bits color maxima inside apart in
     rw (c.at-channels.ensures.red.0, c.at-channels.ensures.green.0, c.at-channels.ensures.blue.0, c.at-channels.ensures.red.1, c.at-channels.ensures.green.1, c.at-channels.ensures.blue.1) (sym is)
-

@@ -1,6 +1,5 @@
-use Rattle.std.proofs.Common.{◌≡◌, ◌∙◌, refl, ap, sym, arith}
-use Rattle.std.specs.Prelude.{List, ℕ}
-use Rattle.pixel_format.specs.Written.{format_at, format_bytes}
+use Rattle.std.proofs.Common.{◌∙◌, refl, ap}
+use Rattle.pixel_format.specs.Written.{format_at}
 use Rattle.pixel_format.proofs.Valid.{read_written, flag-byte, high_byte, max_small}
 use Rattle.pixel_format.proofs.format.PixelFormat.write.Goals as goal
 
