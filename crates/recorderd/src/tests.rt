@@ -73,6 +73,11 @@ fn scripts_are_answered(rt: HostRuntime) -> Result<(), Fail> {
             1,
         ),
         (
+            "new 1 1 4 x\nhost 0 01 00 0000 0000\nhost 0 02\nhost 0 03000000 00000001 68\ntake\nbody\ngate\nopen\n",
+            "recording 1 1 4\nbytes refused 0\naccepted 0\naccepted 1\ntaken 0 1\nwritten\ncommitted 1\nopened 1\n",
+            0,
+        ),
+        (
             "new 1 1 4 x\nhost 0 09\nhost 0 0000 0000\nhost 0 00\n",
             "recording 1 1 4\nbytes refused 1\naccepted 0\nbytes refused 0\n",
             0,

@@ -1,51 +1,54 @@
 -- The message that bytes begin with, by the update that their front begins with.
-use Rattle.std.proofs.Common.{◌≡◌, ℕ, ◌-◌, ◌<◌, ◌≤◌, true, false, List, ◌++◌, length, take, drop, nat_eq, nat_lt, inl, inr, slice_index, refl, sym, ap, ◌∙◌, arith, length-append}
+use Rattle.std.proofs.Common.{◌≡◌, ℕ, ◌-◌, ◌<◌, ◌≤◌, true, false, List, [], ◌∷◌, ◌++◌, length, take, drop, nat_eq, nat_lt, inl, inr, slice_index, refl, sym, ap, ◌∙◌, arith, eq-eqb, length-append}
 use Rattle.std.specs.Prelude.{min}
 use Rattle.std.proofs.lemmas.List.{take_all, take_at, length-take, get_or-take}
-use Rattle.std.proofs.lemmas.Bool.{eqb-true, ltb-true, ltb-false}
+use Rattle.std.proofs.lemmas.Bool.{ltb-true, ltb-false}
 use Rattle.pixel_format.specs.Reading.{Got, More, Bad, field, within}
-use Rattle.pixel_format.proofs.Readings.{field_got, true_or_false, within-short, within-long}
+use Rattle.pixel_format.proofs.Readings.{true_or_false, within-short, within-long}
 use Rattle.rfb_wire.specs.declared.message.Rectangle.{Rectangle}
 use Rattle.rfb_wire.specs.declared.fault.WireFault.{WireFault}
 use Rattle.rfb_wire.specs.declared.fault.WireFault.TheVariants as faults
-use Rattle.rfb_wire.specs.Grammar.{update_at, message_at, Message, Recorded, message_limit}
+use Rattle.rfb_wire.specs.Grammar.{update_at, message_at, other_at, Message, Recorded, message_limit}
 use Rattle.rfb_wire.specs.Host.{host_of, IsRecorded}
 use Rattle.rfb_wire.proofs.Messages.{update_read, message_is_read}
+use Rattle.rfb_wire.proofs.Turns.{message-first}
 
 pub kind_short : (limit width height : ℕ) (bytes : List ℕ) → field {E = WireFault} 1 bytes ≡ More → message_at limit width height bytes ≡ More
 unfolding message_at
 kind_short limit width height bytes e = rw e refl
 
-pub kind_unknown : (limit width height : ℕ) (bytes kind rest : List ℕ) → field {E = WireFault} 1 bytes ≡ Got kind rest → nat_eq (slice_index kind 0) 0 ≡ false
-    → message_at limit width height bytes ≡ Bad faults.UnknownType
+pub kind_other : (limit width height : ℕ) (bytes kind rest : List ℕ) → field {E = WireFault} 1 bytes ≡ Got kind rest → nat_eq (slice_index kind 0) 0 ≡ false
+    → message_at limit width height bytes ≡ other_at (slice_index kind 0) rest
 unfolding message_at
-kind_unknown limit width height bytes kind rest e other = rw (e, other) refl
+kind_other limit width height bytes kind rest e other = rw (e, other) refl
 
-kind_update : (limit width height : ℕ) (bytes kind rest : List ℕ) → field {E = WireFault} 1 bytes ≡ Got kind rest → nat_eq (slice_index kind 0) 0 ≡ true
+kind_update : (limit width height : ℕ) (bytes : List ℕ) → 0 < length bytes → slice_index bytes 0 ≡ 0
     → message_at limit width height bytes ≡ within limit faults.TooLong (update_at width height) bytes
-unfolding message_at
-kind_update limit width height bytes kind rest e is = rw (e, is) refl
+kind_update limit width height [] some is = absurd (omega arith)
+kind_update limit width height (b ∷ bytes) some is =
+    let zero : nat_eq b 0 ≡ true = eq-eqb b 0 is in
+    message-first limit width height b bytes ∙ rw zero refl
 
-pub front_long : (limit width height : ℕ) (bytes kind rest : List ℕ) → field {E = WireFault} 1 bytes ≡ Got kind rest → nat_eq (slice_index kind 0) 0 ≡ true
+pub front_long : (limit width height : ℕ) (bytes : List ℕ) → 0 < length bytes → slice_index bytes 0 ≡ 0
     → update_at width height (take limit bytes) ≡ More → limit < length bytes → message_at limit width height bytes ≡ Bad faults.TooLong
-front_long limit width height bytes kind rest e is waits long =
-    kind_update limit width height bytes kind rest e is ∙ within-long limit faults.TooLong (update_at width height) bytes long waits
+front_long limit width height bytes some is waits long =
+    kind_update limit width height bytes some is ∙ within-long limit faults.TooLong (update_at width height) bytes long waits
 
-pub front_short : (limit width height : ℕ) (bytes kind rest : List ℕ) → field {E = WireFault} 1 bytes ≡ Got kind rest → nat_eq (slice_index kind 0) 0 ≡ true
+pub front_short : (limit width height : ℕ) (bytes : List ℕ) → 0 < length bytes → slice_index bytes 0 ≡ 0
     → update_at width height (take limit bytes) ≡ More → length bytes ≤ limit → message_at limit width height bytes ≡ More
-front_short limit width height bytes kind rest e is waits short =
-    kind_update limit width height bytes kind rest e is ∙ within-short limit faults.TooLong (update_at width height) bytes short
+front_short limit width height bytes some is waits short =
+    kind_update limit width height bytes some is ∙ within-short limit faults.TooLong (update_at width height) bytes short
     ∙ ap (update_at width height) (sym (take_all limit bytes short)) ∙ waits
 
-pub front_bad : (limit width height : ℕ) (bytes kind rest : List ℕ) (f : WireFault) → field {E = WireFault} 1 bytes ≡ Got kind rest → nat_eq (slice_index kind 0) 0 ≡ true
+pub front_bad : (limit width height : ℕ) (bytes : List ℕ) (f : WireFault) → 0 < length bytes → slice_index bytes 0 ≡ 0
     → update_at width height (take limit bytes) ≡ Bad f → message_at limit width height bytes ≡ Bad f
 unfolding within
-front_bad limit width height bytes kind rest f e is bad = kind_update limit width height bytes kind rest e is ∙ rw bad refl
+front_bad limit width height bytes f some is bad = kind_update limit width height bytes some is ∙ rw bad refl
 
-front_got : (limit width height : ℕ) (bytes kind rest after : List ℕ) (m : Message) → field {E = WireFault} 1 bytes ≡ Got kind rest → nat_eq (slice_index kind 0) 0 ≡ true
+front_got : (limit width height : ℕ) (bytes after : List ℕ) (m : Message) → 0 < length bytes → slice_index bytes 0 ≡ 0
     → update_at width height (take limit bytes) ≡ Got m after → message_at limit width height bytes ≡ Got m (after ++ drop limit bytes)
 unfolding within
-front_got limit width height bytes kind rest after m e is got = kind_update limit width height bytes kind rest e is ∙ rw got refl
+front_got limit width height bytes after m some is got = kind_update limit width height bytes some is ∙ rw got refl
 
 -- a front of the bytes that is a whole message
 pub record WholeFront (width height : ℕ) (bytes after : List ℕ) (rs : List Rectangle) : Type 0 where
@@ -54,20 +57,18 @@ pub record WholeFront (width height : ℕ) (bytes after : List ℕ) (rs : List R
   pub recorded : IsRecorded message_limit (host_of width height whole rs)
   pub reads : message_at message_limit width height bytes ≡ Got (Recorded rs) (after ++ drop message_limit bytes)
 
-pub front_whole : (width height : ℕ) (bytes kind rest after : List ℕ) (rs : List Rectangle) → field {E = WireFault} 1 bytes ≡ Got kind rest → nat_eq (slice_index kind 0) 0 ≡ true
+pub front_whole : (width height : ℕ) (bytes after : List ℕ) (rs : List Rectangle) → 0 < length bytes → slice_index bytes 0 ≡ 0
     → update_at width height (take message_limit bytes) ≡ Got (Recorded rs) after → WholeFront width height bytes after rs
-front_whole width height bytes kind rest after rs e is got =
-    let f = field_got 1 bytes kind rest e in
-    let first : slice_index bytes 0 ≡ 0 = sym (get_or-take 1 bytes 0 0 (omega arith)) ∙ ap (λ z. slice_index z 0) (sym f.is) ∙ eqb-true (slice_index kind 0) 0 is in
-    let front : slice_index (take message_limit bytes) 0 ≡ 0 = get_or-take message_limit bytes 0 0 (omega arith) ∙ first in
+front_whole width height bytes after rs some is got =
+    let front : slice_index (take message_limit bytes) 0 ≡ 0 = get_or-take message_limit bytes 0 0 (omega arith) ∙ is in
     let u = update_read width height (take message_limit bytes) rs after front got in
     let lengths = ap length u.1 in
     let short : length u.0 ≤ message_limit = omega (arith, length-append u.0 after, length-take message_limit bytes) in
     record {
       whole = u.0;
       front_is = u.1;
-      recorded = message_is_read message_limit width height u.0 rs (record { update = u.2; short = short });
-      reads = front_got message_limit width height bytes kind rest after (Recorded rs) e is got;
+      recorded = message_is_read message_limit width height u.0 rs (record { kind = inl (u.2, short); short = omega arith });
+      reads = front_got message_limit width height bytes after (Recorded rs) some is got;
     }
 
 -- the front that the code takes

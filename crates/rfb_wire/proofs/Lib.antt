@@ -5,5 +5,8 @@ pub mod Turns
 pub mod Streams
 pub mod Whole
 pub mod Messages
+pub mod Over
+pub mod Others
 pub mod FromFront
 pub mod FrontMessage
+pub mod FrontOthers

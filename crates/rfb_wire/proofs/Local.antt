@@ -1,15 +1,15 @@
 -- What bytes say they say whatever follows them: each part of the grammar is local.
 use Rattle.std.proofs.Common.{ℕ, zero, suc, ◌+◌, ◌*◌, List, ◌∷◌, ◌++◌, nat_eq, slice_index, refl}
 use Rattle.std.proofs.Common.{inl, inr}
-use Rattle.std.specs.Prelude.{if◌then◌else◌}
-use Rattle.pixel_format.specs.Reading.{Reading, Got, Bad, ◌>>=◌, field, guard, within, Extends, IsLocal}
+use Rattle.std.specs.Prelude.{nat_lt, [], if◌then◌else◌}
+use Rattle.pixel_format.specs.Reading.{Reading, Got, ◌>>=◌, field, guard, within, Extends, IsLocal}
 use Rattle.pixel_format.proofs.Readings.{field_local, bind_local, guard_local, within_local, true_or_false}
 use Rattle.rfb_wire.specs.declared.message.Area.{Area}
 use Rattle.rfb_wire.specs.declared.message.Rectangle.{Rectangle}
 use Rattle.rfb_wire.specs.declared.message.Encoding.TheVariants as encodings
 use Rattle.rfb_wire.specs.declared.fault.WireFault.{WireFault}
 use Rattle.rfb_wire.specs.declared.fault.WireFault.TheVariants as faults
-use Rattle.rfb_wire.specs.Grammar.{area_of, encoding_number, is_inside, raw_at, data_at, rectangle_at, rectangles_at, update_at, message_at, Message, Recorded, u16_at}
+use Rattle.rfb_wire.specs.Grammar.{area_of, encoding_number, is_inside, raw_at, data_at, rectangle_at, rectangles_at, update_at, message_at, other_at, color_map_at, text_at, text_data_at, read_over, text_limit, Message, Recorded, ReadOver, u16_at, u32_at}
 
 raw_local : (area : Area) (at : ℕ) → IsLocal (raw_at area at)
 unfolding raw_at
@@ -56,18 +56,64 @@ update_local width height bytes more =
     (λ f rest. bind_local (rectangles_at width height (u16_at f 1) 4 rest) (rectangles_at width height (u16_at f 1) 4 (rest ++ more)) more h h
     (rectangles_local width height (u16_at f 1) 4 rest more) (λ rectangles after. refl)))
 
-by_type : (limit width height type : ℕ) (bytes more : List ℕ)
-    → Extends (if nat_eq type 0 then within limit faults.TooLong (update_at width height) bytes else Bad faults.UnknownType) more
-    (if nat_eq type 0 then within limit faults.TooLong (update_at width height) (bytes ++ more) else Bad faults.UnknownType)
-by_type limit width height type bytes more = elim (true_or_false (nat_eq type 0)) [
+read_over_local : (n : ℕ) → IsLocal (read_over n)
+unfolding read_over
+read_over_local n bytes more =
+    let f : List ℕ → List ℕ → Reading Message WireFault = λ skipped rest. Got ReadOver rest in
+    bind_local (field n bytes) (field n (bytes ++ more)) more f f (field_local WireFault n bytes more) (λ skipped rest. refl)
+
+text_data_local : (n : ℕ) → IsLocal (text_data_at n)
+unfolding text_data_at
+text_data_local n bytes more =
+    let f : List ℕ → List ℕ → Reading Message WireFault = λ text rest. Got (Recorded []) rest in
+    bind_local (field n bytes) (field n (bytes ++ more)) more f f (field_local WireFault n bytes more) (λ text rest. refl)
+
+color_map_local : IsLocal color_map_at
+unfolding color_map_at
+color_map_local bytes more =
+    let f : List ℕ → List ℕ → Reading Message WireFault = λ head rest. read_over (6 * u16_at head 3) rest in
+    bind_local (field 5 bytes) (field 5 (bytes ++ more)) more f f (field_local WireFault 5 bytes more)
+    (λ head rest. read_over_local (6 * u16_at head 3) rest more)
+
+text_by_length : (n : ℕ) (bytes more : List ℕ) → Extends (if nat_lt text_limit n then read_over n bytes else text_data_at n bytes) more
+    (if nat_lt text_limit n then read_over n (bytes ++ more) else text_data_at n (bytes ++ more))
+text_by_length n bytes more = elim (true_or_false (nat_lt text_limit n)) [
+  | inl t ↦ rw t (read_over_local n bytes more)
+  | inr t ↦ rw t (text_data_local n bytes more)
+]
+
+text_local : IsLocal text_at
+unfolding text_at
+text_local bytes more =
+    let f : List ℕ → List ℕ → Reading Message WireFault = λ head rest. if nat_lt text_limit (u32_at head 3) then read_over (u32_at head 3) rest else text_data_at (u32_at head 3) rest in
+    bind_local (field 7 bytes) (field 7 (bytes ++ more)) more f f (field_local WireFault 7 bytes more)
+    (λ head rest. text_by_length (u32_at head 3) rest more)
+
+other_local : (type : ℕ) → IsLocal (other_at type)
+unfolding other_at
+other_local type bytes more = elim (true_or_false (nat_eq type 1)) [
+  | inl t ↦ rw t (color_map_local bytes more)
+  | inr t ↦ elim (true_or_false (nat_eq type 2)) [
+    | inl u ↦ rw (t, u) refl
+    | inr u ↦ elim (true_or_false (nat_eq type 3)) [
+      | inl v ↦ rw (t, u, v) (text_local bytes more)
+      | inr v ↦ rw (t, u, v) refl
+    ]
+  ]
+]
+
+by_type : (limit width height type : ℕ) (bytes rest more : List ℕ)
+    → Extends (if nat_eq type 0 then within limit faults.TooLong (update_at width height) bytes else other_at type rest) more
+    (if nat_eq type 0 then within limit faults.TooLong (update_at width height) (bytes ++ more) else other_at type (rest ++ more))
+by_type limit width height type bytes rest more = elim (true_or_false (nat_eq type 0)) [
   | inl t ↦ rw t (within_local limit faults.TooLong (update_at width height) (update_local width height) bytes more)
-  | inr t ↦ rw t refl
+  | inr t ↦ rw t (other_local type rest more)
 ]
 
 pub message_local : (limit width height : ℕ) → IsLocal (message_at limit width height)
 unfolding message_at
 message_local limit width height bytes more =
-    let f : List ℕ → List ℕ → Reading Message WireFault = λ type rest. if nat_eq (slice_index type 0) 0 then within limit faults.TooLong (update_at width height) bytes else Bad faults.UnknownType in
-    let g : List ℕ → List ℕ → Reading Message WireFault = λ type rest. if nat_eq (slice_index type 0) 0 then within limit faults.TooLong (update_at width height) (bytes ++ more) else Bad faults.UnknownType in
+    let f : List ℕ → List ℕ → Reading Message WireFault = λ type rest. if nat_eq (slice_index type 0) 0 then within limit faults.TooLong (update_at width height) bytes else other_at (slice_index type 0) rest in
+    let g : List ℕ → List ℕ → Reading Message WireFault = λ type rest. if nat_eq (slice_index type 0) 0 then within limit faults.TooLong (update_at width height) (bytes ++ more) else other_at (slice_index type 0) rest in
     bind_local (field 1 bytes) (field 1 (bytes ++ more)) more f g (field_local WireFault 1 bytes more)
-    (λ type rest. by_type limit width height (slice_index type 0) bytes more)
+    (λ type rest. by_type limit width height (slice_index type 0) bytes rest more)

@@ -1,24 +1,20 @@
 -- What the grammar reads is a message, and each message is what it reads.
-use Rattle.std.proofs.Common.{◌≡◌, ℕ, zero, suc, ◌+◌, ◌*◌, ◌≤◌, inl, inr, true, List, [], ◌∷◌, ◌++◌, ◌-◌, length, take, drop, nat_eq, slice_index, refl, sym, ap, ◌∙◌, subst, arith, append_assoc, eqb-true, eq-eqb}
+use Rattle.std.proofs.Common.{◌≡◌, ℕ, zero, suc, ◌+◌, ◌*◌, ◌≤◌, ◌⊎◌, length-append, inl, inr, true, false, List, [], ◌∷◌, ◌++◌, ◌-◌, length, take, drop, nat_eq, slice_index, refl, sym, ap, ◌∙◌, subst, arith, append_assoc, eqb-true, eq-eqb}
 use Rattle.std.specs.Prelude.{if◌then◌else◌}
 use Rattle.std.proofs.lemmas.Bool.{le-leb}
-use Rattle.std.proofs.lemmas.List.{length-take-le, length-drop, take-append-drop, take_all, append-nil}
-use Rattle.pixel_format.specs.Reading.{Got, Bad, ◌>>=◌, field, guard, within}
-use Rattle.pixel_format.proofs.Readings.{bind_got, guard_got, FieldIs, field_got, field-whole, within_got, within-short, true_or_false}
+use Rattle.std.proofs.lemmas.List.{length-drop, take_all, append-nil}
+use Rattle.pixel_format.specs.Reading.{Got, ◌>>=◌, field, guard, within}
+use Rattle.pixel_format.proofs.Readings.{bind_got, guard_got, field_got, field-whole, within_got, within-short, true_or_false}
 use Rattle.rfb_wire.specs.declared.message.Area.{Area}
 use Rattle.rfb_wire.specs.declared.message.Rectangle.{Rectangle}
 use Rattle.rfb_wire.specs.declared.message.Encoding.{Encoding}
 use Rattle.rfb_wire.specs.declared.message.Encoding.TheVariants as encodings
 use Rattle.rfb_wire.specs.declared.fault.WireFault.{WireFault}
 use Rattle.rfb_wire.specs.declared.fault.WireFault.TheVariants as faults
-use Rattle.rfb_wire.specs.Grammar.{area_of, encoding_number, is_inside, raw_at, data_at, rectangle_at, rectangles_at, update_at, message_at, Recorded, u16_at}
+use Rattle.rfb_wire.specs.Grammar.{area_of, encoding_number, is_inside, raw_at, data_at, rectangle_at, rectangles_at, update_at, message_at, other_at, Recorded, u16_at}
 use Rattle.rfb_wire.specs.Message.{number_of, AreData, IsRectangle, AreRectangles, IsUpdate, IsMessage}
+use Rattle.rfb_wire.proofs.Others.{field_front, TextRead, other_read, other_of_bell, other_of_text, text_again}
 use Rattle.rfb_wire.proofs.Placed.{inside_width, inside_height}
-
--- a field and what stands behind it
-field_front : (n : ℕ) (bytes f rest : List ℕ) → FieldIs n bytes f rest → (bytes ≡ f ++ rest) × (length f ≡ n)
-field_front n bytes f rest is =
-    (rw (is.is, is.rest_is) (sym (take-append-drop n bytes)), rw is.is (length-take-le n bytes is.enough))
 
 -- Raw data that are read
 record RawRead (area : Area) (at : ℕ) (bytes : List ℕ) (r : Rectangle) (rest : List ℕ) : Type 0 where
@@ -112,7 +108,7 @@ rectangles_read width height (suc count) at bytes rs rest e =
     })
 
 -- a list of so many numbers
-one_number : (f : List ℕ) → length f ≡ 1 → f ≡ slice_index f 0 ∷ []
+pub one_number : (f : List ℕ) → length f ≡ 1 → f ≡ slice_index f 0 ∷ []
 one_number [] e = absurd (omega arith)
 one_number (a ∷ []) e = refl
 one_number (a ∷ b ∷ f) e = absurd (omega arith)
@@ -161,11 +157,27 @@ update_read width height bytes rs rest type e =
       },
     )
 
+-- a bell or a text that is read whole
+other_message : (limit width height type : ℕ) (bytes body : List ℕ) (rs : List Rectangle) → bytes ≡ type ∷ body
+    → ((type ≡ 2) × (body ≡ []) × (rs ≡ [])) ⊎ ((type ≡ 3) × TextRead body rs []) → IsMessage limit width height bytes rs
+other_message limit width height type bytes body rs is (inl b) =
+    let bell : bytes ≡ 2 ∷ [] = is ∙ rw (b.0, b.1) refl in
+    let one : length bytes ≡ 1 = ap length bell in
+    record { kind = inr (b.2, inl bell); short = omega arith }
+other_message limit width height type bytes body rs is (inr t) =
+    let r = t.1 in
+    let whole : bytes ≡ 3 ∷ (r.head ++ r.text) = is ∙ rw (t.0, r.bytes_are, append-nil) refl in
+    let lengths : length bytes ≡ 1 + (length r.head + length r.text) = ap length whole ∙ rw length-append (omega arith) in
+    record {
+      kind = inr (r.none, inr (record { head = r.head; text = r.text; bytes_are = whole; head_length = r.head_length; text_length = r.text_length; text_short = r.text_short }));
+      short = omega (arith, r.head_length, r.text_short);
+    }
+
 pub read_is_message : (limit width height : ℕ) (bytes : List ℕ) (rs : List Rectangle) → message_at limit width height bytes ≡ Got (Recorded rs) []
     → IsMessage limit width height bytes rs
 unfolding message_at
 read_is_message limit width height bytes rs e =
-    let b = bind_got (field 1 bytes) (λ type rest. if nat_eq (slice_index type 0) 0 then within limit faults.TooLong (update_at width height) bytes else Bad faults.UnknownType) (Recorded rs) [] e in
+    let b = bind_got (field 1 bytes) (λ type rest. if nat_eq (slice_index type 0) 0 then within limit faults.TooLong (update_at width height) bytes else other_at (slice_index type 0) rest) (Recorded rs) [] e in
     let t = field_front 1 bytes b.value b.rest (field_got 1 bytes b.value b.rest b.first) in
     let one = one_number b.value t.1 in
     let bytes_are : bytes ≡ slice_index b.value 0 ∷ b.rest = t.0 ∙ ap (λ z. z ++ b.rest) one in
@@ -182,8 +194,10 @@ read_is_message limit width height bytes rs e =
           let type : slice_index bytes 0 ≡ 0 = ap (λ z. slice_index z 0) bytes_are ∙ eqb-true (slice_index b.value 0) 0 is in
           let u = update_read width height bytes rs [] type update in
           let front : u.0 ≡ bytes = sym (u.1 ∙ append-nil u.0) in
-          record { update = subst (λ z. IsUpdate width height z rs) front u.2; short = short })
-      | inr is ↦ (let e' = rw is at b.then in absurd (cc))
+          record { kind = inl (subst (λ z. IsUpdate width height z rs) front u.2, short); short = omega arith })
+      | inr is ↦
+          (let e' = rw is at b.then in
+          other_message limit width height (slice_index b.value 0) bytes b.rest rs bytes_are (other_read (slice_index b.value 0) b.rest rs [] e'))
     ]
 
 -- an area within the screen
@@ -258,11 +272,26 @@ update_again width height bytes rs is =
       field-whole {E = WireFault} 3 (is.padding ∷ is.high ∷ is.low ∷ []) is.body refl,
     ) (rw whole refl)
 
-pub message_is_read : (limit width height : ℕ) (bytes : List ℕ) (rs : List Rectangle) → IsMessage limit width height bytes rs
+update_is_read : (limit width height : ℕ) (bytes : List ℕ) (rs : List Rectangle) → IsUpdate width height bytes rs → length bytes ≤ limit
     → message_at limit width height bytes ≡ Got (Recorded rs) []
 unfolding message_at
-message_is_read limit width height bytes rs is =
-    let u = is.update in
+update_is_read limit width height bytes rs u short =
     let type : field {E = WireFault} 1 bytes ≡ Got (0 ∷ []) (u.padding ∷ u.high ∷ u.low ∷ u.body) =
     ap (field {E = WireFault} 1) u.bytes_are ∙ field-whole {E = WireFault} 1 (0 ∷ []) (u.padding ∷ u.high ∷ u.low ∷ u.body) refl in
-    rw type (within-short limit faults.TooLong (update_at width height) bytes is.short ∙ update_again width height bytes rs u)
+    rw type (within-short limit faults.TooLong (update_at width height) bytes short ∙ update_again width height bytes rs u)
+
+pub other_is_read : (limit width height type : ℕ) (body : List ℕ) → nat_eq type 0 ≡ false → message_at limit width height (type ∷ body) ≡ other_at type body
+unfolding message_at
+other_is_read limit width height type body is = rw (field-whole {E = WireFault} 1 (type ∷ []) body refl, is) refl
+
+pub message_is_read : (limit width height : ℕ) (bytes : List ℕ) (rs : List Rectangle) → IsMessage limit width height bytes rs
+    → message_at limit width height bytes ≡ Got (Recorded rs) []
+message_is_read limit width height bytes rs is = elim is.kind [
+  | inl u ↦ update_is_read limit width height bytes rs u.0 u.1
+  | inr o ↦ elim o.1 [
+    | inl bell ↦ ap (message_at limit width height) bell ∙ other_is_read limit width height 2 [] refl ∙ other_of_bell [] ∙ ap (λ z. Got (Recorded z) []) (sym o.0)
+    | inr t ↦
+        ap (message_at limit width height) t.bytes_are ∙ other_is_read limit width height 3 (t.head ++ t.text) refl ∙ other_of_text (t.head ++ t.text)
+        ∙ text_again t.head t.text t.head_length t.text_length t.text_short ∙ ap (λ z. Got (Recorded z) []) (sym o.0)
+  ]
+]

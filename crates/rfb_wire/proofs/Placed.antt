@@ -1,18 +1,19 @@
 -- The rectangles of a recorded message lie within the screen, and their data within the message.
-use Rattle.std.proofs.Common.{◌≡◌, ℕ, zero, suc, ◌+◌, ◌*◌, ◌≤◌, Bool, true, false, List, [], ◌∷◌, length, take, nat_le, nat_eq, slice_index, ◌&&◌, refl, ap, subst, arith, length-drop, inl, inr}
+use Rattle.std.proofs.Common.{◌≡◌, ℕ, zero, suc, ◌+◌, ◌*◌, ◌≤◌, Bool, true, false, List, [], ◌∷◌, length, take, nat_le, nat_eq, slice_index, ◌&&◌, refl, sym, ap, subst, arith, length-drop, inl, inr}
 use Rattle.std.specs.List.{AllByRecursion}
 use Rattle.std.specs.Prelude.{All}
 use Rattle.std.proofs.lemmas.List.{length-take}
 use Rattle.std.proofs.lemmas.Bool.{leb-true}
 use Rattle.std.specs.Prelude.{if◌then◌else◌}
 use Rattle.std.proofs.lemmas.List.Elements.{All-from_recursion}
-use Rattle.pixel_format.specs.Reading.{Got, Bad, ◌>>=◌, field, guard, within}
+use Rattle.pixel_format.specs.Reading.{Got, ◌>>=◌, field, guard, within}
 use Rattle.pixel_format.proofs.Readings.{bind_got, guard_got, FieldIs, field_got, within_got, true_or_false}
 use Rattle.rfb_wire.specs.declared.message.Area.{Area}
 use Rattle.rfb_wire.specs.declared.message.Rectangle.{Rectangle}
 use Rattle.rfb_wire.specs.declared.message.Encoding.TheVariants as encodings
 use Rattle.rfb_wire.specs.declared.fault.WireFault.TheVariants as faults
-use Rattle.rfb_wire.specs.Grammar.{area_of, encoding_number, is_inside, raw_at, data_at, rectangle_at, rectangles_at, update_at, message_at, Recorded, u16_at}
+use Rattle.rfb_wire.specs.Grammar.{area_of, encoding_number, is_inside, raw_at, data_at, rectangle_at, rectangles_at, update_at, message_at, other_at, Recorded, u16_at}
+use Rattle.rfb_wire.proofs.Others.{other_none}
 use Rattle.rfb_wire.specs.Host.{Host, IsPlaced, IsRecorded}
 
 both : (a b : Bool) → (a && b) ≡ true → (a ≡ true) × (b ≡ true)
@@ -120,11 +121,13 @@ update_got m bytes rs rest room e =
 pub recorded_placed : (limit : ℕ) (m : Host) → IsRecorded limit m → All (IsPlaced m) m.rectangles
 unfolding message_at
 recorded_placed limit m e =
-    let b = bind_got (field 1 m.bytes) (λ type rest. if nat_eq (slice_index type 0) 0 then within limit faults.TooLong (update_at m.width m.height) m.bytes else Bad faults.UnknownType) (Recorded m.rectangles) [] e in
+    let b = bind_got (field 1 m.bytes) (λ type rest. if nat_eq (slice_index type 0) 0 then within limit faults.TooLong (update_at m.width m.height) m.bytes else other_at (slice_index type 0) rest) (Recorded m.rectangles) [] e in
     All-from_recursion (IsPlaced m) m.rectangles (elim (true_or_false (nat_eq (slice_index b.value 0) 0)) [
       | inl t ↦
           (let e' = rw t at b.then in
           let w = within_got limit faults.TooLong (update_at m.width m.height) m.bytes (Recorded m.rectangles) [] e' in
           update_got m (take limit m.bytes) m.rectangles w.rest (rw length-take (omega arith)) w.first)
-      | inr t ↦ (let e' = rw t at b.then in absurd (cc))
+      | inr t ↦
+          (let e' = rw t at b.then in
+          subst (AllByRecursion (IsPlaced m)) (sym (other_none (slice_index b.value 0) b.rest m.rectangles [] e')) tt)
     ])

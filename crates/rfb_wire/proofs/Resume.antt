@@ -1,6 +1,7 @@
 -- What follows from a whole field: one equation for each stage.
 use Rattle.std.proofs.Common.{◌≡◌, ℕ, ◌+◌, ◌*◌, true, false, List, [], ◌∷◌, ◌++◌, length, nat_eq, slice_index, refl, ap, ◌∙◌, append_assoc}
-use Rattle.pixel_format.specs.Reading.{Reading, Got, More, Bad, ◌>>=◌, guard}
+use Rattle.std.specs.Prelude.{nat_lt, if◌then◌else◌}
+use Rattle.pixel_format.specs.Reading.{Reading, Got, More, Bad, ◌>>=◌, field, guard}
 use Rattle.pixel_format.proofs.Readings.{field-whole}
 use Rattle.rfb_wire.specs.declared.message.Area.{Area}
 use Rattle.rfb_wire.specs.declared.message.Rectangle.{Rectangle}
@@ -8,18 +9,30 @@ use Rattle.rfb_wire.specs.declared.message.Encoding.TheVariants as encodings
 use Rattle.rfb_wire.specs.declared.fault.WireFault.{WireFault}
 use Rattle.rfb_wire.specs.declared.fault.WireFault.TheVariants as faults
 use Rattle.rfb_wire.specs.declared.progress.Stage.TheVariants as stages
-use Rattle.rfb_wire.specs.Grammar.{signed, area_of, encoding_number, is_inside, raw_at, data_at, rectangle_at, rectangles_at, update_at, Message, Recorded, u16_at}
+use Rattle.rfb_wire.specs.Grammar.{signed, area_of, encoding_number, is_inside, raw_at, data_at, rectangle_at, rectangles_at, update_at, Message, Recorded, ReadOver, other_at, color_map_at, text_at, text_data_at, read_over, text_limit, u16_at, u32_at}
 use Rattle.rfb_wire.specs.Progress.{unlimited_at, behind, others_at, resume}
 
 pub behind_nil : (r : Reading Message WireFault) → behind [] r ≡ r
 behind_nil (Got (Recorded rs) rest) = refl
+behind_nil (Got ReadOver rest) = refl
 behind_nil More = refl
 behind_nil (Bad f) = refl
 
 pub behind_behind : (a b : List Rectangle) (r : Reading Message WireFault) → behind a (behind b r) ≡ behind (a ++ b) r
 behind_behind a b (Got (Recorded rs) rest) = rw append_assoc refl
+behind_behind a b (Got ReadOver rest) = refl
 behind_behind a b More = refl
 behind_behind a b (Bad f) = refl
+
+-- a message that is read over has no rectangles
+over_behind : (done : List Rectangle) (r : Reading (List ℕ) WireFault) → behind done (r >>= λ skipped rest. Got ReadOver rest) ≡ (r >>= λ skipped rest. Got ReadOver rest)
+over_behind done (Got x rest) = refl
+over_behind done More = refl
+over_behind done (Bad f) = refl
+
+pub behind_over : (done : List Rectangle) (n : ℕ) (more : List ℕ) → behind done (read_over n more) ≡ read_over n more
+unfolding read_over
+behind_over done n more = over_behind done (field n more)
 
 pub others-zero : (width height at : ℕ) (more : List ℕ) → others_at width height 0 at more ≡ Got (Recorded []) more
 unfolding others_at rectangles_at
@@ -30,10 +43,26 @@ pub type_of_update : (width height : ℕ) (f more : List ℕ) → length f ≡ 1
 unfolding resume unlimited_at update_at others_at
 type_of_update width height f more whole is = rw (field-whole {E = WireFault} 1 f more whole, is) refl
 
-pub type_unknown : (width height : ℕ) (f more : List ℕ) → length f ≡ 1 → nat_eq (slice_index f 0) 0 ≡ false
-    → resume width height stages.Type (f ++ more) ≡ Bad faults.UnknownType
+-- the type of another message
+pub type_of_other : (width height : ℕ) (f more : List ℕ) → length f ≡ 1 → nat_eq (slice_index f 0) 0 ≡ false
+    → resume width height stages.Type (f ++ more) ≡ other_at (slice_index f 0) more
 unfolding resume unlimited_at
-type_unknown width height f more whole is = rw (field-whole {E = WireFault} 1 f more whole, is) refl
+type_of_other width height f more whole is = rw (field-whole {E = WireFault} 1 f more whole, is) refl
+
+pub head_of_color_map : (width height : ℕ) (f more : List ℕ) → length f ≡ 5
+    → resume width height stages.ColorMapHead (f ++ more) ≡ read_over (6 * u16_at f 3) more
+unfolding resume color_map_at
+head_of_color_map width height f more whole = rw (field-whole {E = WireFault} 5 f more whole) refl
+
+pub head_of_text : (width height : ℕ) (f more : List ℕ) → length f ≡ 7
+    → resume width height stages.TextHead (f ++ more) ≡ (if nat_lt text_limit (u32_at f 3) then read_over (u32_at f 3) more else text_data_at (u32_at f 3) more)
+unfolding resume text_at
+head_of_text width height f more whole = rw (field-whole {E = WireFault} 7 f more whole) refl
+
+pub data_of_text : (width height : ℕ) (n : ℕ) (text more : List ℕ) → length text ≡ n
+    → resume width height (stages.TextData n) (text ++ more) ≡ Got (Recorded []) more
+unfolding resume text_data_at
+data_of_text width height n text more whole = rw (field-whole {E = WireFault} n text more whole) refl
 
 pub head_of_update : (width height : ℕ) (f more : List ℕ) → length f ≡ 3
     → resume width height stages.UpdateHead (f ++ more) ≡ others_at width height (u16_at f 1) 4 more

@@ -4,60 +4,61 @@ use Rattle.std.specs.Prelude.{if◌then◌else◌}
 use Rattle.std.proofs.lemmas.List.{append-nil, drop_all, drop-append-le, take_at, take-append-drop, length-drop}
 use Rattle.rfb_wire.specs.Host.{host_of, IsRecorded}
 use Rattle.pixel_format.specs.Reading.{Reading, Got, More, Bad, ◌>>=◌, field, within}
-use Rattle.pixel_format.proofs.Readings.{field-whole, field-short, within-short, within-long, true_or_false}
+use Rattle.pixel_format.proofs.Readings.{field-whole, field-short, within-short, within-long}
 use Rattle.rfb_wire.specs.declared.message.Rectangle.{Rectangle}
 use Rattle.rfb_wire.specs.declared.fault.WireFault.{WireFault}
 use Rattle.rfb_wire.specs.declared.fault.WireFault.TheVariants as faults
 use Rattle.rfb_wire.specs.declared.progress.Stage.{Stage}
 use Rattle.rfb_wire.specs.declared.progress.Stage.TheVariants as stages
-use Rattle.rfb_wire.specs.Grammar.{update_at, message_at, Message, Recorded, raw_at, rectangle_at, rectangles_at}
-use Rattle.rfb_wire.specs.Progress.{wants_of, start_of, unlimited_at, behind, others_at, resume, go_on, step_on, Linked, IsAt}
+use Rattle.rfb_wire.specs.Grammar.{update_at, message_at, other_at, color_map_at, text_at, text_data_at, read_over, Message, Recorded, raw_at, rectangle_at, rectangles_at}
+use Rattle.rfb_wire.specs.Progress.{wants_of, start_of, unlimited_at, behind, others_at, resume, go_on, step_on, Linked, IsInField, IsOfKind, IsOfUpdate}
 use Rattle.rfb_wire.specs.declared.progress.Progress.{Progress}
+use Rattle.rfb_wire.specs.declared.progress.Next.{Next}
+use Rattle.rfb_wire.specs.declared.progress.Next.TheVariants as nexts
 use Rattle.rfb_wire.specs.declared.progress.Step.{Step}
 use Rattle.rfb_wire.specs.Stream.{UnlessMemory}
-use Rattle.std.specs.Prelude.{Option, Some, None}
 use Rattle.std.specs.Option.{option_to_list}
-use Rattle.rfb_wire.proofs.Resume.{behind_nil, behind_behind}
+use Rattle.rfb_wire.proofs.Resume.{behind_nil, behind_behind, behind_over}
 use Rattle.rfb_wire.proofs.Local.{message_local}
 
 -- up to the limit, the limit plays no part
 pub message-short : (limit width height : ℕ) (bytes : List ℕ) → length bytes ≤ limit → message_at limit width height bytes ≡ unlimited_at width height bytes
 unfolding message_at unlimited_at
 message-short limit width height bytes short =
-    ap (λ (q : Reading Message WireFault). field 1 bytes >>= λ type rest. if nat_eq (slice_index type 0) 0 then q else Bad faults.UnknownType)
+    ap (λ (q : Reading Message WireFault). field 1 bytes >>= λ type rest. if nat_eq (slice_index type 0) 0 then q else other_at (slice_index type 0) rest)
     (within-short limit faults.TooLong (update_at width height) bytes short)
 
 -- the parts of a message by its first byte
-unlimited-first : (width height b : ℕ) (bytes : List ℕ)
-    → unlimited_at width height (b ∷ bytes) ≡ (if nat_eq b 0 then update_at width height (b ∷ bytes) else Bad faults.UnknownType)
+pub unlimited-first : (width height b : ℕ) (bytes : List ℕ)
+    → unlimited_at width height (b ∷ bytes) ≡ (if nat_eq b 0 then update_at width height (b ∷ bytes) else other_at b bytes)
 unfolding unlimited_at
 unlimited-first width height b bytes = rw (field-whole {E = WireFault} 1 (b ∷ []) bytes refl) refl
 
-message-first : (limit width height b : ℕ) (bytes : List ℕ)
-    → message_at limit width height (b ∷ bytes) ≡ (if nat_eq b 0 then within limit faults.TooLong (update_at width height) (b ∷ bytes) else Bad faults.UnknownType)
+pub message-first : (limit width height b : ℕ) (bytes : List ℕ)
+    → message_at limit width height (b ∷ bytes) ≡ (if nat_eq b 0 then within limit faults.TooLong (update_at width height) (b ∷ bytes) else other_at b bytes)
 unfolding message_at
 message-first limit width height b bytes = rw (field-whole {E = WireFault} 1 (b ∷ []) bytes refl) refl
 
 -- an update that isn't whole at the limit is too long with one byte more
-pub message-long : (limit width height : ℕ) (kept more : List ℕ) → 0 < limit → length kept ≡ limit → unlimited_at width height kept ≡ More → 0 < length more
+pub message-long : (limit width height : ℕ) (kept more : List ℕ) → IsOfUpdate kept → length kept ≡ limit → unlimited_at width height kept ≡ More → 0 < length more
     → message_at limit width height (kept ++ more) ≡ Bad faults.TooLong
-message-long limit width height [] more some at waits one = absurd (omega arith)
-message-long limit width height (b ∷ kept) more some at waits one =
-    let is = sym (unlimited-first width height b kept) ∙ waits in
-    message-first limit width height b (kept ++ more) ∙ (elim (true_or_false (nat_eq b 0)) [
-      | inl t ↦
-          (let update = rw t at is in
-          let over : limit < length ((b ∷ kept) ++ more) = rw (length-append (b ∷ kept) more) (omega arith) in
-          let front : take limit ((b ∷ kept) ++ more) ≡ b ∷ kept = take_at (b ∷ kept) more limit at in
-          rw t (within-long limit faults.TooLong (update_at width height) ((b ∷ kept) ++ more) over (ap (update_at width height) front ∙ update)))
-      | inr t ↦ (let e = rw t at is in absurd (cc))
-    ])
+message-long limit width height kept more (rest, is) at waits one =
+    let update : update_at width height (0 ∷ rest) ≡ More = sym (unlimited-first width height 0 rest) ∙ ap (unlimited_at width height) (sym is) ∙ waits in
+    let at' : length (0 ∷ rest) ≡ limit = ap length (sym is) ∙ at in
+    let over : limit < length ((0 ∷ rest) ++ more) = rw (length-append (0 ∷ rest) more) (omega arith) in
+    let front : take limit ((0 ∷ rest) ++ more) ≡ 0 ∷ rest = take_at (0 ∷ rest) more limit at' in
+    ap (λ z. message_at limit width height (z ++ more)) is
+    ∙ message-first limit width height 0 (rest ++ more)
+    ∙ within-long limit faults.TooLong (update_at width height) ((0 ∷ rest) ++ more) over (ap (update_at width height) front ∙ update)
 
 -- a field that isn't whole
 resume-short : (width height : ℕ) (stage : Stage) (bytes : List ℕ) → length bytes < wants_of stage → resume width height stage bytes ≡ More
-unfolding resume unlimited_at others_at rectangles_at rectangle_at raw_at
+unfolding resume unlimited_at others_at rectangles_at rectangle_at raw_at color_map_at text_at text_data_at
 resume-short width height stages.Type bytes short = rw (field-short {E = WireFault} 1 bytes short) refl
 resume-short width height stages.UpdateHead bytes short = rw (field-short {E = WireFault} 3 bytes short) refl
+resume-short width height stages.ColorMapHead bytes short = rw (field-short {E = WireFault} 5 bytes short) refl
+resume-short width height stages.TextHead bytes short = rw (field-short {E = WireFault} 7 bytes short) refl
+resume-short width height (stages.TextData n) bytes short = rw (field-short {E = WireFault} n bytes short) refl
 resume-short width height (stages.RectangleHead at others) bytes short = rw (field-short {E = WireFault} 12 bytes short) refl
 resume-short width height (stages.RawData at area others) bytes short = rw (field-short {E = WireFault} (4 * (area.w * area.h)) bytes short) refl
 
@@ -71,6 +72,18 @@ linked_waits limit width height bytes rectangles stage l short =
     ∙ ap (λ z. behind rectangles (resume width height stage z)) (append-nil (drop (start_of stage) bytes))
     ∙ ap (behind rectangles) (resume-short width height stage (drop (start_of stage) bytes) few)
 
+of_update_more : (bytes more : List ℕ) → IsOfUpdate bytes → IsOfUpdate (bytes ++ more)
+of_update_more bytes more (rest, is) = (rest ++ more, ap (λ z. z ++ more) is)
+
+kind_more : (stage : Stage) (bytes more : List ℕ) → IsOfKind stage bytes → IsOfKind stage (bytes ++ more)
+kind_more stages.Type bytes more k = tt
+kind_more stages.UpdateHead bytes more k = of_update_more bytes more k
+kind_more stages.ColorMapHead bytes more k = tt
+kind_more stages.TextHead bytes more k = tt
+kind_more (stages.TextData n) bytes more k = k
+kind_more (stages.RectangleHead at others) bytes more k = of_update_more bytes more k
+kind_more (stages.RawData at area others) bytes more k = of_update_more bytes more k
+
 -- more bytes of the field
 pub linked_more : (limit width height : ℕ) (bytes piece longer : List ℕ) (rectangles : List Rectangle) (stage : Stage) → Linked limit width height bytes rectangles stage
     → longer ≡ bytes ++ piece → length longer ≤ limit → Linked limit width height longer rectangles stage
@@ -79,6 +92,7 @@ linked_more limit width height bytes piece longer rectangles stage l is short = 
       rw (is, append_assoc, drop-append-le (start_of stage) bytes piece l.begun, append_assoc) (l.link (piece ++ more));
   begun = rw (is, length-append) (omega (arith, l.begun));
   short = short;
+  kind = rw is (kind_more stage bytes piece l.kind);
 }
 
 -- at the start of a message
@@ -88,6 +102,7 @@ linked_start limit width height bytes rectangles none no_rectangles = rw (none, 
   link = λ more. sym (behind_nil (unlimited_at width height more));
   begun = omega arith;
   short = omega arith;
+  kind = tt;
 })
 
 -- behind a whole field
@@ -102,9 +117,9 @@ field_goes limit width height bytes rectangles done stage step l goes is more =
     ∙ ap (λ d. behind d (go_on width height step.next more)) (sym is)
 
 -- with no field to come the message is whole
-pub whole_ends : (width height : ℕ) (bytes : List ℕ) (done : List Rectangle) (next : Option Stage)
+pub whole_ends : (width height : ℕ) (bytes : List ℕ) (done : List Rectangle) (next : Next)
     → ((more : List ℕ) → unlimited_at width height (bytes ++ more) ≡ behind done (go_on width height next more))
-    → next ≡ None → unlimited_at width height bytes ≡ Got (Recorded done) []
+    → next ≡ nexts.End → unlimited_at width height bytes ≡ Got (Recorded done) []
 unfolding go_on
 whole_ends width height bytes done next goes none =
     ap (unlimited_at width height) (sym (append-nil bytes)) ∙ goes []
@@ -112,17 +127,26 @@ whole_ends width height bytes done next goes none =
     ∙ ap (λ d. Got (Recorded d) []) (append-nil done)
 
 -- the next field begins where the bytes end
-pub whole_goes : (limit width height : ℕ) (bytes : List ℕ) (done : List Rectangle) (next : Option Stage) (stage : Stage)
+pub whole_goes : (limit width height : ℕ) (bytes : List ℕ) (done : List Rectangle) (next : Next) (stage : Stage)
     → ((more : List ℕ) → unlimited_at width height (bytes ++ more) ≡ behind done (go_on width height next more))
-    → next ≡ Some stage → start_of stage ≡ length bytes → length bytes ≤ limit → Linked limit width height bytes done stage
+    → next ≡ nexts.Field stage → start_of stage ≡ length bytes → length bytes ≤ limit → IsOfKind stage bytes → Linked limit width height bytes done stage
 unfolding go_on
-whole_goes limit width height bytes done next stage goes is begins short =
+whole_goes limit width height bytes done next stage goes is begins short kind =
     let none : drop (start_of stage) bytes ≡ [] = drop_all (start_of stage) bytes (omega arith) in
     record {
       link = λ more. rw none (goes more ∙ ap (λ n. behind done (go_on width height n more)) is);
       begun = omega arith;
       short = short;
+      kind = kind;
     }
+
+-- the bytes behind the field are read over
+pub whole_over : (width height : ℕ) (bytes : List ℕ) (done : List Rectangle) (next : Next) (n : ℕ)
+    → ((more : List ℕ) → unlimited_at width height (bytes ++ more) ≡ behind done (go_on width height next more))
+    → next ≡ nexts.ReadOver n → (more : List ℕ) → unlimited_at width height (bytes ++ more) ≡ read_over n more
+unfolding go_on
+whole_over width height bytes done next n goes is more =
+    goes more ∙ ap (λ k. behind done (go_on width height k more)) is ∙ behind_over done n more
 
 -- a field that is refused
 pub field_faults : (limit width height : ℕ) (bytes : List ℕ) (rectangles : List Rectangle) (stage : Stage) (f : WireFault)
@@ -147,14 +171,24 @@ unless_memory_map (faults.Encoding n) P Q m p = m p
 unless_memory_map faults.TooLong P Q m p = m p
 unless_memory_map faults.NoMemory P Q m p = tt
 
+-- where the message is as long as it may be, and the field isn't whole, it is an update
+long_update : (limit : ℕ) (stage : Stage) (kept : List ℕ) → 65544 ≤ limit → IsOfKind stage kept → length kept < start_of stage + wants_of stage → length kept ≡ limit → IsOfUpdate kept
+long_update limit stages.Type kept room kind few long = absurd (omega arith)
+long_update limit stages.UpdateHead kept room kind few long = kind
+long_update limit stages.ColorMapHead kept room kind few long = absurd (omega arith)
+long_update limit stages.TextHead kept room kind few long = absurd (omega arith)
+long_update limit (stages.TextData n) kept room kind few long = absurd (omega arith)
+long_update limit (stages.RectangleHead at others) kept room kind few long = kind
+long_update limit (stages.RawData at area others) kept room kind few long = kind
+
 -- a piece of which nothing is taken
 pub turn_long : (limit width height : ℕ) (kept piece : List ℕ) (rectangles : List Rectangle) (stage : Stage) (f : WireFault) → Linked limit width height kept rectangles stage
-    → 0 < limit → length kept < start_of stage + wants_of stage → 0 < length piece
+    → 65544 ≤ limit → length kept < start_of stage + wants_of stage → 0 < length piece
     → (f ≡ faults.NoMemory) ⊎ ((f ≡ faults.TooLong) × (length kept ≡ limit))
     → UnlessMemory f (message_at limit width height (kept ++ piece) ≡ Bad f)
-turn_long limit width height kept piece rectangles stage f l some short one (inl e) = rw e tt
-turn_long limit width height kept piece rectangles stage f l some short one (inr e) =
-    rw e.0 (message-long limit width height kept piece some e.1 (linked_waits limit width height kept rectangles stage l short) one)
+turn_long limit width height kept piece rectangles stage f l room short one (inl e) = rw e tt
+turn_long limit width height kept piece rectangles stage f l room short one (inr e) =
+    rw e.0 (message-long limit width height kept piece (long_update limit stage kept room l.kind short e.1) e.1 (linked_waits limit width height kept rectangles stage l short) one)
 
 -- a fault in the bytes that are taken is one of the whole piece
 pub turn_faults : (limit width height n : ℕ) (kept piece taken : List ℕ) (f : WireFault) → taken ≡ kept ++ take n piece → length taken ≤ limit
@@ -175,7 +209,7 @@ whole_recorded limit width height bytes whole rectangles is short e =
     ap (message_at limit width height) is ∙ message-short limit width height whole short ∙ e
 
 -- where a field isn't whole, the message waits
-pub at_waits : (limit width height : ℕ) (p : Progress) → IsAt limit width height p → message_at limit width height p.bytes.items ≡ More
-at_waits limit width height p at =
+pub field_waits : (limit width height : ℕ) (p : Progress) → IsInField limit width height p → message_at limit width height p.bytes.items ≡ More
+field_waits limit width height p at =
     message-short limit width height p.bytes.items at.linked.short
     ∙ linked_waits limit width height p.bytes.items p.rectangles.items p.stage at.linked at.unfinished

@@ -1,5 +1,5 @@
 -- Bytes that are exactly one message, and bytes that aren't.
-use Rattle.std.proofs.Common.{◌≡◌, ℕ, ◌+◌, List, [], ◌∷◌, ◌++◌, length, refl, sym, ap, ◌∙◌, arith, length-append}
+use Rattle.std.proofs.Common.{◌≡◌, ℕ, ◌+◌, List, [], ◌∷◌, ◌++◌, length, refl, sym, ap, subst, ◌∙◌, arith, append_assoc, length-append}
 use Rattle.std.specs.List.{flat_map, AllByRecursion}
 use Rattle.std.proofs.lemmas.List.{append-nil}
 use Rattle.pixel_format.specs.Reading.{More}
@@ -7,48 +7,71 @@ use Rattle.pixel_format.proofs.Readings.{field-short}
 use Rattle.rfb_wire.specs.declared.fault.WireFault.{WireFault}
 use Rattle.rfb_wire.specs.Grammar.{message_at}
 use Rattle.rfb_wire.specs.Host.{Host}
-use Rattle.rfb_wire.specs.Stream.{IsFor, bytes_of, Goes, Reads, FaultOf, Stops}
+use Rattle.rfb_wire.specs.Stream.{IsFor, Part, Given, Passed, IsPart, bytes_of, recorded, Goes, Reads, FaultOf, Stops}
 use Rattle.rfb_wire.specs.declared.fault.WireFault.TheVariants as faults
-use Rattle.rfb_wire.proofs.Streams.{flat_append, waits_begins_none, one_reading, empty_list, message_again, same_host, no_fault}
+use Rattle.rfb_wire.proofs.Streams.{reads_one, waits_begins_none, one_reading, empty_list, message_again, same_host, no_fault}
 
 -- no bytes are an unfinished message
 pub message-empty : (limit width height : ℕ) → message_at limit width height [] ≡ More
 unfolding message_at
 message-empty limit width height = rw (field-short {E = WireFault} 1 [] (omega arith)) refl
 
--- the last of some messages
-all_last : (limit width height : ℕ) (before : List Host) (m : Host) → AllByRecursion (IsFor limit width height) (before ++ m ∷ []) → IsFor limit width height m
-all_last limit width height [] m all = all.0
-all_last limit width height (n ∷ before) m all = all_last limit width height before m all.1
+-- the parts around the last of the recorded messages
+record Around (limit width height : ℕ) (parts : List Part) (m : Host) : Type 0 where
+  is : IsFor limit width height m
+  front : List ℕ
+  back : List ℕ
+  bytes_are : flat_map bytes_of parts ≡ front ++ (m.bytes ++ back)
+
+around_later : (limit width height : ℕ) (p : Part) (parts : List Part) (m : Host) → Around limit width height parts m → Around limit width height (p ∷ parts) m
+around_later limit width height p parts m a = record {
+  is = a.is;
+  front = bytes_of p ++ a.front;
+  back = a.back;
+  bytes_are = ap (λ z. bytes_of p ++ z) a.bytes_are ∙ sym (append_assoc (bytes_of p) a.front (m.bytes ++ a.back));
+}
+
+around_last : (limit width height : ℕ) (parts : List Part) (before : List Host) (m : Host) → AllByRecursion (IsPart limit width height) parts → recorded parts ≡ before ++ m ∷ []
+    → Around limit width height parts m
+around_last limit width height [] [] m all e = absurd (cc)
+around_last limit width height [] (n ∷ before) m all e = absurd (cc)
+around_last limit width height (Given n ∷ parts) [] m all e =
+    let same : n ≡ m = cc in
+    subst (λ (k : Host). Around limit width height (Given n ∷ parts) k) same (record { is = all.0; front = []; back = flat_map bytes_of parts; bytes_are = refl })
+around_last limit width height (Given n ∷ parts) (k ∷ before) m all e =
+    let others : recorded parts ≡ before ++ m ∷ [] = cc in
+    around_later limit width height (Given n) parts m (around_last limit width height parts before m all.1 others)
+around_last limit width height (Passed bytes ∷ parts) before m all e =
+    around_later limit width height (Passed bytes) parts m (around_last limit width height parts before m all.1 e)
 
 -- a message as long as the stream is the stream
-stream_one : (front bytes rest stream : List ℕ) → stream ≡ (front ++ (bytes ++ [])) ++ rest → length bytes ≡ length stream → bytes ≡ stream
-stream_one front bytes rest stream is same =
+stream_one : (front bytes back rest stream : List ℕ) → stream ≡ (front ++ (bytes ++ back)) ++ rest → length bytes ≡ length stream → bytes ≡ stream
+stream_one front bytes back rest stream is same =
     let lengths = ap length is in
-    let all : length ((front ++ (bytes ++ [])) ++ rest) ≡ length front + length bytes + length rest =
-    rw (length-append, length-append, length-append) (omega arith) in
+    let all : length ((front ++ (bytes ++ back)) ++ rest) ≡ length front + (length bytes + length back) + length rest =
+    rw (length-append, length-append, length-append) refl in
     let no_front : front ≡ [] = empty_list front (omega arith) in
+    let no_back : back ≡ [] = empty_list back (omega arith) in
     let no_rest : rest ≡ [] = empty_list rest (omega arith) in
-    let whole : stream ≡ ([] ++ (bytes ++ [])) ++ [] = is ∙ rw (no_front, no_rest) refl in
+    let whole : stream ≡ ([] ++ (bytes ++ [])) ++ [] = is ∙ rw (no_front, no_back, no_rest) refl in
     sym (whole ∙ append-nil (bytes ++ []) ∙ append-nil bytes)
 
 pub whole_is : (limit width height passed : ℕ) (kept stream : List ℕ) (given before : List Host) (m : Host) → Goes limit width height kept passed [] given stream
     → given ≡ before ++ m ∷ [] → length m.bytes ≡ length stream → IsFor limit width height m × (m.bytes ≡ stream)
 whole_is limit width height passed kept stream given before m goes last same =
-    let messages : goes.gives.messages ≡ before ++ m ∷ [] = sym goes.gives.given ∙ last in
-    let each : AllByRecursion (IsFor limit width height) (before ++ m ∷ []) = rw messages at goes.gives.reads.each in
-    let is : stream ≡ (flat_map bytes_of before ++ (m.bytes ++ [])) ++ goes.rest =
-    goes.gives.reads.stream_is ∙ ap (λ ms. flat_map bytes_of ms ++ goes.rest) messages ∙ ap (λ z. z ++ goes.rest) (flat_append before (m ∷ [])) in
-    (all_last limit width height before m each, stream_one (flat_map bytes_of before) m.bytes goes.rest stream is same)
+    let r = goes.gives.reads in
+    let messages : recorded r.parts ≡ before ++ m ∷ [] = sym r.messages_are ∙ sym goes.gives.given ∙ last in
+    let a = around_last limit width height r.parts before m r.parted.each messages in
+    let is : stream ≡ (a.front ++ (m.bytes ++ a.back)) ++ goes.rest = r.parted.stream_is ∙ ap (λ z. z ++ goes.rest) a.bytes_are in
+    (a.is, stream_one a.front m.bytes a.back goes.rest stream is same)
 
 -- the messages that were given, where the stream is one message
 given_one : (limit width height passed : ℕ) (kept stream : List ℕ) (given : List Host) (m : Host) → Goes limit width height kept passed [] given stream
     → IsFor limit width height m → m.bytes ≡ stream → given ≡ m ∷ []
 given_one limit width height passed kept stream given m goes is same =
-    let whole : stream ≡ flat_map bytes_of (m ∷ []) ++ [] = sym same ∙ sym (append-nil (m.bytes ++ []) ∙ append-nil m.bytes) in
     let one = one_reading limit width height stream stream goes.gives.messages (m ∷ []) goes.rest [] refl
     goes.gives.reads (waits_begins_none limit width height goes.rest goes.waits)
-    (record { each = (is, tt); stream_is = whole }) (waits_begins_none limit width height [] (message-empty limit width height)) in
+    (reads_one limit width height m stream [] is (sym same) refl) (waits_begins_none limit width height [] (message-empty limit width height)) in
     goes.gives.given ∙ one.0
 
 pub none_given : (limit width height passed : ℕ) (kept stream : List ℕ) (given : List Host) (m : Host) → Goes limit width height kept passed [] given stream
@@ -66,7 +89,7 @@ pub other_given : (limit width height passed : ℕ) (kept stream : List ℕ) (gi
     → given ≡ before ++ last ∷ [] → (length last.bytes ≡ length stream → ⊥) → IsFor limit width height m → m.bytes ≡ stream → ⊥
 other_given limit width height passed kept stream given before last m goes is differ for same =
     let one = last_of_one before last m (sym is ∙ given_one limit width height passed kept stream given m goes for same) in
-    differ (ap (λ n. length (bytes_of n)) one ∙ ap length same)
+    differ (ap (λ (n : Host). length n.bytes) one ∙ ap length same)
 
 -- One message of these bytes.
 pub same_by_bytes : (limit width height : ℕ) (m n : Host) (bytes : List ℕ) → IsFor limit width height m → m.bytes ≡ bytes → IsFor limit width height n → n.bytes ≡ bytes → m ≡ n
@@ -79,7 +102,7 @@ same_by_bytes limit width height m n bytes is same other others =
 -- One message has no fault.
 pub faultless : (limit width height : ℕ) (m : Host) (bytes : List ℕ) (f : WireFault) → IsFor limit width height m → m.bytes ≡ bytes → FaultOf limit width height bytes f → ⊥
 faultless limit width height m bytes f is same fault =
-    let reads : Reads limit width height bytes (m ∷ []) [] = record { each = (is, tt); stream_is = sym same ∙ sym (append-nil (m.bytes ++ []) ∙ append-nil m.bytes) } in
+    let reads : Reads limit width height bytes (m ∷ []) [] = reads_one limit width height m bytes [] is (sym same) refl in
     no_fault limit width height bytes (m ∷ []) [] f reads (message-empty limit width height) fault
 
 -- a reader that stops in one message stops for want of memory

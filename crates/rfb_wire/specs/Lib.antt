@@ -6,4 +6,5 @@ pub mod Host
 pub mod Stream
 pub mod Progress
 pub mod Reader
+pub mod Written
 pub mod Plain

@@ -1,11 +1,11 @@
 -- What a recorded message of a host is (RFC 6143, sections 7.6 and 7.7): a relation between the size
 -- of a screen, the message's bytes, and where its rectangles stand in them.
-use Rattle.std.specs.Prelude.{◌≡◌, ℕ, ◌+◌, ◌*◌, ◌≤◌, List, [], ◌∷◌, ◌++◌, length}
+use Rattle.std.specs.Prelude.{◌≡◌, ℕ, ◌+◌, ◌*◌, ◌≤◌, List, [], ◌∷◌, ◌++◌, length, max, ◌⊎◌}
 use Rattle.rfb_wire.specs.declared.message.Area.{Area}
 use Rattle.rfb_wire.specs.declared.message.Rectangle.{Rectangle}
 use Rattle.rfb_wire.specs.declared.message.Encoding.{Encoding}
 use Rattle.rfb_wire.specs.declared.message.Encoding.TheVariants as encodings
-use Rattle.rfb_wire.specs.Grammar.{area_of, encoding_number}
+use Rattle.rfb_wire.specs.Grammar.{area_of, encoding_number, u32_at, text_limit}
 
 -- the number of an encoding (section 7.7)
 abbrev pub number_of : Encoding → ℕ
@@ -48,7 +48,26 @@ pub record IsUpdate (width height : ℕ) (bytes : List ℕ) (rs : List Rectangle
   pub count_is : length rs ≡ 256 * high + low
   pub body_is : AreRectangles width height 4 rs body
 
+-- Bell: type 2 alone (section 7.6.3)
+abbrev pub IsBell : List ℕ → Type 0
+IsBell bytes = bytes ≡ 2 ∷ []
+
+-- ServerCutText: type 3, three bytes of padding, the text's length in four bytes, and the text (section
+-- 7.6.4). Longer ones are not recorded.
+pub record IsCutText (bytes : List ℕ) : Type 0 where
+  pub head : List ℕ
+  pub text : List ℕ
+  pub bytes_are : bytes ≡ 3 ∷ (head ++ text)
+  pub head_length : length head ≡ 7
+  pub text_length : length text ≡ u32_at head 3
+  pub text_short : length text ≤ text_limit
+
+-- an update of at most so many bytes, a bell, or a short text; what is no update has no rectangles
+abbrev pub IsKind : ℕ → ℕ → ℕ → List ℕ → List Rectangle → Type 0
+IsKind limit width height bytes rs =
+    (IsUpdate width height bytes rs × (length bytes ≤ limit)) ⊎ ((rs ≡ []) × (IsBell bytes ⊎ IsCutText bytes))
+
 -- a recorded message, with at most so many bytes if it is an update
 pub record IsMessage (limit width height : ℕ) (bytes : List ℕ) (rs : List Rectangle) : Type 0 where
-  pub update : IsUpdate width height bytes rs
-  pub short : length bytes ≤ limit
+  pub kind : IsKind limit width height bytes rs
+  pub short : length bytes ≤ max limit 65544

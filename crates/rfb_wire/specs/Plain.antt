@@ -1,8 +1,10 @@
 -- What a function that reads from the front of bytes answers, by the grammar.
-use Rattle.std.specs.Prelude.{◌≡◌, ℕ, List, ◌++◌, Option, Some, None, Result, Ok, Err}
+use Rattle.std.specs.Prelude.{◌≡◌, ◌≤◌, ℕ, Bool, true, false, List, [], ◌++◌, length, drop, Option, Some, None, Result, Ok, Err}
 use Rattle.pixel_format.specs.Reading.{Reading, Got, More, Bad}
 use Rattle.rfb_wire.specs.declared.fault.WireFault.{WireFault}
-use Rattle.rfb_wire.specs.Grammar.{Message, Recorded}
+use Rattle.rfb_wire.specs.declared.plain.Front.{Front}
+use Rattle.rfb_wire.specs.declared.plain.Front.TheVariants as fronts
+use Rattle.rfb_wire.specs.Grammar.{Message, Recorded, ReadOver}
 use Rattle.rfb_wire.specs.Host.{Host}
 use Rattle.rfb_wire.specs.Stream.{IsFor, UnlessMemory}
 
@@ -19,7 +21,18 @@ pub record Begins (limit width height : ℕ) (bytes : List ℕ) (m : Host) (read
   pub bytes_are : bytes ≡ m.bytes ++ behind
   pub reads : reading ≡ Got (Recorded m.rectangles) behind
 
-abbrev pub SaysMessage : ℕ → ℕ → ℕ → List ℕ → Result (Option Host) WireFault → Reading Message WireFault → Type 0
-SaysMessage limit width height bytes (Ok (Some m)) reading = Begins limit width height bytes m reading
+-- what a message without rectangles is, by whether it is recorded
+abbrev pub kind_of : Bool → Message
+kind_of true = Recorded []
+kind_of false = ReadOver
+
+-- a message that is read over, which has so many of the bytes
+pub record Passes (n : ℕ) (bytes : List ℕ) (reading : Reading Message WireFault) : Type 0 where
+  pub within : n ≤ length bytes
+  pub reads : reading ≡ Got ReadOver (drop n bytes)
+
+abbrev pub SaysMessage : ℕ → ℕ → ℕ → List ℕ → Result (Option Front) WireFault → Reading Message WireFault → Type 0
+SaysMessage limit width height bytes (Ok (Some (fronts.Recorded m))) reading = Begins limit width height bytes m reading
+SaysMessage limit width height bytes (Ok (Some (fronts.ReadOver n))) reading = Passes n bytes reading
 SaysMessage limit width height bytes (Ok None) reading = reading ≡ More
 SaysMessage limit width height bytes (Err f) reading = UnlessMemory f (reading ≡ Bad f)

@@ -1,21 +1,26 @@
 -- Where a reader stands in a message: which field comes next, and what the bytes from that field on
 -- say, by the grammar.
-use Rattle.std.specs.Prelude.{◌≡◌, ℕ, suc, ◌+◌, ◌*◌, ◌<◌, ◌≤◌, List, [], ◌∷◌, ◌++◌, length, drop, slice_index, Option, Some, None, nat_eq, if◌then◌else◌}
+use Rattle.std.specs.Prelude.{◌≡◌, ℕ, suc, ◌+◌, ◌*◌, ◌<◌, ◌≤◌, List, [], ◌∷◌, ◌++◌, length, drop, ◌^◌, MatchOption, slice_index, Option, Some, None, nat_eq, if◌then◌else◌}
 use Rattle.std.specs.Option.{option_to_list}
-use Rattle.pixel_format.specs.Reading.{Reading, Got, Bad, ◌>>=◌, field}
+use Rattle.pixel_format.specs.Reading.{Reading, Got, ◌>>=◌, field}
 use Rattle.rfb_wire.specs.declared.message.Rectangle.{Rectangle}
 use Rattle.rfb_wire.specs.declared.fault.WireFault.{WireFault}
-use Rattle.rfb_wire.specs.declared.fault.WireFault.TheVariants as faults
 use Rattle.rfb_wire.specs.declared.progress.Stage.{Stage}
 use Rattle.rfb_wire.specs.declared.progress.Stage.TheVariants as stages
+use Rattle.rfb_wire.specs.declared.progress.Next.{Next}
+use Rattle.rfb_wire.specs.declared.progress.Next.TheVariants as nexts
+use Rattle.rfb_wire.specs.declared.progress.Over.{Over}
 use Rattle.rfb_wire.specs.declared.progress.Step.{Step}
 use Rattle.rfb_wire.specs.declared.progress.Progress.{Progress}
-use Rattle.rfb_wire.specs.Grammar.{Message, Recorded, u16_at, raw_at, rectangles_at, update_at}
+use Rattle.rfb_wire.specs.Grammar.{Message, Recorded, ReadOver, u16_at, raw_at, rectangles_at, update_at, other_at, color_map_at, text_at, text_data_at, read_over, message_at, text_limit}
 
 -- how many bytes the field has
 abbrev pub wants_of : Stage → ℕ
 wants_of stages.Type = 1
 wants_of stages.UpdateHead = 3
+wants_of stages.ColorMapHead = 5
+wants_of stages.TextHead = 7
+wants_of (stages.TextData n) = n
 wants_of (stages.RectangleHead at others) = 12
 wants_of (stages.RawData at area others) = 4 * (area.w * area.h)
 
@@ -23,17 +28,21 @@ wants_of (stages.RawData at area others) = 4 * (area.w * area.h)
 abbrev pub start_of : Stage → ℕ
 start_of stages.Type = 0
 start_of stages.UpdateHead = 1
+start_of stages.ColorMapHead = 1
+start_of stages.TextHead = 1
+start_of (stages.TextData n) = 8
 start_of (stages.RectangleHead at others) = at
 start_of (stages.RawData at area others) = at
 
 -- a message, its limit apart
 unfoldable pub unlimited_at : ℕ → ℕ → List ℕ → Reading Message WireFault
 unlimited_at width height bytes = field 1 bytes >>= λ type rest.
-    if nat_eq (slice_index type 0) 0 then update_at width height bytes else Bad faults.UnknownType
+    if nat_eq (slice_index type 0) 0 then update_at width height bytes else other_at (slice_index type 0) rest
 
 -- a message that has these rectangles in front
 abbrev pub put : List Rectangle → Message → Message
 put done (Recorded rs) = Recorded (done ++ rs)
+put done ReadOver = ReadOver
 
 abbrev pub behind : List Rectangle → Reading Message WireFault → Reading Message WireFault
 behind done r = r >>= λ m rest. Got (put done m) rest
@@ -46,16 +55,19 @@ others_at width height count at bytes =
 -- what the bytes from the stage's field on say
 unfoldable pub resume : ℕ → ℕ → Stage → List ℕ → Reading Message WireFault
 resume width height stages.Type bytes = unlimited_at width height bytes
-resume width height stages.UpdateHead bytes = field 3 bytes >>= λ f rest.
-    others_at width height (u16_at f 1) 4 rest
+resume width height stages.UpdateHead bytes = field 3 bytes >>= λ f rest. others_at width height (u16_at f 1) 4 rest
+resume width height stages.ColorMapHead bytes = color_map_at bytes
+resume width height stages.TextHead bytes = text_at bytes
+resume width height (stages.TextData n) bytes = text_data_at n bytes
 resume width height (stages.RectangleHead at others) bytes = others_at width height (suc others) at bytes
 resume width height (stages.RawData at area others) bytes = raw_at area at bytes >>= λ r rest.
     behind (r ∷ []) (others_at width height others r.end rest)
 
--- what the bytes behind a field say: with no field to come the message is whole
-unfoldable pub go_on : ℕ → ℕ → Option Stage → List ℕ → Reading Message WireFault
-go_on width height None bytes = Got (Recorded []) bytes
-go_on width height (Some stage) bytes = resume width height stage bytes
+-- what the bytes behind a field say
+unfoldable pub go_on : ℕ → ℕ → Next → List ℕ → Reading Message WireFault
+go_on width height (nexts.Field stage) bytes = resume width height stage bytes
+go_on width height nexts.End bytes = Got (Recorded []) bytes
+go_on width height (nexts.ReadOver n) bytes = read_over n bytes
 
 abbrev pub step_on : ℕ → ℕ → Step → List ℕ → Reading Message WireFault
 step_on width height step bytes = behind (option_to_list step.rectangle) (go_on width height step.next bytes)
@@ -65,6 +77,30 @@ pub record BeginsAt (at : ℕ) (stage : Stage) : Type 0 where
   pub start : start_of stage ≡ at
   pub some : 0 < wants_of stage
 
+abbrev pub NextBegins : ℕ → Next → Type 0
+NextBegins at (nexts.Field stage) = BeginsAt at stage
+NextBegins at nexts.End = Unit {0}
+NextBegins at (nexts.ReadOver n) = n < 2 ^ 32
+
+-- the bytes of an update
+abbrev pub IsOfUpdate : List ℕ → Type 0
+IsOfUpdate bytes = (rest : List ℕ) × (bytes ≡ 0 ∷ rest)
+
+-- what the stage says of the message: an update alone may be long
+abbrev pub IsOfKind : Stage → List ℕ → Type 0
+IsOfKind stages.UpdateHead bytes = IsOfUpdate bytes
+IsOfKind (stages.RectangleHead at others) bytes = IsOfUpdate bytes
+IsOfKind (stages.RawData at area others) bytes = IsOfUpdate bytes
+IsOfKind (stages.TextData n) bytes = n ≤ text_limit
+IsOfKind stages.Type bytes = Unit {0}
+IsOfKind stages.ColorMapHead bytes = Unit {0}
+IsOfKind stages.TextHead bytes = Unit {0}
+
+abbrev pub NextIsOfKind : Next → List ℕ → Type 0
+NextIsOfKind (nexts.Field stage) bytes = IsOfKind stage bytes
+NextIsOfKind nexts.End bytes = Unit {0}
+NextIsOfKind (nexts.ReadOver n) bytes = Unit {0}
+
 -- The reader stands at a field that has begun. What the message says, whatever comes, is what the bytes
 -- from the field on say, behind the rectangles that are whole.
 pub record Linked (limit width height : ℕ) (bytes : List ℕ) (rectangles : List Rectangle) (stage : Stage) : Type 0 where
@@ -72,8 +108,32 @@ pub record Linked (limit width height : ℕ) (bytes : List ℕ) (rectangles : Li
       ≡ behind rectangles (resume width height stage (drop (start_of stage) bytes ++ more))
   pub begun : start_of stage ≤ length bytes
   pub short : length bytes ≤ limit
+  pub kind : IsOfKind stage bytes
 
 -- and the field isn't whole
-pub record IsAt (limit width height : ℕ) (p : Progress) : Type 0 where
+pub record IsInField (limit width height : ℕ) (p : Progress) : Type 0 where
   pub linked : Linked limit width height p.bytes.items p.rectangles.items p.stage
   pub unfinished : length p.bytes.items < start_of p.stage + wants_of p.stage
+
+-- The reader stands in bytes that are read over. Behind what is kept and as many bytes as have passed,
+-- whichever they were, those that are left come to the message's end.
+pub record IsOver (limit width height : ℕ) (bytes : List ℕ) (o : Over) : Type 0 where
+  pub link : (skipped more : List ℕ) → length skipped ≡ o.passed
+      → message_at limit width height ((bytes ++ skipped) ++ more) ≡ read_over o.left more
+  pub some : 0 < o.left
+  pub bound : o.passed + o.left < 2 ^ 32
+
+-- where the reader stands
+abbrev pub IsAt : ℕ → ℕ → ℕ → Progress → Type 0
+IsAt limit width height p = MatchOption p.over (IsInField limit width height p) (λ o. IsOver limit width height p.bytes.items o)
+
+-- how many bytes have passed
+abbrev pub passed_in : Option Over → ℕ
+passed_in None = 0
+passed_in (Some o) = o.passed
+
+-- what is known behind a whole field
+abbrev pub After : ℕ → ℕ → ℕ → List ℕ → Progress → Next → Type 0
+After limit width height bytes p (nexts.Field stage) = IsInField limit width height p
+After limit width height bytes p nexts.End = unlimited_at width height bytes ≡ Got (Recorded p.rectangles.items) []
+After limit width height bytes p (nexts.ReadOver n) = (n < 2 ^ 32) × ((more : List ℕ) → unlimited_at width height (bytes ++ more) ≡ read_over n more)

@@ -1,10 +1,10 @@
 -- A stream of a host's messages, and what a reader that gets it in pieces has made of it.
-use Rattle.std.specs.Prelude.{◌≡◌, ℕ, List, ◌++◌, length}
+use Rattle.std.specs.Prelude.{◌≡◌, ℕ, List, [], ◌∷◌, ◌++◌, length}
 use Rattle.std.specs.List.{flat_map, AllByRecursion}
-use Rattle.pixel_format.specs.Reading.{More, Bad}
+use Rattle.pixel_format.specs.Reading.{Got, More, Bad}
 use Rattle.rfb_wire.specs.declared.fault.WireFault.{WireFault}
 use Rattle.rfb_wire.specs.declared.fault.WireFault.TheVariants as faults
-use Rattle.rfb_wire.specs.Grammar.{message_at}
+use Rattle.rfb_wire.specs.Grammar.{message_at, ReadOver}
 use Rattle.rfb_wire.specs.Host.{Host, IsRecorded}
 
 -- a recorded message for a screen of this size
@@ -13,18 +13,39 @@ pub record IsFor (limit width height : ℕ) (m : Host) : Type 0 where
   pub height_is : m.height ≡ height
   pub recorded : IsRecorded limit m
 
-abbrev pub bytes_of : Host → List ℕ
-bytes_of m = m.bytes
+-- a part of a stream: a recorded message, or a message that is read over
+pub data Part : Type 0 where
+  Given : Host → Part
+  Passed : List ℕ → Part
 
--- the stream begins with these messages, and a rest follows
+abbrev pub IsPart : ℕ → ℕ → ℕ → Part → Type 0
+IsPart limit width height (Given m) = IsFor limit width height m
+IsPart limit width height (Passed bytes) = message_at limit width height bytes ≡ Got ReadOver []
+
+abbrev pub bytes_of : Part → List ℕ
+bytes_of (Given m) = m.bytes
+bytes_of (Passed bytes) = bytes
+
+-- the recorded messages among the parts
+abbrev pub recorded : List Part → List Host
+recorded [] = []
+recorded (Given m ∷ parts) = m ∷ recorded parts
+recorded (Passed bytes ∷ parts) = recorded parts
+
+-- the stream begins with these parts, and a rest follows
+pub record IsParted (limit width height : ℕ) (stream : List ℕ) (parts : List Part) (rest : List ℕ) : Type 0 where
+  pub each : AllByRecursion (IsPart limit width height) parts
+  pub stream_is : stream ≡ flat_map bytes_of parts ++ rest
+
+-- the stream begins with messages, of which these are recorded, and a rest follows
 pub record Reads (limit width height : ℕ) (stream : List ℕ) (messages : List Host) (rest : List ℕ) : Type 0 where
-  pub each : AllByRecursion (IsFor limit width height) messages
-  pub stream_is : stream ≡ flat_map bytes_of messages ++ rest
+  pub parts : List Part
+  pub parted : IsParted limit width height stream parts rest
+  pub messages_are : messages ≡ recorded parts
 
 -- no whole message begins these bytes
 abbrev pub BeginsNone : ℕ → ℕ → ℕ → List ℕ → Type 0
-BeginsNone limit width height bytes =
-    (m : Host) → (more : List ℕ) → IsFor limit width height m → bytes ≡ m.bytes ++ more → ⊥
+BeginsNone limit width height bytes = (p : Part) → (more : List ℕ) → IsPart limit width height p → bytes ≡ bytes_of p ++ more → ⊥
 
 -- the stream's first fault: messages, and then a rest that begins with a fault
 pub record FaultOf (limit width height : ℕ) (stream : List ℕ) (f : WireFault) : Type 0 where
@@ -53,6 +74,13 @@ pub record Goes (limit width height : ℕ) (kept : List ℕ) (passed : ℕ) (old
   pub gives : Gives limit width height old new stream rest
   pub stands : StandsFor kept passed rest
   pub waits : message_at limit width height rest ≡ More
+
+-- The stream's messages are given, and a reader that keeps these bytes, and has read over so many, stands
+-- for the rest.
+pub record Moves (limit width height : ℕ) (kept : List ℕ) (passed : ℕ) (old new : List Host) (stream : List ℕ) : Type 0 where
+  pub rest : List ℕ
+  pub gives : Gives limit width height old new stream rest
+  pub stands : StandsFor kept passed rest
 
 -- what holds of a fault that the bytes caused
 abbrev pub UnlessMemory : WireFault → Type 0 → Type 0

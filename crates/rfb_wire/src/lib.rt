@@ -8,6 +8,7 @@ mod plain;
 mod progress;
 mod reader;
 mod step;
+mod write;
 
 pub use fault::{BytesFault, WireFault};
 pub use laws::{
@@ -15,8 +16,12 @@ pub use laws::{
     one_reading_of_bytes,
 };
 pub use message::{Area, Encoding, HostMessage, Rectangle};
-pub use plain::read_message;
+pub use plain::{Front, read_message};
 pub use reader::ServerReader;
+pub use write::{
+    write_bell, write_color_map, write_cut_text, write_raw_update, written_bell_is_read,
+    written_color_map_is_read, written_text_is_read, written_update_is_read,
+};
 
 #[cfg(test)]
 mod tests;

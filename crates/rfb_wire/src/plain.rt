@@ -1,17 +1,26 @@
 //! The grammar of messages as a plain function, which has all the bytes before it.
 
-ghost use Rattle.std.specs.Prelude.{◌≡◌, ◌+◌, ◌*◌, ◌≤◌, length, IfOk, IfSome, MatchOption};
+ghost use Rattle.std.specs.Prelude.{◌≡◌, ◌+◌, ◌*◌, ◌<◌, ◌≤◌, slice_index, nat_eq, true, false, length, IfOk, IfSome, MatchOption};
 ghost use Rattle.pixel_format.specs.Reading.{Got, More};
 ghost use Rattle.pixel_format.specs.Reading as reading;
 ghost use Rattle.rfb_wire.specs.declared.fault.WireFault.{WireFault};
-ghost use Rattle.rfb_wire.specs.Grammar.{rectangle_at, rectangles_at, update_at, message_at, message_limit, Recorded};
-ghost use Rattle.rfb_wire.specs.Plain.{Says, SaysMessage};
+ghost use Rattle.rfb_wire.specs.Grammar.{rectangle_at, rectangles_at, update_at, color_map_at, text_at, other_at, message_at, message_limit, Recorded, ReadOver};
+ghost use Rattle.rfb_wire.specs.Plain.{Says, SaysMessage, kind_of};
 
 use crate::fault::WireFault;
 use crate::message::{Encoding, HostMessage, Rectangle};
 use crate::progress::MESSAGE_LIMIT;
-use crate::step::{area_at, encoding_at, lies_inside};
+use crate::step::{TEXT_LIMIT, area_at, encoding_at, lies_inside};
 use std::alloc::Global;
+
+/// The message that bytes begin with.
+#[derive(Drop)]
+pub enum Front {
+    /// It is recorded.
+    Recorded(HostMessage),
+    /// It is read over; it has so many bytes.
+    ReadOver(usize),
+}
 
 // The first bytes, where there are so many, and the bytes behind them.
 fn field(count: usize, bytes: &[u8]) -> Option<(&[u8], &[u8])>
@@ -109,24 +118,61 @@ fn update(
     rectangles(alloc, width, height, count, body)
 }
 
-/// The message that the bytes begin with, for a screen of this size; `None` where they are too few
-/// for it, and the fault that they begin with. It reads the bytes from their front, while a
-/// `ServerReader` takes them in pieces.
-pub fn read_message(
+// The bytes behind a colour map, of which these follow the type.
+fn color_map(bytes: &[u8]) -> Option<&[u8]>
+    ensures { MatchOption result (color_map_at bytes.now ≡ More)
+        (λ rest. color_map_at bytes.now ≡ Got ReadOver rest.now) }
+{
+    let (head, colors) = field(5, bytes)?;
+    let count = u16::from_be_bytes([head[3], head[4]]);
+    let (_, rest) = field(6 * count as usize, colors)?;
+    Some(rest)
+}
+
+// Whether a cut text is recorded, and the bytes behind it, of which these follow the type.
+fn text(bytes: &[u8]) -> Option<(bool, &[u8])>
+    ensures { MatchOption result (text_at bytes.now ≡ More)
+        (λ x. text_at bytes.now ≡ Got (kind_of x.0) x.1.now) }
+{
+    let (head, body) = field(7, bytes)?;
+    let count = u32::from_be_bytes([head[3], head[4], head[5], head[6]]);
+    let (_, rest) = field(count as usize, body)?;
+    Some((count <= TEXT_LIMIT, rest))
+}
+
+// Whether a message that is no update is recorded, and the bytes behind it, of which these follow
+// its type.
+fn other(kind: u8, bytes: &[u8]) -> Result<Option<(bool, &[u8])>, WireFault>
+    requires { nat_eq kind 0 ≡ false }
+    ensures { Says (λ x. kind_of x.0) (λ x. x.1.now) result (other_at kind bytes.now) }
+{
+    if kind == 1 {
+        let Some(rest) = color_map(bytes) else {
+            return Ok(None);
+        };
+        return Ok(Some((false, rest)));
+    }
+    if kind == 2 {
+        return Ok(Some((true, bytes)));
+    }
+    if kind == 3 {
+        return Ok(text(bytes));
+    }
+    Err(WireFault::UnknownType)
+}
+
+// The update that the bytes begin with, whose type is read.
+fn update_message(
     alloc: Global,
     width: u16,
     height: u16,
     bytes: &[u8],
-) -> Result<Option<HostMessage>, WireFault>
+) -> Result<Option<Front>, WireFault>
+    requires some { 0 < length bytes.now }
+    requires kind { slice_index bytes.now 0 ≡ 0 }
     ensures { SaysMessage message_limit width height bytes.now result
         (message_at message_limit width height bytes.now) }
 {
-    let Some((kind, _)) = field(1, bytes) else {
-        return Ok(None);
-    };
-    if kind[0] != 0 {
-        return Err(WireFault::UnknownType);
-    }
     let front = &bytes[..bytes.len().min(MESSAGE_LIMIT)];
     let Some((rectangles, rest)) = update(alloc, width, height, front)? else {
         if bytes.len() > MESSAGE_LIMIT {
@@ -135,5 +181,36 @@ pub fn read_message(
         return Ok(None);
     };
     let whole = Vec::from_slice(alloc, &front[..front.len() - rest.len()])?;
-    Ok(Some(HostMessage::from_parts(width, height, whole, rectangles)))
+    let message = HostMessage::from_parts(width, height, whole, rectangles);
+    Ok(Some(Front::Recorded(message)))
+}
+
+/// The message that the bytes begin with, for a screen of this size; `None` where they are too few
+/// for it, and the fault that they begin with. It reads the bytes from their front, while a
+/// `ServerReader` takes them in pieces.
+pub fn read_message(
+    alloc: Global,
+    width: u16,
+    height: u16,
+    bytes: &[u8],
+) -> Result<Option<Front>, WireFault>
+    ensures { SaysMessage message_limit width height bytes.now result
+        (message_at message_limit width height bytes.now) }
+{
+    let Some((kind, rest)) = field(1, bytes) else {
+        return Ok(None);
+    };
+    if kind[0] == 0 {
+        return update_message(alloc, width, height, bytes);
+    }
+    let Some((recorded, behind)) = other(kind[0], rest)? else {
+        return Ok(None);
+    };
+    let length = bytes.len() - behind.len();
+    if !recorded {
+        return Ok(Some(Front::ReadOver(length)));
+    }
+    let whole = Vec::from_slice(alloc, &bytes[..length])?;
+    let message = HostMessage::from_parts(width, height, whole, Vec::new(alloc));
+    Ok(Some(Front::Recorded(message)))
 }

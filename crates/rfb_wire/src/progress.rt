@@ -1,11 +1,11 @@
 //! Where a reader stands in a message.
 
-ghost use Rattle.std.specs.Prelude.{◌≡◌, ℕ, ◌<◌, ◌≤◌, ◌^◌, ◌+◌, ◌++◌, ◌⊎◌, [], ◌∷◌, length, take, IfOk, OnOk, IfErr, OnErr, MatchBool, Ok, Err};
+ghost use Rattle.std.specs.Prelude.{◌≡◌, ℕ, ◌<◌, ◌≤◌, ◌^◌, ◌+◌, ◌++◌, ◌⊎◌, [], ◌∷◌, List, length, take, IfOk, OnOk, IfErr, OnErr, Ok, Err, None};
 ghost use Rattle.std.specs.Option.{option_to_list};
 ghost use Rattle.pixel_format.specs.Reading.{Got, Bad};
 ghost use Rattle.rfb_wire.specs.Grammar.{message_at, Recorded, message_limit};
-ghost use Rattle.rfb_wire.specs.Host.{host_of, IsRecorded};
-ghost use Rattle.rfb_wire.specs.Stream.{Gives, Stops, UnlessMemory};
+ghost use Rattle.rfb_wire.specs.Host.{Host, host_of, IsRecorded};
+ghost use Rattle.rfb_wire.specs.Stream.{Moves, Stops, StandsFor, UnlessMemory};
 
 use crate::fault::WireFault;
 use crate::message::{Area, HostMessage, Rectangle};
@@ -22,27 +22,51 @@ pub enum Stage {
     Type,
     /// Behind the type of an update: padding, and the number of rectangles.
     UpdateHead,
+    /// Behind the type of a colour map: padding, the first colour, and the number of colours.
+    ColorMapHead,
+    /// Behind the type of a cut text: padding, and the text's length.
+    TextHead,
+    /// A text of so many bytes.
+    TextData { length: u32 },
     /// The header of a rectangle, at this place of the message, which others follow.
     RectangleHead { at: usize, others: u16 },
     /// The pixels of a Raw rectangle, at this place of the message, which others follow.
     RawData { at: usize, area: Area, others: u16 },
 }
 
-/// What follows from a whole field: the rectangle that it ends, and the next field, if the message
-/// has one.
+/// What comes behind a whole field.
+#[derive(Clone, Copy)]
+pub enum Next {
+    /// Another field of the message.
+    Field(Stage),
+    /// Nothing: the message is whole, and is recorded.
+    End,
+    /// So many bytes to the end of a message that is read over.
+    ReadOver(u64),
+}
+
+/// What follows from a whole field: the rectangle that it ends, and what comes next.
 #[derive(Clone, Copy)]
 pub struct Step {
     pub rectangle: Option<Rectangle>,
-    pub next: Option<Stage>,
+    pub next: Next,
+}
+
+/// A message that is read over: how many bytes behind its head have passed, and how many are left.
+#[derive(Clone, Copy)]
+pub struct Over {
+    pub passed: u64,
+    pub left: u64,
 }
 
 /// An unfinished message: its bytes so far, those of its rectangles that are whole, and the field
-/// that comes next.
+/// that comes next. Of one that is read over, its head is kept.
 #[derive(Drop)]
 pub struct Progress {
     pub bytes: Vec<u8>,
     pub rectangles: Vec<Rectangle>,
     pub stage: Stage,
+    pub over: Option<Over>,
 }
 
 impl Stage {
@@ -56,6 +80,9 @@ impl Stage {
         match self {
             Stage::Type => 1,
             Stage::UpdateHead => 3,
+            Stage::ColorMapHead => 5,
+            Stage::TextHead => 7,
+            Stage::TextData { length } => length as usize,
             Stage::RectangleHead { .. } => 12,
             Stage::RawData { area, .. } => 4 * (area.w as usize * area.h as usize),
         }
@@ -67,7 +94,8 @@ impl Stage {
     {
         match self {
             Stage::Type => 0,
-            Stage::UpdateHead => 1,
+            Stage::UpdateHead | Stage::ColorMapHead | Stage::TextHead => 1,
+            Stage::TextData { .. } => 8,
             Stage::RectangleHead { at, .. } => at,
             Stage::RawData { at, .. } => at,
         }
@@ -75,44 +103,84 @@ impl Stage {
 }
 
 impl Progress {
-    ghost use Rattle.rfb_wire.specs.Progress.{wants_of, start_of, unlimited_at, Linked, IsAt};
+    ghost use Rattle.rfb_wire.specs.Progress.{wants_of, start_of, unlimited_at, Linked, IsAt, IsOver, After, passed_in};
+    ghost use Rattle.rfb_wire.specs.Grammar.{read_over};
 
     /// A reader at the start of a message.
     pub fn new(alloc: Global) -> Progress
         ensures at { (width height : ℕ) → IsAt message_limit width height result }
         ensures none { result.bytes.items ≡ [] }
+        ensures over { result.over ≡ None }
     {
         Progress {
             bytes: Vec::new(alloc),
             rectangles: Vec::new(alloc),
             stage: Stage::Type,
+            over: None,
         }
     }
 
-    // The field is whole: goes on behind it, and answers whether the message is whole.
-    fn advance(&mut self, width: u16, height: u16) -> Result<bool, WireFault>
-        requires linked { Linked message_limit width height self.old.bytes.items
-            self.old.rectangles.items self.old.stage }
-        requires whole { length self.old.bytes.items
-            ≡ start_of self.old.stage + wants_of self.old.stage }
+    // The field is whole: goes on behind it, and answers what comes next.
+    fn advance(&mut self, width: u16, height: u16) -> Result<Next, WireFault>
+        requires linked { Linked message_limit width height self.old.bytes.items self.old.rectangles.items self.old.stage }
+        requires whole { length self.old.bytes.items ≡ start_of self.old.stage + wants_of self.old.stage }
         ensures bytes { self.new.bytes ≡ self.old.bytes }
-        ensures goes { IfOk result (λ ended. MatchBool ended
-            (unlimited_at width height self.old.bytes.items
-            ≡ Got (Recorded self.new.rectangles.items) [])
-            (IsAt message_limit width height self.new)) }
-        ensures faults { IfErr result (λ f. UnlessMemory f
-            (unlimited_at width height self.old.bytes.items ≡ Bad f)) }
+        ensures over { self.new.over ≡ self.old.over }
+        ensures goes { IfOk result (λ next. After message_limit width height self.old.bytes.items self.new next) }
+        ensures faults { IfErr result (λ f. UnlessMemory f (unlimited_at width height self.old.bytes.items ≡ Bad f)) }
     {
         let field = &self.bytes[self.stage.start()..];
         let whole = step(width, height, self.stage, field)?;
         append(&mut self.rectangles, whole.rectangle)?;
         match whole.next {
-            None => Ok(true),
-            Some(stage) => {
-                self.stage = stage;
-                Ok(false)
-            }
+            Next::Field(stage) => self.stage = stage,
+            Next::End => {}
+            Next::ReadOver(_) => {}
         }
+        Ok(whole.next)
+    }
+
+    // Begins to read over the bytes that are left of a message, if any are.
+    fn read_over(&mut self, alloc: Global, width: u16, height: u16, left: u64)
+        requires bound { left < 2 ^ 32 }
+        requires head { 0 < length self.old.bytes.items }
+        requires link { (more : List ℕ) → unlimited_at width height (self.old.bytes.items ++ more) ≡ read_over left more }
+        ensures at { IsAt message_limit width height self.new }
+        ensures moves { (old : List Host) → Moves message_limit width height self.new.bytes.items (passed_in self.new.over) old old self.old.bytes.items }
+    {
+        if left == 0 {
+            *self = Progress::new(alloc);
+        } else {
+            self.over = Some(Over { passed: 0, left });
+        }
+    }
+
+    // Reads over bytes of a piece that has so many, and answers how many.
+    fn pass(
+        &mut self,
+        alloc: Global,
+        width: u16,
+        height: u16,
+        over: Over,
+        available: usize,
+    ) -> usize
+        requires over { IsOver message_limit width height self.old.bytes.items over }
+        requires some { 0 < available }
+        ensures taken { (0 < result) × (result ≤ available) }
+        ensures at { IsAt message_limit width height self.new }
+        ensures moves { (old : List Host) → (rest taken : List ℕ) → StandsFor self.old.bytes.items over.passed rest → length taken ≡ result
+            → Moves message_limit width height self.new.bytes.items (passed_in self.new.over) old old (rest ++ taken) }
+    {
+        let taken = over.left.min(available as u64);
+        if taken == over.left {
+            *self = Progress::new(alloc);
+        } else {
+            self.over = Some(Over {
+                passed: over.passed + taken,
+                left: over.left - taken,
+            });
+        }
+        taken as usize
     }
 
     // Gives the message, which is whole, and begins again.
@@ -127,9 +195,8 @@ impl Progress {
             (host_of width height self.old.bytes.items self.old.rectangles.items) }
         ensures at { IsAt message_limit width height self.new }
         ensures none { self.new.bytes.items ≡ [] }
-        ensures ok { OnOk result (out.new.items
-            ≡ out.old.items
-            ++ host_of width height self.old.bytes.items self.old.rectangles.items ∷ []) }
+        ensures over { self.new.over ≡ None }
+        ensures ok { OnOk result (out.new.items ≡ out.old.items ++ host_of width height self.old.bytes.items self.old.rectangles.items ∷ []) }
         ensures err { OnErr result (out.new.items ≡ out.old.items) }
         ensures only { IfErr result (λ f. f ≡ WireFault.NoMemory) }
     {
@@ -138,6 +205,7 @@ impl Progress {
             bytes,
             rectangles,
             stage: _,
+            over: _,
         } = whole;
         out.push(HostMessage::from_parts(width, height, bytes, rectangles))?;
         Ok(())
@@ -157,17 +225,24 @@ impl Progress {
         requires some { 0 < length piece.now }
         ensures taken { IfOk result (λ n. (0 < n) × (n ≤ length piece.now)) }
         ensures at { OnOk result (IsAt message_limit width height self.new) }
-        ensures gives { IfOk result (λ n. Gives message_limit width height
-            out.old.items out.new.items
-            (self.old.bytes.items ++ take n piece.now) self.new.bytes.items) }
-        ensures faults { IfErr result (λ f. UnlessMemory f
-            (message_at message_limit width height (self.old.bytes.items ++ piece.now) ≡ Bad f)) }
+        ensures moves { IfOk result (λ n. (rest : List ℕ) → StandsFor self.old.bytes.items (passed_in self.old.over) rest
+            → Moves message_limit width height self.new.bytes.items (passed_in self.new.over) out.old.items out.new.items (rest ++ take n piece.now)) }
+        ensures faults { IfErr result (λ f. (rest : List ℕ) → StandsFor self.old.bytes.items (passed_in self.old.over) rest
+            → UnlessMemory f (message_at message_limit width height (rest ++ piece.now) ≡ Bad f)) }
         ensures err { OnErr result (out.new.items ≡ out.old.items) }
     {
+        if let Some(over) = self.over {
+            return Ok(self.pass(alloc, width, height, over, piece.len()));
+        }
         let end = self.stage.start() + self.stage.wants();
         let taken = take(&mut self.bytes, end, piece)?;
-        if self.bytes.len() == end && self.advance(width, height)? {
-            self.give(alloc, width, height, out)?;
+        if self.bytes.len() < end {
+            return Ok(taken);
+        }
+        match self.advance(width, height)? {
+            Next::Field(_) => {}
+            Next::End => self.give(alloc, width, height, out)?,
+            Next::ReadOver(left) => self.read_over(alloc, width, height, left),
         }
         Ok(taken)
     }
@@ -183,10 +258,10 @@ impl Progress {
     ) -> Result<(), WireFault>
         requires { IsAt message_limit width height self.old }
         ensures at { OnOk result (IsAt message_limit width height self.new) }
-        ensures gives { OnOk result (Gives message_limit width height out.old.items out.new.items
-            (self.old.bytes.items ++ piece.now) self.new.bytes.items) }
-        ensures faults { IfErr result (λ f. Stops message_limit width height f
-            out.old.items out.new.items (self.old.bytes.items ++ piece.now)) }
+        ensures moves { OnOk result ((rest : List ℕ) → StandsFor self.old.bytes.items (passed_in self.old.over) rest
+            → Moves message_limit width height self.new.bytes.items (passed_in self.new.over) out.old.items out.new.items (rest ++ piece.now)) }
+        ensures faults { IfErr result (λ f. (rest : List ℕ) → StandsFor self.old.bytes.items (passed_in self.old.over) rest
+            → Stops message_limit width height f out.old.items out.new.items (rest ++ piece.now)) }
     {
         let mut rest = piece;
         while !rest.is_empty() {

@@ -26,7 +26,7 @@ pub struct ServerReader {
 impl Model for ServerReader {
     ghost use Rattle.rfb_wire.specs.Grammar.{message_limit};
     ghost use Rattle.rfb_wire.specs.Reader.{Reader};
-    ghost use Rattle.rfb_wire.specs.Progress.{IsAt};
+    ghost use Rattle.rfb_wire.specs.Progress.{IsAt, passed_in};
 
     ghost Value = { Reader };
 
@@ -34,7 +34,7 @@ impl Model for ServerReader {
       width = r.width;
       height = r.height;
       kept = r.progress.bytes.items;
-      passed = 0;
+      passed = passed_in r.progress.over;
       fault = r.fault;
     } };
 

@@ -1,13 +1,16 @@
 //! What follows from a whole field of a message.
 
-ghost use Rattle.std.specs.Prelude.{◌≡◌, ℕ, ◌+◌, ◌*◌, ◌<◌, ◌≤◌, List, ◌++◌, length, IfOk, IfErr, IfSome};
+ghost use Rattle.std.specs.Prelude.{◌≡◌, ℕ, ◌+◌, ◌*◌, ◌<◌, ◌≤◌, List, ◌++◌, drop, slice_index, nat_lt, if◌then◌else◌, length, IfOk, IfErr};
 ghost use Rattle.pixel_format.specs.Reading.{Bad};
-ghost use Rattle.rfb_wire.specs.Grammar.{message_limit, area_of, encoding_number, is_inside, u16_at, u32_at};
-ghost use Rattle.rfb_wire.specs.Progress.{wants_of, start_of, BeginsAt, resume, go_on, step_on, others_at};
+ghost use Rattle.rfb_wire.specs.Grammar.{message_limit, text_limit, read_over, text_data_at, area_of, encoding_number, is_inside, u16_at, u32_at};
+ghost use Rattle.rfb_wire.specs.Progress.{wants_of, start_of, NextBegins, IsOfUpdate, IsOfKind, NextIsOfKind, resume, go_on, step_on, others_at};
 
 use crate::fault::WireFault;
 use crate::message::{Area, Encoding, Rectangle};
-use crate::progress::{Stage, Step};
+use crate::progress::{Next, Stage, Step};
+
+/// The greatest number of bytes of a text that is recorded.
+pub const TEXT_LIMIT: u32 = 65_536;
 
 /// The area that the header of a rectangle names: x, y, width and height, the higher byte of each
 /// first (RFC 6143, section 7.6.1).
@@ -42,18 +45,41 @@ pub fn lies_inside(area: Area, width: u16, height: u16) -> bool
 }
 
 // The header of the next of so many rectangles.
-fn next_header(at: usize, count: u16) -> Option<Stage>
+fn next_header(at: usize, count: u16) -> Next
     ensures goes { (width height : ℕ) → (more : List ℕ)
         → go_on width height result more ≡ others_at width height count at more }
-    ensures begins { IfSome result (BeginsAt at) }
+    ensures begins { NextBegins at result }
+    ensures kind { (bytes : List ℕ) → IsOfUpdate bytes → NextIsOfKind result bytes }
 {
     if count == 0 {
-        None
+        Next::End
     } else {
-        Some(Stage::RectangleHead {
+        Next::Field(Stage::RectangleHead {
             at,
             others: count - 1,
         })
+    }
+}
+
+// What comes behind the type of a message.
+fn next_of_type(number: u8) -> Result<Next, WireFault>
+    ensures goes { IfOk result (λ n. (width height : ℕ) → (field more : List ℕ) → length field ≡ 1 → slice_index field 0 ≡ number
+        → resume width height Stage.Type (field ++ more) ≡ go_on width height n more) }
+    ensures begins { IfOk result (NextBegins 1) }
+    ensures kind { IfOk result (λ n. (field : List ℕ) → length field ≡ 1 → slice_index field 0 ≡ number → NextIsOfKind n field) }
+    ensures faults { IfErr result (λ f. (width height : ℕ) → (field more : List ℕ) → length field ≡ 1 → slice_index field 0 ≡ number
+        → resume width height Stage.Type (field ++ more) ≡ Bad f) }
+{
+    if number == 0 {
+        Ok(Next::Field(Stage::UpdateHead))
+    } else if number == 1 {
+        Ok(Next::Field(Stage::ColorMapHead))
+    } else if number == 2 {
+        Ok(Next::End)
+    } else if number == 3 {
+        Ok(Next::Field(Stage::TextHead))
+    } else {
+        Err(WireFault::UnknownType)
     }
 }
 
@@ -62,26 +88,88 @@ fn behind_type(field: &[u8]) -> Result<Step, WireFault>
     requires { length field.now ≡ 1 }
     ensures goes { IfOk result (λ s. (width height : ℕ) → (more : List ℕ)
         → resume width height Stage.Type (field.now ++ more) ≡ step_on width height s more) }
-    ensures begins { IfOk result (λ s. IfSome s.next (BeginsAt 1)) }
+    ensures begins { IfOk result (λ s. NextBegins 1 s.next) }
+    ensures kind { IfOk result (λ s. NextIsOfKind s.next field.now) }
     ensures faults { IfErr result (λ f. (width height : ℕ) → (more : List ℕ)
         → resume width height Stage.Type (field.now ++ more) ≡ Bad f) }
 {
-    if field[0] != 0 {
-        return Err(WireFault::UnknownType);
-    }
+    let next = match next_of_type(field[0]) {
+        Ok(next) => next,
+        Err(fault) => return Err(fault),
+    };
     Ok(Step {
         rectangle: None,
-        next: Some(Stage::UpdateHead),
+        next,
     })
+}
+
+// Behind the head of a colour map: six bytes for each colour.
+fn behind_color_map_head(field: &[u8]) -> Step
+    requires { length field.now ≡ 5 }
+    ensures goes { (width height : ℕ) → (more : List ℕ)
+        → resume width height Stage.ColorMapHead (field.now ++ more) ≡ step_on width height result more }
+    ensures begins { NextBegins 6 result.next }
+    ensures kind { (bytes : List ℕ) → NextIsOfKind result.next bytes }
+{
+    let count = u16::from_be_bytes([field[3], field[4]]);
+    Step {
+        rectangle: None,
+        next: Next::ReadOver(6 * count as u64),
+    }
+}
+
+// The text of so many bytes.
+fn next_text(count: u32) -> Next
+    ensures goes { (width height : ℕ) → (more : List ℕ) → go_on width height result more
+        ≡ (if nat_lt text_limit count then read_over count more else text_data_at count more) }
+    ensures begins { NextBegins 8 result }
+    ensures kind { (bytes : List ℕ) → NextIsOfKind result bytes }
+{
+    if count > TEXT_LIMIT {
+        Next::ReadOver(count as u64)
+    } else if count == 0 {
+        Next::End
+    } else {
+        Next::Field(Stage::TextData { length: count })
+    }
+}
+
+// Behind the head of a cut text.
+fn behind_text_head(field: &[u8]) -> Step
+    requires { length field.now ≡ 7 }
+    ensures goes { (width height : ℕ) → (more : List ℕ)
+        → resume width height Stage.TextHead (field.now ++ more) ≡ step_on width height result more }
+    ensures begins { NextBegins 8 result.next }
+    ensures kind { (bytes : List ℕ) → NextIsOfKind result.next bytes }
+{
+    let count = u32::from_be_bytes([field[3], field[4], field[5], field[6]]);
+    Step {
+        rectangle: None,
+        next: next_text(count),
+    }
+}
+
+// Behind the last byte of a text.
+fn behind_text(count: u32) -> Step
+    ensures goes { (width height : ℕ) → (text more : List ℕ) → length text ≡ count
+        → resume width height (Stage.TextData count) (text ++ more) ≡ step_on width height result more }
+    ensures begins { NextBegins (8 + count) result.next }
+    ensures kind { (bytes : List ℕ) → NextIsOfKind result.next bytes }
+{
+    let _ = count;
+    Step {
+        rectangle: None,
+        next: Next::End,
+    }
 }
 
 // Behind the head of an update.
 fn behind_update_head(field: &[u8]) -> Step
     requires { length field.now ≡ 3 }
     ensures goes { (width height : ℕ) → (more : List ℕ)
-        → resume width height Stage.UpdateHead (field.now ++ more)
-        ≡ step_on width height result more }
-    ensures begins { IfSome result.next (BeginsAt 4) }
+        → resume width height Stage.UpdateHead (field.now ++ more) ≡ step_on width height result more }
+    ensures begins { NextBegins 4 result.next }
+    ensures kind { (bytes : List ℕ) → IsOfUpdate bytes → NextIsOfKind result.next bytes }
 {
     Step {
         rectangle: None,
@@ -92,11 +180,10 @@ fn behind_update_head(field: &[u8]) -> Step
 // Behind the last byte of a Raw rectangle.
 fn behind_raw(at: usize, area: Area, others: u16, end: usize) -> Step
     requires { end ≡ at + 4 * (area.w * area.h) }
-    ensures goes { (width height : ℕ) → (content more : List ℕ)
-        → length content ≡ 4 * (area.w * area.h)
-        → resume width height (Stage.RawData at area others) (content ++ more)
-        ≡ step_on width height result more }
-    ensures begins { IfSome result.next (BeginsAt end) }
+    ensures goes { (width height : ℕ) → (content more : List ℕ) → length content ≡ 4 * (area.w * area.h)
+        → resume width height (Stage.RawData at area others) (content ++ more) ≡ step_on width height result more }
+    ensures begins { NextBegins end result.next }
+    ensures kind { (bytes : List ℕ) → IsOfUpdate bytes → NextIsOfKind result.next bytes }
 {
     let rectangle = Rectangle {
         area,
@@ -121,9 +208,9 @@ fn behind_header(
     requires whole { length header.now ≡ 12 }
     requires short { at + 12 ≤ message_limit }
     ensures goes { IfOk result (λ s. (more : List ℕ)
-        → resume width height (Stage.RectangleHead at others) (header.now ++ more)
-        ≡ step_on width height s more) }
-    ensures begins { IfOk result (λ s. IfSome s.next (BeginsAt (at + 12))) }
+        → resume width height (Stage.RectangleHead at others) (header.now ++ more) ≡ step_on width height s more) }
+    ensures begins { IfOk result (λ s. NextBegins (at + 12) s.next) }
+    ensures kind { IfOk result (λ s. (bytes : List ℕ) → IsOfUpdate bytes → NextIsOfKind s.next bytes) }
     ensures faults { IfErr result (λ f. (more : List ℕ)
         → resume width height (Stage.RectangleHead at others) (header.now ++ more) ≡ Bad f) }
 {
@@ -140,7 +227,7 @@ fn behind_header(
     }
     Ok(Step {
         rectangle: None,
-        next: Some(Stage::RawData {
+        next: Next::Field(Stage::RawData {
             at: at + 12,
             area,
             others,
@@ -154,14 +241,16 @@ pub fn step(width: u16, height: u16, stage: Stage, field: &[u8]) -> Result<Step,
     requires short { start_of stage + length field.now ≤ message_limit }
     ensures goes { IfOk result (λ s. (more : List ℕ)
         → resume width height stage (field.now ++ more) ≡ step_on width height s more) }
-    ensures begins { IfOk result (λ s.
-        IfSome s.next (BeginsAt (start_of stage + length field.now))) }
-    ensures faults { IfErr result (λ f. (more : List ℕ)
-        → resume width height stage (field.now ++ more) ≡ Bad f) }
+    ensures begins { IfOk result (λ s. NextBegins (start_of stage + length field.now) s.next) }
+    ensures kind { IfOk result (λ s. (bytes : List ℕ) → drop (start_of stage) bytes ≡ field.now → IsOfKind stage bytes → NextIsOfKind s.next bytes) }
+    ensures faults { IfErr result (λ f. (more : List ℕ) → resume width height stage (field.now ++ more) ≡ Bad f) }
 {
     match stage {
         Stage::Type => behind_type(field),
         Stage::UpdateHead => Ok(behind_update_head(field)),
+        Stage::ColorMapHead => Ok(behind_color_map_head(field)),
+        Stage::TextHead => Ok(behind_text_head(field)),
+        Stage::TextData { length } => Ok(behind_text(length)),
         Stage::RectangleHead { at, others } => behind_header(width, height, at, others, field),
         Stage::RawData { at, area, others } => Ok(behind_raw(at, area, others, at + field.len())),
     }

@@ -1,6 +1,7 @@
 ghost use Rattle.std.specs.Prelude.{◌<◌, length};
 
 use super::*;
+use pixel_format::Color;
 use std::alloc::Global;
 use std::test::Fail;
 
@@ -135,12 +136,136 @@ fn bytes_that_are_no_message(rt: HostRuntime) {
     assert_eq!(rt; BytesFault::NotOne.number(), 0);
 }
 
+// The messages that a reader of a screen of 1 by 1 makes of the bytes, in one piece and byte by byte,
+// are this one.
+fn is_one_message(alloc: Global, bytes: &[u8], expected: &[u8]) -> bool {
+    for length in [1, 7, 200_000] {
+        let (messages, fault) = read(alloc, bytes, length);
+        if fault.is_some() || messages.len() != 1 || messages[0].bytes() != expected {
+            return false;
+        }
+    }
+    true
+}
+
+#[test]
+fn messages_without_rectangles(rt: HostRuntime) -> Result<(), Fail> {
+    let alloc = rt.alloc();
+    // A colour map of one colour is read over, and a bell follows.
+    let bytes = [1, 0, 0, 0, 0, 1, 0, 0, 0, 0, 0, 0, 2];
+    assert!(rt; is_one_message(alloc, &bytes, &[2]));
+    // A text of two bytes, and one of none.
+    let text = [3, 0, 0, 0, 0, 0, 0, 2, 104, 105];
+    assert!(rt; is_one_message(alloc, &text, &text));
+    let empty = [3, 9, 9, 9, 0, 0, 0, 0];
+    assert!(rt; is_one_message(alloc, &empty, &empty));
+    let bell = HostMessage::from_bytes(alloc, 1, 1, &[2])?;
+    assert_eq!(rt; bell.rectangles().len(), 0);
+    // An empty colour map is no recorded message.
+    let fault = HostMessage::from_bytes(alloc, 1, 1, &[1, 0, 0, 0, 0, 0]).err();
+    assert_eq!(rt; fault, Some(BytesFault::NotOne));
+    let fault = HostMessage::from_bytes(alloc, 1, 1, &[2, 2]).err();
+    assert_eq!(rt; fault, Some(BytesFault::NotOne));
+    let fault = HostMessage::from_bytes(alloc, 1, 1, &[2, 9]).err();
+    assert_eq!(rt; fault, Some(BytesFault::Wire(WireFault::UnknownType)));
+    Ok(())
+}
+
+#[test]
+fn texts_at_the_limit(rt: HostRuntime) -> Result<(), Fail> {
+    let alloc = rt.alloc();
+    // 65,536 bytes are recorded, 65,537 are read over; a bell follows each.
+    let mut recorded = vec![in alloc; 0; 8 + 65_536 + 1]?;
+    recorded[0] = 3;
+    recorded[5] = 1;
+    recorded[8 + 65_536] = 2;
+    let (messages, fault) = read(alloc, &recorded, 1_000);
+    assert_eq!(rt; (messages.len(), fault), (2, None));
+    assert_eq!(rt; messages[0].bytes().len(), 8 + 65_536);
+    let mut over = vec![in alloc; 0; 8 + 65_537 + 1]?;
+    over[0] = 3;
+    over[5] = 1;
+    over[7] = 1;
+    over[8 + 65_537] = 2;
+    assert!(rt; is_one_message(alloc, &over, &[2]));
+    Ok(())
+}
+
+#[test]
+fn two_rectangles_are_too_long(rt: HostRuntime) -> Result<(), Fail> {
+    let mut reader = ServerReader::new(rt.alloc(), 4_096, 2_048);
+    let mut messages = Vec::new(rt.alloc());
+    // Two Raw rectangles over the whole screen: 67,108,892 bytes in all.
+    let head = [0, 0, 0, 2];
+    let rectangle = [0, 0, 0, 0, 16, 0, 8, 0, 0, 0, 0, 0];
+    let zeros = vec![in rt.alloc(); 0; 65_536]?;
+    assert_eq!(rt; reader.feed(&head, &mut messages), Ok(()));
+    assert_eq!(rt; reader.feed(&rectangle, &mut messages), Ok(()));
+    for _ in 0..512 {
+        assert_eq!(rt; reader.feed(&zeros, &mut messages), Ok(()));
+    }
+    assert_eq!(rt; reader.feed(&rectangle, &mut messages), Ok(()));
+    for _ in 0..511 {
+        assert_eq!(rt; reader.feed(&zeros, &mut messages), Ok(()));
+    }
+    assert_eq!(rt; zeros.len(), 65_536);
+    // 2 ^ 26 bytes are there, and then one more.
+    assert_eq!(rt; reader.feed(&zeros[28..], &mut messages), Ok(()));
+    assert_eq!(rt;
+        reader.feed(&zeros[..1], &mut messages),
+        Err(WireFault::TooLong)
+    );
+    assert_eq!(rt; messages.len(), 0);
+    Ok(())
+}
+
+#[test]
+fn messages_that_are_written(rt: HostRuntime) -> Result<(), Fail> {
+    let alloc = rt.alloc();
+    let mut host = Vec::new(alloc);
+    write_cut_text(b"hi", &mut host)?;
+    assert!(rt; is_one_message(alloc, &host, &[3, 0, 0, 0, 0, 0, 0, 2, 104, 105]));
+    host.clear();
+    write_bell(&mut host)?;
+    assert!(rt; is_one_message(alloc, &host, &[2]));
+    // One red pixel, as a viewer of 16 bits has it.
+    host.clear();
+    let area = Area {
+        x: 1,
+        y: 258,
+        w: 1,
+        h: 1,
+    };
+    write_raw_update(area, &[0, 248], &mut host)?;
+    let update = [0, 0, 0, 1, 0, 1, 1, 2, 0, 1, 0, 1, 0, 0, 0, 0, 0, 248];
+    assert_eq!(rt; host.as_slice(), update.as_slice());
+    host.clear();
+    let color = Color {
+        r: 65_535,
+        g: 256,
+        b: 1,
+    };
+    write_color_map(258, &[color], &mut host)?;
+    let map = [1, 0, 1, 2, 0, 1, 255, 255, 1, 0, 0, 1];
+    assert_eq!(rt; host.as_slice(), map.as_slice());
+    written_update_is_read();
+    written_color_map_is_read();
+    written_bell_is_read();
+    written_text_is_read();
+    Ok(())
+}
+
 // Whether the plain function and a reader, which gets one byte at a time, say the same of bytes that
 // begin with at most one message.
 fn agree(alloc: Global, bytes: &[u8]) -> bool {
     let (messages, fault) = read(alloc, bytes, 1);
     match read_message(alloc, 1, 1, bytes) {
-        Ok(Some(message)) => messages.len() == 1 && messages[0].bytes() == message.bytes(),
+        Ok(Some(Front::Recorded(message))) => {
+            messages.len() == 1 && messages[0].bytes() == message.bytes()
+        }
+        Ok(Some(Front::ReadOver(length))) => {
+            messages.is_empty() && fault.is_none() && length == bytes.len()
+        }
         Ok(None) => messages.is_empty() && fault.is_none(),
         Err(expected) => messages.is_empty() && fault == Some(expected),
     }
@@ -156,7 +281,20 @@ fn plain_function_and_reader_agree(rt: HostRuntime) -> Result<(), Fail> {
         bytes[place] = 200;
         assert!(rt; agree(rt.alloc(), &bytes), "at {place}");
     }
-    let message = read_message(rt.alloc(), 1, 1, &RED)?.ok_or("a message")?;
+    // A colour map of one colour, and a text of two bytes.
+    let map = [1, 0, 0, 0, 0, 1, 0, 0, 0, 0, 0, 0];
+    let text = [3, 0, 0, 0, 0, 0, 0, 2, 104, 105];
+    for length in 0..=map.len() {
+        assert!(rt; agree(rt.alloc(), &map[..length]));
+    }
+    for length in 0..=text.len() {
+        assert!(rt; agree(rt.alloc(), &text[..length]));
+    }
+    assert!(rt; agree(rt.alloc(), &[2]));
+    assert!(rt; agree(rt.alloc(), &[4]));
+    let Some(Front::Recorded(message)) = read_message(rt.alloc(), 1, 1, &RED)? else {
+        return Err("a message")?;
+    };
     assert_eq!(rt; message.bytes(), RED.as_slice());
     assert_eq!(rt; message.rectangles().len(), 1);
     Ok(())

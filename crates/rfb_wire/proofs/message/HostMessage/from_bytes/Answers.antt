@@ -24,6 +24,9 @@ returns-in_default-pop-clause-not_one c = λ _ m for same.
     let p = c.in_default-pop.ensures in
     none_given message_limit c.args.width c.args.height _ _ c.args.bytes.now c.feed.new.out.items m goes (p.items ∙ append-nil c.pop.new.self.items ∙ p.rest ∙ rw p.cases.0 refl) for same
 
+pub returns-in_default-pop-clause-whole : goal.returns-in_default-pop-clause-whole
+returns-in_default-pop-clause-whole c = λ m for same. absurd (returns-in_default-pop-clause-not_one c refl m for same)
+
 pub returns-clause-ok : goal.returns-clause-ok
 returns-clause-ok c =
     let stands : StandsFor c.new-reader.result.kept c.new-reader.result.passed [] = rw c.new-reader.ensures (stands_whole []) in

@@ -1,16 +1,17 @@
 use Rattle.std.proofs.Common.{◌≡◌, ℕ, List, ◌++◌, length}
-use Rattle.rfb_wire.specs.Progress.{IsAt}
-use Rattle.rfb_wire.specs.Stream.{Gives}
+use Rattle.rfb_wire.specs.Progress.{IsAt, passed_in}
+use Rattle.rfb_wire.specs.Stream.{Moves, StandsFor}
 use Rattle.rfb_wire.specs.Grammar.{message_limit}
 use Rattle.rfb_wire.proofs.progress.Progress.read.Given as goal
 
--- what of the piece is read is given, or kept
+-- what of the piece is read is given, kept, or read over
 abbrev pub invariant-loop-rest : goal.invariant-loop-rest
 invariant-loop-rest l = record {
   at : IsAt message_limit l.width l.height l.self;
   front : List ℕ;
   piece : l.initial.rest ≡ front ++ l.rest;
-  gives : Gives message_limit l.width l.height l.initial.out.items l.out.items (l.initial.self.bytes.items ++ front) l.self.bytes.items;
+  moves : (rest : List ℕ) → StandsFor l.initial.self.bytes.items (passed_in l.initial.self.over) rest
+      → Moves message_limit l.width l.height l.self.bytes.items (passed_in l.self.over) l.initial.out.items l.out.items (rest ++ front);
 }
 
 abbrev pub decreases-loop-rest : goal.decreases-loop-rest

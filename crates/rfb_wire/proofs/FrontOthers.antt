@@ -1,0 +1,157 @@
+-- What the grammar says of messages that are no update, whose first fields are known.
+use Rattle.std.proofs.Common.{◌≡◌, ℕ, ◌+◌, ◌*◌, ◌-◌, ◌≤◌, Bool, true, false, List, [], ◌∷◌, ◌++◌, length, take, drop, slice_index, nat_eq, refl, sym, ap, ◌∙◌, inl, inr, arith, append_assoc, length-append, Option, Some, None, Ok}
+use Rattle.std.specs.Prelude.{nat_lt, nat_le}
+use Rattle.std.proofs.lemmas.Bool.{lt-ltb, le-ltb, leb-true, leb-false}
+use Rattle.pixel_format.specs.Reading.{Got, More, field}
+use Rattle.rfb_wire.specs.declared.fault.WireFault.{WireFault}
+use Rattle.rfb_wire.specs.Grammar.{message_at, other_at, Recorded, ReadOver, color_map_at, text_at, text_data_at, read_over, text_limit, u16_at, u32_at}
+use Rattle.rfb_wire.specs.Plain.{kind_of, Says}
+use Rattle.std.specs.Prelude.{MatchOption, if◌then◌else◌}
+use Rattle.std.proofs.lemmas.List.{drop_at, take_at}
+use Rattle.pixel_format.proofs.Readings.{bind_got, field_got, true_or_false}
+use Rattle.rfb_wire.proofs.Others.{field_front, other_read, other_of_bell, other_of_text, text_again}
+use Rattle.rfb_wire.proofs.Messages.{one_number, other_is_read}
+
+pub map_head_short : (bytes : List ℕ) → field {E = WireFault} 5 bytes ≡ More → color_map_at bytes ≡ More
+unfolding color_map_at
+map_head_short bytes e = rw e refl
+
+pub map_short : (count : ℕ) (bytes head colors : List ℕ) → field {E = WireFault} 5 bytes ≡ Got head colors → u16_at head 3 ≡ count
+    → field {E = WireFault} (6 * count) colors ≡ More → color_map_at bytes ≡ More
+unfolding color_map_at read_over
+map_short count bytes head colors e is short = rw (e, is, short) refl
+
+pub map_whole : (count : ℕ) (bytes head colors skipped rest : List ℕ) → field {E = WireFault} 5 bytes ≡ Got head colors → u16_at head 3 ≡ count
+    → field {E = WireFault} (6 * count) colors ≡ Got skipped rest → color_map_at bytes ≡ Got ReadOver rest
+unfolding color_map_at read_over
+map_whole count bytes head colors skipped rest e is whole = rw (e, is, whole) refl
+
+pub text_head_short : (bytes : List ℕ) → field {E = WireFault} 7 bytes ≡ More → text_at bytes ≡ More
+unfolding text_at
+text_head_short bytes e = rw e refl
+
+pub text_short : (count : ℕ) (bytes head body : List ℕ) → field {E = WireFault} 7 bytes ≡ Got head body → u32_at head 3 ≡ count
+    → field {E = WireFault} count body ≡ More → text_at bytes ≡ More
+unfolding text_at text_data_at read_over
+text_short count bytes head body e is short = by_length (nat_lt text_limit count) refl
+  where
+    by_length : (b : Bool) → nat_lt text_limit count ≡ b → text_at bytes ≡ More
+    by_length true long = rw (e, is, long, short) refl
+    by_length false long = rw (e, is, long, short) refl
+
+pub text_whole : (count : ℕ) (recorded : Bool) (bytes head body text rest : List ℕ) → field {E = WireFault} 7 bytes ≡ Got head body → u32_at head 3 ≡ count
+    → field {E = WireFault} count body ≡ Got text rest → nat_le count text_limit ≡ recorded → text_at bytes ≡ Got (kind_of recorded) rest
+unfolding text_at text_data_at read_over
+text_whole count true bytes head body text rest e is whole short =
+    let small : nat_lt text_limit count ≡ false = le-ltb text_limit count (leb-true count text_limit short) in
+    rw (e, is, small, whole) refl
+text_whole count false bytes head body text rest e is whole long =
+    let large : nat_lt text_limit count ≡ true = lt-ltb text_limit count (leb-false count text_limit long) in
+    rw (e, is, large, whole) refl
+
+-- a text, where there is one
+pub says_text : {X : Type 0} (rest : X → List ℕ) (o : Option (Bool × X)) (bytes : List ℕ)
+    → MatchOption o (text_at bytes ≡ More) (λ x. text_at bytes ≡ Got (kind_of x.0) (rest x.1)) → Says (λ x. kind_of x.0) (λ x. rest x.1) (Ok o) (text_at bytes)
+says_text rest (Some x) bytes e = e
+says_text rest None bytes e = e
+
+over_front : (n : ℕ) (bytes rest : List ℕ) → read_over n bytes ≡ Got ReadOver rest → (front : List ℕ) × (bytes ≡ front ++ rest)
+unfolding read_over
+over_front n bytes rest e =
+    let b = bind_got (field n bytes) (λ skipped after. Got ReadOver after) ReadOver rest e in
+    let f = field_front n bytes b.value b.rest (field_got n bytes b.value b.rest b.first) in
+    let last = b.then in
+    let is : b.rest ≡ rest = cc in
+    (b.value, f.0 ∙ ap (λ z. b.value ++ z) is)
+
+behind_head : (head body rest bytes : List ℕ) → bytes ≡ head ++ body → ((front : List ℕ) × (body ≡ front ++ rest)) → (front : List ℕ) × (bytes ≡ front ++ rest)
+behind_head head body rest bytes is (front, body_is) = (head ++ front, is ∙ ap (λ z. head ++ z) body_is ∙ sym (append_assoc head front rest))
+
+data_never : (n : ℕ) (bytes rest : List ℕ) → text_data_at n bytes ≡ Got ReadOver rest → ⊥
+unfolding text_data_at
+data_never n bytes rest e =
+    let b = bind_got (field n bytes) (λ text after. Got (Recorded []) after) ReadOver rest e in
+    let last = b.then in
+    absurd (cc)
+
+text_front : (bytes rest : List ℕ) → text_at bytes ≡ Got ReadOver rest → (front : List ℕ) × (bytes ≡ front ++ rest)
+unfolding text_at
+text_front bytes rest e =
+    let b = bind_got (field 7 bytes) (λ f after. if nat_lt text_limit (u32_at f 3) then read_over (u32_at f 3) after else text_data_at (u32_at f 3) after) ReadOver rest e in
+    let f = field_front 7 bytes b.value b.rest (field_got 7 bytes b.value b.rest b.first) in
+    elim (true_or_false (nat_lt text_limit (u32_at b.value 3))) [
+      | inl t ↦ (let e' = rw t at b.then in behind_head b.value b.rest rest bytes f.0 (over_front (u32_at b.value 3) b.rest rest e'))
+      | inr t ↦ (let e' = rw t at b.then in absurd (data_never (u32_at b.value 3) b.rest rest e'))
+    ]
+
+map_front : (bytes rest : List ℕ) → color_map_at bytes ≡ Got ReadOver rest → (front : List ℕ) × (bytes ≡ front ++ rest)
+unfolding color_map_at
+map_front bytes rest e =
+    let b = bind_got (field 5 bytes) (λ f after. read_over (6 * u16_at f 3) after) ReadOver rest e in
+    let f = field_front 5 bytes b.value b.rest (field_got 5 bytes b.value b.rest b.first) in
+    behind_head b.value b.rest rest bytes f.0 (over_front (6 * u16_at b.value 3) b.rest rest b.then)
+
+passed_front : (type : ℕ) (bytes rest : List ℕ) → other_at type bytes ≡ Got ReadOver rest → (front : List ℕ) × (bytes ≡ front ++ rest)
+unfolding other_at
+passed_front type bytes rest e = elim (true_or_false (nat_eq type 1)) [
+  | inl t ↦ (let e' = rw t at e in map_front bytes rest e')
+  | inr t ↦ elim (true_or_false (nat_eq type 2)) [
+    | inl u ↦ (let e' = rw (t, u) at e in absurd (cc))
+    | inr u ↦ elim (true_or_false (nat_eq type 3)) [
+      | inl v ↦ (let e' = rw (t, u, v) at e in text_front bytes rest e')
+      | inr v ↦ (let e' = rw (t, u, v) at e in absurd (cc))
+    ]
+  ]
+]
+
+-- a message that is read over, by the bytes behind it
+pub front_passed : (type : ℕ) (bytes kind rest behind : List ℕ) → field {E = WireFault} 1 bytes ≡ Got kind rest → other_at type rest ≡ Got ReadOver behind
+    → (length behind ≤ length bytes) × (drop (length bytes - length behind) bytes ≡ behind)
+front_passed type bytes kind rest behind e is =
+    let f = field_front 1 bytes kind rest (field_got 1 bytes kind rest e) in
+    let all = behind_head kind rest behind bytes f.0 (passed_front type rest behind is) in
+    let lengths : length bytes ≡ length all.0 + length behind = ap length all.1 ∙ length-append all.0 behind in
+    let n : length bytes - length behind ≡ length all.0 = omega arith in
+    (omega arith, ap (λ k. drop k bytes) n ∙ ap (drop (length all.0)) all.1 ∙ drop_at all.0 behind (length all.0) refl)
+
+-- a front of the bytes that is a bell or a text
+pub record OtherFront (limit width height : ℕ) (bytes behind : List ℕ) : Type 0 where
+  pub whole : List ℕ
+  pub bytes_are : bytes ≡ whole ++ behind
+  pub recorded : message_at limit width height whole ≡ Got (Recorded []) []
+
+pub front_other : (limit width height : ℕ) (bytes kind rest behind : List ℕ) → field {E = WireFault} 1 bytes ≡ Got kind rest
+    → other_at (slice_index kind 0) rest ≡ Got (Recorded []) behind → OtherFront limit width height bytes behind
+front_other limit width height bytes kind rest behind e is =
+    let f = field_front 1 bytes kind rest (field_got 1 bytes kind rest e) in
+    let type = slice_index kind 0 in
+    let bytes_are : bytes ≡ type ∷ rest = f.0 ∙ ap (λ z. z ++ rest) (one_number kind f.1) in
+    elim (other_read type rest [] behind is) [
+      | inl b ↦ record {
+        whole = 2 ∷ [];
+        bytes_are = bytes_are ∙ ap (λ z. z ∷ rest) b.0 ∙ ap (λ z. 2 ∷ z) b.1;
+        recorded = other_is_read limit width height 2 [] refl ∙ other_of_bell [];
+      }
+      | inr t ↦
+          (let r = t.1 in
+          record {
+            whole = 3 ∷ (r.head ++ r.text);
+            bytes_are = bytes_are ∙ ap (λ z. z ∷ rest) t.0 ∙ ap (λ z. 3 ∷ z) r.bytes_are;
+            recorded = other_is_read limit width height 3 (r.head ++ r.text) refl ∙ other_of_text (r.head ++ r.text) ∙ text_again r.head r.text r.head_length r.text_length r.text_short;
+          })
+    ]
+
+-- the bytes behind a message are no more than all
+pub behind_within : (recorded : Bool) (bytes kind rest behind : List ℕ) → field {E = WireFault} 1 bytes ≡ Got kind rest
+    → other_at (slice_index kind 0) rest ≡ Got (kind_of recorded) behind → length behind ≤ length bytes
+behind_within true bytes kind rest behind e is =
+    let f = front_other 0 0 0 bytes kind rest behind e is in
+    let lengths : length bytes ≡ length f.whole + length behind = ap length f.bytes_are ∙ length-append f.whole behind in
+    omega arith
+behind_within false bytes kind rest behind e is = (front_passed (slice_index kind 0) bytes kind rest behind e is).0
+
+-- the bytes that the code takes of a message
+pub other_taken : (bytes whole behind : List ℕ) → bytes ≡ whole ++ behind → take (length bytes - length behind) bytes ≡ whole
+other_taken bytes whole behind is =
+    let n : length bytes - length behind ≡ length whole = rw (is, length-append) (omega arith) in
+    ap (λ k. take k bytes) n ∙ ap (take (length whole)) is ∙ take_at whole behind (length whole) refl

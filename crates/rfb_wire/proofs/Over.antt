@@ -1,0 +1,169 @@
+-- Bytes that are read over.
+use Rattle.std.proofs.Common.{◌≡◌, ℕ, ◌+◌, ◌-◌, ◌<◌, ◌^◌, List, [], ◌∷◌, ◌++◌, length, take, drop, nat_eq, replicate, true, false, refl, sym, ap, ◌∙◌, subst, inl, inr, arith, append_assoc, length-append}
+use Rattle.std.specs.Prelude.{Option, Some, None, MatchOption, nat_lt}
+use Rattle.std.proofs.lemmas.Bool.{ltb-true, ltb-false, lt-ltb, le-ltb}
+use Rattle.std.proofs.lemmas.List.{length-replicate, append-nil, take-append-drop, length-take-le, length-drop}
+use Rattle.std.proofs.Math.Seq.{drop-append-add}
+use Rattle.pixel_format.specs.Reading.{Got, More, ◌>>=◌, field}
+use Rattle.pixel_format.proofs.Readings.{bind_got, field-whole, field-short, true_or_false}
+use Rattle.rfb_wire.specs.declared.fault.WireFault.{WireFault}
+use Rattle.rfb_wire.specs.declared.progress.Over.{Over}
+use Rattle.rfb_wire.specs.declared.progress.Progress.{Progress}
+use Rattle.rfb_wire.specs.Grammar.{Recorded, ReadOver, message_at, update_at, rectangles_at, read_over, u16_at}
+use Rattle.rfb_wire.specs.Host.{Host}
+use Rattle.rfb_wire.specs.Progress.{IsAt, IsInField, IsOver, passed_in, unlimited_at}
+use Rattle.rfb_wire.specs.Stream.{StandsFor, Moves}
+use Rattle.rfb_wire.proofs.Streams.{empty_list, stands_kept, stands_whole, gives_none, gives_passed}
+use Rattle.rfb_wire.proofs.Turns.{field_waits, unlimited-first, message-first}
+
+-- some of the bytes that are left
+read_over_more : (j : ℕ) (taken more : List ℕ) → read_over (length taken + j) (taken ++ more) ≡ read_over j more
+unfolding read_over field
+read_over_more j taken more = elim (true_or_false (nat_lt (length more) j)) [
+  | inl t ↦
+      (let few = ltb-true (length more) j t in
+      let longer : nat_lt (length (taken ++ more)) (length taken + j) ≡ true = lt-ltb (length (taken ++ more)) (length taken + j) (omega (arith, length-append taken more)) in
+      rw (t, longer) refl)
+  | inr t ↦
+      (let enough = ltb-false (length more) j t in
+      let longer : nat_lt (length (taken ++ more)) (length taken + j) ≡ false = le-ltb (length (taken ++ more)) (length taken + j) (omega (arith, length-append taken more)) in
+      rw (t, longer, drop-append-add taken more j) refl)
+]
+
+-- all of them
+pub read_over_whole : (n : ℕ) (taken : List ℕ) → length taken ≡ n → read_over n taken ≡ Got ReadOver []
+unfolding read_over
+read_over_whole n taken is =
+    ap (λ (b : List ℕ). field {E = WireFault} n b >>= λ skipped rest. Got ReadOver rest) (sym (append-nil taken))
+    ∙ rw (field-whole {E = WireFault} n taken [] is) refl
+
+-- none
+read_over_waits : (n : ℕ) → 0 < n → read_over n [] ≡ More
+unfolding read_over
+read_over_waits n some = rw (field-short {E = WireFault} n [] some) refl
+
+-- an update is not read over
+update_never : (width height : ℕ) (bytes rest : List ℕ) → update_at width height bytes ≡ Got ReadOver rest → ⊥
+unfolding update_at
+update_never width height bytes rest e =
+    let b = bind_got (field 1 bytes) (λ type head. field 3 head >>= λ f body. rectangles_at width height (u16_at f 1) 4 body >>= λ rectangles after. Got (Recorded rectangles) after) ReadOver rest e in
+    let h = bind_got (field 3 b.rest) (λ f body. rectangles_at width height (u16_at f 1) 4 body >>= λ rectangles after. Got (Recorded rectangles) after) ReadOver rest b.then in
+    let d = bind_got (rectangles_at width height (u16_at h.value 1) 4 h.rest) (λ rectangles after. Got (Recorded rectangles) after) ReadOver rest h.then in
+    let last = d.then in
+    absurd (cc)
+
+-- for a message that is read over the limit plays no part
+over_begins : (limit width height n : ℕ) (bytes : List ℕ) → 0 < length bytes → ((more : List ℕ) → unlimited_at width height (bytes ++ more) ≡ read_over n more)
+    → (more : List ℕ) → message_at limit width height (bytes ++ more) ≡ read_over n more
+over_begins limit width height n [] some link more = absurd (omega arith)
+over_begins limit width height n (b ∷ bytes) some link more = elim (true_or_false (nat_eq b 0)) [
+  | inl t ↦
+      (let zeros : List ℕ = replicate n 0 in
+      let whole = link zeros ∙ read_over_whole n zeros (length-replicate n 0) in
+      let first = rw t at (unlimited-first width height b (bytes ++ zeros)) in
+      absurd (update_never width height (b ∷ (bytes ++ zeros)) [] (sym first ∙ whole)))
+  | inr t ↦
+      (let first = rw t at (message-first limit width height b (bytes ++ more)) in
+      let same = rw t at (unlimited-first width height b (bytes ++ more)) in
+      first ∙ sym same ∙ link more)
+]
+
+append_empty : (bytes skipped : List ℕ) → length skipped ≡ 0 → bytes ++ skipped ≡ bytes
+append_empty bytes skipped none = ap (λ z. bytes ++ z) (empty_list skipped none) ∙ append-nil bytes
+
+pub over_starts : (limit width height n : ℕ) (bytes : List ℕ) → 0 < length bytes → ((more : List ℕ) → unlimited_at width height (bytes ++ more) ≡ read_over n more)
+    → 0 < n → n < 2 ^ 32 → IsOver limit width height bytes (record { passed = 0; left = n })
+over_starts limit width height n bytes head link some bound = record {
+  link = λ skipped more none.
+      let empty : bytes ++ skipped ≡ bytes = append_empty bytes skipped none in
+      ap (λ z. message_at limit width height (z ++ more)) empty ∙ over_begins limit width height n bytes head link more;
+  some = some;
+  bound = omega arith;
+}
+
+-- one that has no more bytes
+pub over_at_once : (limit width height : ℕ) (bytes : List ℕ) → 0 < length bytes → ((more : List ℕ) → unlimited_at width height (bytes ++ more) ≡ read_over 0 more)
+    → message_at limit width height bytes ≡ Got ReadOver []
+over_at_once limit width height bytes head link =
+    ap (message_at limit width height) (sym (append-nil bytes)) ∙ over_begins limit width height 0 bytes head link [] ∙ read_over_whole 0 [] refl
+
+-- some of the bytes pass
+pub over_goes : (limit width height n : ℕ) (bytes : List ℕ) (o : Over) → IsOver limit width height bytes o → n < o.left
+    → IsOver limit width height bytes (record { passed = o.passed + n; left = o.left - n })
+over_goes limit width height n bytes o is few = record {
+  link = λ skipped more count.
+      let a : List ℕ = take o.passed skipped in
+      let b : List ℕ = drop o.passed skipped in
+      let both : a ++ b ≡ skipped = take-append-drop o.passed skipped in
+      let length_a : length a ≡ o.passed = length-take-le o.passed skipped (omega arith) in
+      let length_b : length b ≡ n = length-drop o.passed skipped ∙ omega arith in
+      let left : o.left ≡ length b + (o.left - n) = omega arith in
+      let stream : (bytes ++ skipped) ++ more ≡ (bytes ++ a) ++ (b ++ more) =
+      ap (λ z. (bytes ++ z) ++ more) (sym both) ∙ ap (λ z. z ++ more) (sym (append_assoc bytes a b)) ∙ append_assoc (bytes ++ a) b more in
+      ap (message_at limit width height) stream ∙ is.link a (b ++ more) length_a
+      ∙ ap (λ k. read_over k (b ++ more)) left ∙ read_over_more (o.left - n) b more;
+  some = omega arith;
+  bound = omega (arith, is.bound);
+}
+
+-- where bytes pass, nothing is given
+pub pass_goes : (limit width height : ℕ) (bytes : List ℕ) (passed n : ℕ) (old : List Host) (rest taken : List ℕ) → StandsFor bytes passed rest → length taken ≡ n
+    → Moves limit width height bytes (passed + n) old old (rest ++ taken)
+pass_goes limit width height bytes passed n old rest taken s is = record {
+  rest = rest ++ taken;
+  gives = gives_none limit width height old old (rest ++ taken) (rest ++ taken) refl refl;
+  stands = record {
+    skipped = s.skipped ++ taken;
+    count = rw length-append (omega (arith, s.count));
+    is = ap (λ z. z ++ taken) s.is ∙ append_assoc bytes s.skipped taken;
+  };
+}
+
+-- where all have passed, the message is whole
+pub pass_ends : (limit width height : ℕ) (bytes kept : List ℕ) (o : Over) (passed : ℕ) (old : List Host) (rest taken : List ℕ) → IsOver limit width height bytes o
+    → StandsFor bytes o.passed rest → length taken ≡ o.left → kept ≡ [] → passed ≡ 0
+    → Moves limit width height kept passed old old (rest ++ taken)
+pass_ends limit width height bytes kept o passed old rest taken over s is none no_passed =
+    let whole : message_at limit width height (rest ++ taken) ≡ Got ReadOver [] =
+    ap (λ z. message_at limit width height (z ++ taken)) s.is ∙ over.link s.skipped taken s.count ∙ read_over_whole o.left taken is in
+    record {
+      rest = [];
+      gives = gives_passed limit width height old (rest ++ taken) whole;
+      stands = rw (none, no_passed) (stands_whole []);
+    }
+
+waits_by : (limit width height : ℕ) (p : Progress) (o : Option Over) → MatchOption o (IsInField limit width height p) (λ v. IsOver limit width height p.bytes.items v)
+    → (rest : List ℕ) → StandsFor p.bytes.items (passed_in o) rest → message_at limit width height rest ≡ More
+waits_by limit width height p None at rest s =
+    ap (message_at limit width height) (stands_kept p.bytes.items 0 rest refl s) ∙ field_waits limit width height p at
+waits_by limit width height p (Some o) at rest s =
+    ap (message_at limit width height) (s.is ∙ sym (append-nil (p.bytes.items ++ s.skipped)))
+    ∙ at.link s.skipped [] s.count ∙ read_over_waits o.left at.some
+
+-- what a reader stands for waits
+pub at_waits : (limit width height : ℕ) (p : Progress) → IsAt limit width height p → (rest : List ℕ) → StandsFor p.bytes.items (passed_in p.over) rest
+    → message_at limit width height rest ≡ More
+at_waits limit width height p at rest s = waits_by limit width height p p.over at rest s
+
+-- a message that is whole at its head
+pub once_ends : (limit width height : ℕ) (bytes kept : List ℕ) (passed : ℕ) (old : List Host) → message_at limit width height bytes ≡ Got ReadOver []
+    → kept ≡ [] → passed ≡ 0 → Moves limit width height kept passed old old bytes
+once_ends limit width height bytes kept passed old whole none no_passed = record {
+  rest = [];
+  gives = gives_passed limit width height old bytes whole;
+  stands = rw (none, no_passed) (stands_whole []);
+}
+
+-- a message that is kept as far as it came
+pub kept_stands : (limit width height : ℕ) (kept : List ℕ) (passed : ℕ) (old : List Host) (stream : List ℕ) → stream ≡ kept → passed ≡ 0
+    → Moves limit width height kept passed old old stream
+kept_stands limit width height kept passed old stream is none = record {
+  rest = kept;
+  gives = gives_none limit width height old old stream kept refl is;
+  stands = rw none (stands_whole kept);
+}
+
+-- a reader that reads nothing over stands at a field
+pub in_field : (limit width height : ℕ) (p : Progress) → p.over ≡ None → IsAt limit width height p → IsInField limit width height p
+in_field limit width height p none at =
+    subst (λ (o : Option Over). MatchOption o (IsInField limit width height p) (λ v. IsOver limit width height p.bytes.items v)) none at

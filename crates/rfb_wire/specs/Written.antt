@@ -1,0 +1,47 @@
+-- A host's messages as they are written. Padding is 0.
+use Rattle.std.specs.Prelude.{ℕ, ◌+◌, ◌*◌, ◌/◌, ◌%◌, List, [], ◌∷◌, ◌++◌, length}
+use Rattle.std.specs.List.{flat_map}
+use Rattle.pixel_format.specs.declared.Color.{Color}
+use Rattle.rfb_wire.specs.declared.message.Area.{Area}
+use Rattle.rfb_wire.specs.declared.message.Rectangle.{Rectangle}
+use Rattle.rfb_wire.specs.declared.message.Encoding.TheVariants as encodings
+
+-- a number below 65,536, the higher byte first
+abbrev pub two_bytes : ℕ → List ℕ
+two_bytes n = n / 256 ∷ n % 256 ∷ []
+
+-- FramebufferUpdate of one rectangle: type 0, a byte of padding, the number of rectangles, and the
+-- header of the rectangle: x, y, width, height, and the number of the encoding, Raw (RFC 6143, sections
+-- 7.6.1 and 7.7.1)
+abbrev pub raw_head : Area → List ℕ
+raw_head a = 0 ∷ 0 ∷ 0 ∷ 1 ∷ two_bytes a.x ++ two_bytes a.y ++ two_bytes a.w ++ two_bytes a.h ++ 0 ∷ 0 ∷ 0 ∷ 0 ∷ []
+
+-- and its pixels
+abbrev pub raw_update_bytes : Area → List ℕ → List ℕ
+raw_update_bytes a pixels = raw_head a ++ pixels
+
+-- where the rectangle stands in it
+abbrev pub raw_rectangle : Area → Rectangle
+raw_rectangle a = record { area = a; encoding = encodings.Raw; start = 16; end = 16 + 4 * (a.w * a.h) }
+
+-- SetColorMapEntries: type 1, a byte of padding, the number of the first colour, how many there are, and
+-- red, green and blue of each (section 7.6.2)
+abbrev pub color_map_head : ℕ → ℕ → List ℕ
+color_map_head first count = 1 ∷ 0 ∷ two_bytes first ++ two_bytes count
+
+abbrev pub color_bytes : Color → List ℕ
+color_bytes c = two_bytes c.r ++ two_bytes c.g ++ two_bytes c.b
+
+abbrev pub color_map_bytes : ℕ → List Color → List ℕ
+color_map_bytes first colors = color_map_head first (length colors) ++ flat_map color_bytes colors
+
+-- Bell: type 2 alone (section 7.6.3)
+abbrev pub bell_bytes : List ℕ
+bell_bytes = 2 ∷ []
+
+-- the head of a ServerCutText: type 3, three bytes of padding, and the text's length (section 7.6.4)
+abbrev pub text_head : ℕ → List ℕ
+text_head n = 3 ∷ 0 ∷ 0 ∷ 0 ∷ n / 16777216 ∷ n / 65536 % 256 ∷ n / 256 % 256 ∷ n % 256 ∷ []
+
+abbrev pub cut_text_bytes : List ℕ → List ℕ
+cut_text_bytes text = text_head (length text) ++ text

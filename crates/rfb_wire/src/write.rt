@@ -1,0 +1,176 @@
+//! Writers of a host's messages. Each appends one message, or leaves the vector as it was.
+
+ghost use Rattle.std.specs.Prelude.{◌≡◌, ◌+◌, ◌*◌, ◌<◌, ◌≤◌, ◌^◌, IsTrue, ℕ, List, [], ◌∷◌, ◌++◌, take, length, OnOk, OnErr};
+ghost use Rattle.pixel_format.specs.Reading.{Got};
+ghost use Rattle.pixel_format.specs.declared.Color.{Color as ColorValue};
+ghost use Rattle.rfb_wire.specs.declared.message.Area.{Area as AreaValue};
+ghost use Rattle.rfb_wire.specs.Grammar.{message_at, is_inside, Recorded, ReadOver, text_limit};
+ghost use Rattle.rfb_wire.specs.Written.{raw_head, raw_update_bytes, raw_rectangle, color_map_head, color_bytes, color_map_bytes, bell_bytes, text_head, cut_text_bytes};
+
+use crate::message::Area;
+use pixel_format::{Color, NoMemory};
+
+/// Appends a host's FramebufferUpdate of one Raw rectangle (RFC 6143, sections 7.6.1 and 7.7.1): its
+/// area, and the pixels of the area by rows, in the viewer's format.
+pub fn write_raw_update(area: Area, pixels: &[u8], out: &mut Vec<u8>) -> Result<(), NoMemory>
+    ensures ok { OnOk result (out.new.items ≡ out.old.items ++ raw_update_bytes area pixels.now) }
+    ensures err { OnErr result (out.new.items ≡ out.old.items) }
+{
+    let start = out.len();
+    write_raw_head(area, out)?;
+    if let Err(fault) = out.extend_from_slice(pixels) {
+        out.truncate(start);
+        return Err(fault);
+    }
+    Ok(())
+}
+
+// Appends all but the pixels.
+fn write_raw_head(area: Area, out: &mut Vec<u8>) -> Result<(), NoMemory>
+    ensures ok { OnOk result (out.new.items ≡ out.old.items ++ raw_head area) }
+    ensures err { OnErr result (out.new.items ≡ out.old.items) }
+{
+    out.extend_from_slice(&[
+        0,
+        0,
+        0,
+        1,
+        (area.x / 256) as u8,
+        (area.x % 256) as u8,
+        (area.y / 256) as u8,
+        (area.y % 256) as u8,
+        (area.w / 256) as u8,
+        (area.w % 256) as u8,
+        (area.h / 256) as u8,
+        (area.h % 256) as u8,
+        0,
+        0,
+        0,
+        0,
+    ])?;
+    Ok(())
+}
+
+/// Appends a host's SetColorMapEntries (RFC 6143, section 7.6.2): at most 65,535 colours, for the
+/// numbers from `first` on.
+pub fn write_color_map(first: u16, colors: &[Color], out: &mut Vec<u8>) -> Result<(), NoMemory>
+    requires { length colors.now < 2 ^ 16 }
+    ensures ok { OnOk result (out.new.items ≡ out.old.items ++ color_map_bytes first colors.now) }
+    ensures err { OnErr result (out.new.items ≡ out.old.items) }
+{
+    let start = out.len();
+    if let Err(fault) = append_color_map(first, colors, out) {
+        out.truncate(start);
+        return Err(fault);
+    }
+    Ok(())
+}
+
+// Appends the same, or a part of it.
+fn append_color_map(first: u16, colors: &[Color], out: &mut Vec<u8>) -> Result<(), NoMemory>
+    requires { length colors.now < 2 ^ 16 }
+    ensures ok { OnOk result (out.new.items ≡ out.old.items ++ color_map_bytes first colors.now) }
+    ensures part { take (length out.old.items) out.new.items ≡ out.old.items }
+{
+    let count = colors.len();
+    out.extend_from_slice(&[
+        1,
+        0,
+        (first / 256) as u8,
+        (first % 256) as u8,
+        (count / 256) as u8,
+        (count % 256) as u8,
+    ])?;
+    for color in colors {
+        out.extend_from_slice(&map_entry(*color))?;
+    }
+    Ok(())
+}
+
+// A colour as it stands in a map.
+fn map_entry(color: Color) -> [u8; 6]
+    ensures { result ≡ color_bytes color }
+{
+    [
+        (color.r / 256) as u8,
+        (color.r % 256) as u8,
+        (color.g / 256) as u8,
+        (color.g % 256) as u8,
+        (color.b / 256) as u8,
+        (color.b % 256) as u8,
+    ]
+}
+
+/// Appends a host's Bell (RFC 6143, section 7.6.3).
+pub fn write_bell(out: &mut Vec<u8>) -> Result<(), NoMemory>
+    ensures ok { OnOk result (out.new.items ≡ out.old.items ++ bell_bytes) }
+    ensures err { OnErr result (out.new.items ≡ out.old.items) }
+{
+    out.extend_from_slice(&[2])?;
+    Ok(())
+}
+
+/// Appends a host's ServerCutText (RFC 6143, section 7.6.4).
+pub fn write_cut_text(text: &[u8], out: &mut Vec<u8>) -> Result<(), NoMemory>
+    requires { length text.now < 2 ^ 32 }
+    ensures ok { OnOk result (out.new.items ≡ out.old.items ++ cut_text_bytes text.now) }
+    ensures err { OnErr result (out.new.items ≡ out.old.items) }
+{
+    let start = out.len();
+    write_text_head(text.len() as u32, out)?;
+    if let Err(fault) = out.extend_from_slice(text) {
+        out.truncate(start);
+        return Err(fault);
+    }
+    Ok(())
+}
+
+// Appends the head of a cut text of so many bytes.
+fn write_text_head(count: u32, out: &mut Vec<u8>) -> Result<(), NoMemory>
+    ensures ok { OnOk result (out.new.items ≡ out.old.items ++ text_head count) }
+    ensures err { OnErr result (out.new.items ≡ out.old.items) }
+{
+    out.extend_from_slice(&[
+        3,
+        0,
+        0,
+        0,
+        (count / 16_777_216) as u8,
+        (count / 65_536 % 256) as u8,
+        (count / 256 % 256) as u8,
+        (count % 256) as u8,
+    ])?;
+    Ok(())
+}
+
+/// An update of one Raw rectangle that is written is read as a recorded message with that rectangle,
+/// where the area lies within the screen and has four bytes for each place. (A law: it does nothing.)
+pub fn written_update_is_read()
+    ensures { (limit width height : ℕ) → (area : AreaValue) → (pixels : List ℕ)
+        → IsTrue (is_inside width height area) → length pixels ≡ 4 * (area.w * area.h)
+        → 16 + length pixels ≤ limit
+        → message_at limit width height (raw_update_bytes area pixels)
+        ≡ Got (Recorded (raw_rectangle area ∷ [])) [] }
+{}
+
+/// A colour map that is written is read over. (A law: it does nothing.)
+pub fn written_color_map_is_read()
+    ensures { (limit width height first : ℕ) → (colors : List ColorValue) → length colors < 2 ^ 16
+        → message_at limit width height (color_map_bytes first colors) ≡ Got ReadOver [] }
+{}
+
+/// A bell that is written is read as a recorded message. (A law: it does nothing.)
+pub fn written_bell_is_read()
+    ensures { (limit width height : ℕ)
+        → message_at limit width height bell_bytes ≡ Got (Recorded []) [] }
+{}
+
+/// A cut text that is written is read: as a recorded message up to 65,536 bytes, and over if it is
+/// longer. (A law: it does nothing.)
+pub fn written_text_is_read()
+    ensures short { (limit width height : ℕ) → (text : List ℕ) → length text ≤ text_limit
+        → message_at limit width height (cut_text_bytes text) ≡ Got (Recorded []) [] }
+    ensures long { (limit width height : ℕ) → (text : List ℕ) → text_limit < length text
+        → length text < 2 ^ 32
+        → message_at limit width height (cut_text_bytes text) ≡ Got ReadOver [] }
+{}
