@@ -1,0 +1,4 @@
+pub mod Fronts
+pub mod Local
+pub mod Streams
+pub mod Relation
