@@ -2,3 +2,5 @@ pub mod Fronts
 pub mod Local
 pub mod Streams
 pub mod Relation
+pub mod Resume
+pub mod Turns

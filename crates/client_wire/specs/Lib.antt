@@ -5,3 +5,5 @@ pub mod Grammar
 pub mod Plain
 pub mod Message
 pub mod Stream
+pub mod Progress
+pub mod Reader

@@ -6,6 +6,9 @@ mod field;
 mod laws;
 mod message;
 mod plain;
+mod progress;
+mod reader;
+mod step;
 
 pub use fault::WireFault;
 pub use laws::{
@@ -14,3 +17,4 @@ pub use laws::{
 };
 pub use message::{Area, ClientMessage, Encodings};
 pub use plain::read_client_message;
+pub use reader::ClientReader;
