@@ -4,3 +4,4 @@ pub mod Streams
 pub mod Relation
 pub mod Resume
 pub mod Turns
+pub mod ReadBack

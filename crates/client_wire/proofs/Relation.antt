@@ -192,11 +192,11 @@ read_is_message bytes m e =
     rw is (body_is (slice_index b.value 0) b.rest m b.then)
 
 -- what bytes of a known type are read as
-kind_again : (kind : ℕ) (bytes body : List ℕ) → bytes ≡ kind ∷ body → message_at bytes ≡ body_at kind body
+pub kind_again : (kind : ℕ) (bytes body : List ℕ) → bytes ≡ kind ∷ body → message_at bytes ≡ body_at kind body
 kind_again kind bytes body is =
     type_read bytes (kind ∷ []) body kind (ap (field {E = WireFault} 1) is ∙ field-whole {E = WireFault} 1 (kind ∷ []) body refl) refl
 
-whole_again : (n : ℕ) (f : List ℕ) → length f ≡ n → field {E = WireFault} n f ≡ Got f []
+pub whole_again : (n : ℕ) (f : List ℕ) → length f ≡ n → field {E = WireFault} n f ≡ Got f []
 whole_again n f e = ap (field {E = WireFault} n) (sym (append-nil f)) ∙ field-whole {E = WireFault} n f [] e
 
 format_again : (bytes : List ℕ) (f : Format) → IsSetPixelFormat bytes f → message_at bytes ≡ Got (messages.SetPixelFormat f) []

@@ -7,3 +7,4 @@ pub mod Message
 pub mod Stream
 pub mod Progress
 pub mod Reader
+pub mod Written

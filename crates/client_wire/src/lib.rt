@@ -9,6 +9,7 @@ mod plain;
 mod progress;
 mod reader;
 mod step;
+mod write;
 
 pub use fault::WireFault;
 pub use laws::{
@@ -18,3 +19,11 @@ pub use laws::{
 pub use message::{Area, ClientMessage, Encodings};
 pub use plain::read_client_message;
 pub use reader::ClientReader;
+pub use write::{
+    write_client_cut_text, write_key_event, write_pointer_event, write_request,
+    write_set_encodings, write_set_pixel_format, written_encodings_are_read,
+    written_format_is_read, written_input_is_read, written_request_is_read,
+};
+
+#[cfg(test)]
+mod tests;
