@@ -33,7 +33,7 @@ impl Encodings {
     pub fn from_vec(numbers: Vec<i32>) -> Encodings
         ensures { result ≡ numbers.items }
     {
-        Encodings { numbers }
+        Self { numbers }
     }
 
     /// The numbers, in their order.
@@ -47,7 +47,8 @@ impl Encodings {
     pub fn into_vec(self) -> Vec<i32>
         ensures { result.items ≡ self }
     {
-        self.numbers
+        let Encodings { numbers } = self;
+        numbers
     }
 }
 

@@ -285,3 +285,64 @@ fn plain_function_and_reader_agree(rt: HostRuntime) {
     a_rest_begins_none();
     one_reading_of_a_stream();
 }
+
+// SetPixelFormat, SetEncodings, FramebufferUpdateRequest and PointerEvent, one behind the other.
+const STREAM: [u8; 48] = [
+    0, 9, 9, 9, 16, 16, 1, 1, 0, 31, 0, 63, 0, 31, 11, 5, 0, 0, 0, 0, 2, 0, 0, 2, 255, 255, 255,
+    17, 0, 0, 0, 5, 3, 1, 0, 1, 0, 2, 0, 3, 0, 4, 5, 0, 0, 1, 0, 2,
+];
+
+// Which of those messages it is, by its type.
+fn type_of(message: &ClientMessage) -> u8 {
+    match message {
+        ClientMessage::SetPixelFormat(_) => 0,
+        ClientMessage::SetEncodings(_) => 2,
+        ClientMessage::Request { .. } => 3,
+        ClientMessage::Input(kind) => *kind,
+    }
+}
+
+// Also run with each allocation failing in turn.
+#[test]
+fn reading_while_memory_lasts(rt: HostRuntime) {
+    let mut reader = ClientReader::new(rt.alloc());
+    let mut messages = Vec::new(rt.alloc());
+    let mut stopped = None;
+    for piece in STREAM.chunks(1) {
+        let before = messages.len();
+        let fault = reader.feed(piece, &mut messages).err();
+        assert!(rt; fault.is_none() || fault == Some(WireFault::NoMemory));
+        assert!(rt; stopped.is_none() || (fault == stopped && messages.len() == before));
+        stopped = fault;
+    }
+    assert!(rt; stopped.is_some() || messages.len() == 4);
+    for (message, expected) in messages.iter().zip(&[0, 2, 3, 5]) {
+        assert_eq!(rt; type_of(message), *expected);
+    }
+}
+
+// Also run with each allocation failing in turn.
+#[test]
+fn writing_while_memory_lasts(rt: HostRuntime) {
+    let mut out = Vec::new(rt.alloc());
+    for _ in 0..9 {
+        let before = out.len();
+        let written = write_set_encodings(&[-239, 5], &mut out);
+        assert_eq!(rt;
+            out.len(),
+            if written.is_ok() { before + 12 } else { before }
+        );
+        let before = out.len();
+        let written = write_client_cut_text(b"hello", &mut out);
+        assert_eq!(rt;
+            out.len(),
+            if written.is_ok() { before + 13 } else { before }
+        );
+        let before = out.len();
+        let written = write_set_pixel_format(&PixelFormat::host(), &mut out);
+        assert_eq!(rt;
+            out.len(),
+            if written.is_ok() { before + 20 } else { before }
+        );
+    }
+}
