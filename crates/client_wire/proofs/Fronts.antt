@@ -1,0 +1,115 @@
+-- What the grammar says of bytes whose first field is known.
+use Rattle.std.proofs.Common.{◌≡◌, ℕ, ◌*◌, List, nat_eq, false, drop, refl, slice_index}
+use Rattle.pixel_format.specs.Reading.{Got, More, Bad, field}
+use Rattle.pixel_format.specs.Written.{format_at, is_flag}
+use Rattle.client_wire.specs.declared.fault.WireFault.{WireFault}
+use Rattle.client_wire.specs.declared.fault.WireFault.TheVariants as faults
+use Rattle.client_wire.specs.declared.message.ClientMessage.TheVariants as messages
+use Rattle.client_wire.specs.Fault.{UnlessMemory}
+use Rattle.client_wire.specs.Number.{u16_at, u32_at}
+use Rattle.client_wire.specs.Grammar.{judged, set_pixel_format_at, numbers_of, encodings_at, set_encodings_at, request_at, input_at, cut_text_at, body_at, message_at}
+
+pub pixel_format_short : (bytes : List ℕ) → field {E = WireFault} 19 bytes ≡ More → set_pixel_format_at bytes ≡ More
+unfolding set_pixel_format_at
+pixel_format_short bytes e = rw e refl
+
+pub pixel_format_read : (bytes f rest : List ℕ) → field {E = WireFault} 19 bytes ≡ Got f rest → set_pixel_format_at bytes ≡ judged (format_at (drop 3 f)) rest
+unfolding set_pixel_format_at
+pixel_format_read bytes f rest e = rw e refl
+
+pub head_short : (bytes : List ℕ) → field {E = WireFault} 3 bytes ≡ More → set_encodings_at bytes ≡ More
+unfolding set_encodings_at
+head_short bytes e = rw e refl
+
+pub head_read : (bytes f rest : List ℕ) (count : ℕ) → field {E = WireFault} 3 bytes ≡ Got f rest → u16_at f 1 ≡ count → set_encodings_at bytes ≡ encodings_at count rest
+unfolding set_encodings_at
+head_read bytes f rest count e is = rw (e, is) refl
+
+pub encodings_short : (count : ℕ) (bytes : List ℕ) → field {E = WireFault} (4 * count) bytes ≡ More → encodings_at count bytes ≡ More
+unfolding encodings_at
+encodings_short count bytes e = rw e refl
+
+pub encodings_read : (count : ℕ) (bytes f rest : List ℕ) → field {E = WireFault} (4 * count) bytes ≡ Got f rest
+    → encodings_at count bytes ≡ Got (messages.SetEncodings (numbers_of f)) rest
+unfolding encodings_at
+encodings_read count bytes f rest e = rw e refl
+
+pub request_short : (bytes : List ℕ) → field {E = WireFault} 9 bytes ≡ More → request_at bytes ≡ More
+unfolding request_at
+request_short bytes e = rw e refl
+
+pub request_read : (bytes f rest : List ℕ) → field {E = WireFault} 9 bytes ≡ Got f rest
+    → request_at bytes ≡ Got (messages.Request (is_flag (slice_index f 0)) (u16_at f 1) (u16_at f 3) (u16_at f 5) (u16_at f 7)) rest
+unfolding request_at
+request_read bytes f rest e = rw e refl
+
+pub input_short : (kind left : ℕ) (bytes : List ℕ) → field {E = WireFault} left bytes ≡ More → input_at kind left bytes ≡ More
+unfolding input_at
+input_short kind left bytes e = rw e refl
+
+pub input_read : (kind left : ℕ) (bytes f rest : List ℕ) → field {E = WireFault} left bytes ≡ Got f rest → input_at kind left bytes ≡ Got (messages.Input kind) rest
+unfolding input_at
+input_read kind left bytes f rest e = rw e refl
+
+pub text_short : (bytes : List ℕ) → field {E = WireFault} 7 bytes ≡ More → cut_text_at bytes ≡ More
+unfolding cut_text_at
+text_short bytes e = rw e refl
+
+pub text_read : (bytes f rest : List ℕ) (count : ℕ) → field {E = WireFault} 7 bytes ≡ Got f rest → u32_at f 3 ≡ count → cut_text_at bytes ≡ input_at 6 count rest
+unfolding cut_text_at
+text_read bytes f rest count e is = rw (e, is) refl
+
+pub type_short : (bytes : List ℕ) → field {E = WireFault} 1 bytes ≡ More → message_at bytes ≡ More
+unfolding message_at
+type_short bytes e = rw e refl
+
+pub type_read : (bytes f rest : List ℕ) (kind : ℕ) → field {E = WireFault} 1 bytes ≡ Got f rest → slice_index f 0 ≡ kind → message_at bytes ≡ body_at kind rest
+unfolding message_at
+type_read bytes f rest kind e is = rw (e, is) refl
+
+-- the body of a message by its type
+pub body_of_pixel_format : (bytes : List ℕ) → body_at 0 bytes ≡ set_pixel_format_at bytes
+unfolding body_at
+body_of_pixel_format bytes = refl
+
+pub body_of_encodings : (bytes : List ℕ) → body_at 2 bytes ≡ set_encodings_at bytes
+unfolding body_at
+body_of_encodings bytes = refl
+
+pub body_of_request : (bytes : List ℕ) → body_at 3 bytes ≡ request_at bytes
+unfolding body_at
+body_of_request bytes = refl
+
+pub body_of_key : (bytes : List ℕ) → body_at 4 bytes ≡ input_at 4 7 bytes
+unfolding body_at
+body_of_key bytes = refl
+
+pub body_of_pointer : (bytes : List ℕ) → body_at 5 bytes ≡ input_at 5 5 bytes
+unfolding body_at
+body_of_pointer bytes = refl
+
+pub body_of_text : (bytes : List ℕ) → body_at 6 bytes ≡ cut_text_at bytes
+unfolding body_at
+body_of_text bytes = refl
+
+pub body_unknown : (kind : ℕ) (bytes : List ℕ) → nat_eq kind 0 ≡ false → nat_eq kind 2 ≡ false → nat_eq kind 3 ≡ false → nat_eq kind 4 ≡ false → nat_eq kind 5 ≡ false
+    → nat_eq kind 6 ≡ false → body_at kind bytes ≡ Bad faults.UnknownType
+unfolding body_at
+body_unknown kind bytes a b c d e f = rw (a, b, c, d, e, f) refl
+
+-- what holds of a fault holds unless memory ran out
+pub unless_memory : (f : WireFault) (P : Type 0) → P → UnlessMemory f P
+unless_memory faults.UnknownType P p = p
+unless_memory faults.OutsideScreen P p = p
+unless_memory (faults.Encoding n) P p = p
+unless_memory faults.TooLong P p = p
+unless_memory (faults.BadFormat e) P p = p
+unless_memory faults.NoMemory P p = tt
+
+pub unless_memory_map : (f : WireFault) (P Q : Type 0) → (P → Q) → UnlessMemory f P → UnlessMemory f Q
+unless_memory_map faults.UnknownType P Q m p = m p
+unless_memory_map faults.OutsideScreen P Q m p = m p
+unless_memory_map (faults.Encoding n) P Q m p = m p
+unless_memory_map faults.TooLong P Q m p = m p
+unless_memory_map (faults.BadFormat e) P Q m p = m p
+unless_memory_map faults.NoMemory P Q m p = tt

@@ -1,0 +1,77 @@
+-- What bytes say they say whatever follows them: each part of the grammar is local.
+use Rattle.std.proofs.Common.{ℕ, ◌*◌, List, drop, nat_eq, slice_index, refl, inl, inr}
+use Rattle.std.specs.Prelude.{Result, Ok, Err, ◌++◌}
+use Rattle.pixel_format.specs.Reading.{Reading, Got, ◌>>=◌, field, Extends, IsLocal}
+use Rattle.pixel_format.specs.Format.{Format}
+use Rattle.pixel_format.specs.Written.{format_at, is_flag}
+use Rattle.pixel_format.specs.declared.fault.FormatFault.{FormatFault}
+use Rattle.pixel_format.proofs.Readings.{field_local, bind_local, true_or_false}
+use Rattle.client_wire.specs.declared.message.ClientMessage.{ClientMessage}
+use Rattle.client_wire.specs.declared.message.ClientMessage.TheVariants as messages
+use Rattle.client_wire.specs.declared.fault.WireFault.{WireFault}
+use Rattle.client_wire.specs.Number.{u16_at, u32_at}
+use Rattle.client_wire.specs.Grammar.{judged, set_pixel_format_at, numbers_of, encodings_at, set_encodings_at, request_at, input_at, cut_text_at, body_at, message_at}
+
+judged_local : (r : Result Format FormatFault) (rest more : List ℕ) → Extends (judged r rest) more (judged r (rest ++ more))
+judged_local (Ok f) rest more = refl
+judged_local (Err e) rest more = refl
+
+-- a field, and what follows from it
+field_then : (n : ℕ) (f : List ℕ → List ℕ → Reading ClientMessage WireFault) (bytes more : List ℕ)
+    → ((x rest : List ℕ) → Extends (f x rest) more (f x (rest ++ more))) → Extends (field n bytes >>= f) more (field n (bytes ++ more) >>= f)
+field_then n f bytes more then = bind_local (field n bytes) (field n (bytes ++ more)) more f f (field_local WireFault n bytes more) then
+
+pixel_format_local : IsLocal set_pixel_format_at
+unfolding set_pixel_format_at
+pixel_format_local bytes more =
+    field_then 19 (λ f rest. judged (format_at (drop 3 f)) rest) bytes more (λ f rest. judged_local (format_at (drop 3 f)) rest more)
+
+encodings_local : (count : ℕ) → IsLocal (encodings_at count)
+unfolding encodings_at
+encodings_local count bytes more =
+    field_then (4 * count) (λ f rest. Got (messages.SetEncodings (numbers_of f)) rest) bytes more (λ f rest. refl)
+
+set_encodings_local : IsLocal set_encodings_at
+unfolding set_encodings_at
+set_encodings_local bytes more =
+    field_then 3 (λ f rest. encodings_at (u16_at f 1) rest) bytes more (λ f rest. encodings_local (u16_at f 1) rest more)
+
+request_local : IsLocal request_at
+unfolding request_at
+request_local bytes more =
+    field_then 9 (λ f rest. Got (messages.Request (is_flag (slice_index f 0)) (u16_at f 1) (u16_at f 3) (u16_at f 5) (u16_at f 7)) rest) bytes more (λ f rest. refl)
+
+input_local : (kind left : ℕ) → IsLocal (input_at kind left)
+unfolding input_at
+input_local kind left bytes more = field_then left (λ f rest. Got (messages.Input kind) rest) bytes more (λ f rest. refl)
+
+text_local : IsLocal cut_text_at
+unfolding cut_text_at
+text_local bytes more = field_then 7 (λ f rest. input_at 6 (u32_at f 3) rest) bytes more (λ f rest. input_local 6 (u32_at f 3) rest more)
+
+body_local : (kind : ℕ) → IsLocal (body_at kind)
+unfolding body_at
+body_local kind bytes more = elim (true_or_false (nat_eq kind 0)) [
+  | inl a ↦ rw a (pixel_format_local bytes more)
+  | inr a ↦ elim (true_or_false (nat_eq kind 2)) [
+    | inl b ↦ rw (a, b) (set_encodings_local bytes more)
+    | inr b ↦ elim (true_or_false (nat_eq kind 3)) [
+      | inl c ↦ rw (a, b, c) (request_local bytes more)
+      | inr c ↦ elim (true_or_false (nat_eq kind 4)) [
+        | inl d ↦ rw (a, b, c, d) (input_local 4 7 bytes more)
+        | inr d ↦ elim (true_or_false (nat_eq kind 5)) [
+          | inl e ↦ rw (a, b, c, d, e) (input_local 5 5 bytes more)
+          | inr e ↦ elim (true_or_false (nat_eq kind 6)) [
+            | inl f ↦ rw (a, b, c, d, e, f) (text_local bytes more)
+            | inr f ↦ rw (a, b, c, d, e, f) refl
+          ]
+        ]
+      ]
+    ]
+  ]
+]
+
+pub message_local : IsLocal message_at
+unfolding message_at
+message_local bytes more =
+    field_then 1 (λ kind rest. body_at (slice_index kind 0) rest) bytes more (λ kind rest. body_local (slice_index kind 0) rest more)

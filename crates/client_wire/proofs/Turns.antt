@@ -1,0 +1,172 @@
+-- What a reader's turn does: what it keeps and counts says what the grammar says.
+use Rattle.std.proofs.Common.{◌≡◌, ℕ, ◌+◌, ◌-◌, ◌<◌, List, [], ◌∷◌, ◌++◌, length, take, drop, true, false, refl, sym, ap, ◌∙◌, inl, inr, arith, append_assoc, length-append}
+use Rattle.std.specs.Prelude.{nat_lt}
+use Rattle.std.proofs.lemmas.Bool.{ltb-true, ltb-false, lt-ltb, le-ltb}
+use Rattle.std.proofs.lemmas.List.{append-nil, drop_all, drop-append-le, take-append-drop, length-take-le, length-drop}
+use Rattle.std.proofs.Math.Seq.{drop-append-add}
+use Rattle.pixel_format.specs.Reading.{Got, More, Bad, field}
+use Rattle.pixel_format.proofs.Readings.{field-whole, field-short, true_or_false}
+use Rattle.client_wire.specs.declared.message.ClientMessage.{ClientMessage}
+use Rattle.client_wire.specs.declared.message.ClientMessage.TheVariants as messages
+use Rattle.client_wire.specs.declared.fault.WireFault.{WireFault}
+use Rattle.client_wire.specs.declared.progress.Stage.{Stage}
+use Rattle.client_wire.specs.declared.progress.Stage.TheVariants as stages
+use Rattle.client_wire.specs.declared.progress.Over.{Over}
+use Rattle.client_wire.specs.declared.progress.Position.{Position}
+use Rattle.client_wire.specs.declared.progress.Position.TheVariants as positions
+use Rattle.client_wire.specs.declared.progress.Progress.{Progress}
+use Rattle.client_wire.specs.Fault.{UnlessMemory}
+use Rattle.client_wire.specs.Grammar.{input_at, message_at}
+use Rattle.client_wire.specs.Progress.{wants_of, start_of, resume, position_at, BeginsAt, IsLinked, IsInField, IsOver, IsAtPosition, IsAt, passed_in}
+use Rattle.client_wire.specs.Stream.{StandsFor, Moves, itself}
+use Rattle.client_wire.proofs.Fronts.{input_short, input_read, unless_memory_map}
+use Rattle.client_wire.proofs.Resume.{resume-short}
+use Rattle.client_wire.proofs.Streams.{gives_none, gives_one, empty_list, stands_kept, stands_whole}
+
+-- some of the bytes that are left
+input_more : (kind j : ℕ) (taken more : List ℕ) → input_at kind (length taken + j) (taken ++ more) ≡ input_at kind j more
+unfolding input_at field
+input_more kind j taken more = elim (true_or_false (nat_lt (length more) j)) [
+  | inl t ↦
+      (let few = ltb-true (length more) j t in
+      let longer : nat_lt (length (taken ++ more)) (length taken + j) ≡ true = lt-ltb (length (taken ++ more)) (length taken + j) (omega (arith, length-append taken more)) in
+      rw (t, longer) refl)
+  | inr t ↦
+      (let enough = ltb-false (length more) j t in
+      let longer : nat_lt (length (taken ++ more)) (length taken + j) ≡ false = le-ltb (length (taken ++ more)) (length taken + j) (omega (arith, length-append taken more)) in
+      rw (t, longer, drop-append-add taken more j) refl)
+]
+
+-- all of them
+input_whole : (kind n : ℕ) (taken : List ℕ) → length taken ≡ n → input_at kind n taken ≡ Got (messages.Input kind) []
+input_whole kind n taken is =
+    input_read kind n taken taken [] (ap (field {E = WireFault} n) (sym (append-nil taken)) ∙ field-whole {E = WireFault} n taken [] is)
+
+-- none
+input_waits : (kind n : ℕ) → 0 < n → input_at kind n [] ≡ More
+input_waits kind n some = input_short kind n [] (field-short {E = WireFault} n [] some)
+
+append_empty : (bytes skipped : List ℕ) → length skipped ≡ 0 → bytes ++ skipped ≡ bytes
+append_empty bytes skipped none = ap (λ z. bytes ++ z) (empty_list skipped none) ∙ append-nil bytes
+
+-- at the start of a message
+pub at_start : (bytes : List ℕ) → bytes ≡ [] → IsInField bytes stages.Type
+unfolding resume
+at_start bytes none = rw none (record { linked = record { link = λ more. refl; begun = omega arith }; unfinished = omega arith })
+
+-- at what follows a whole field
+pub begins_there : (bytes : List ℕ) (at : ℕ) (p : Position) → ((more : List ℕ) → message_at (bytes ++ more) ≡ position_at p more) → BeginsAt at p → length bytes ≡ at
+    → IsAtPosition bytes p
+begins_there bytes at (positions.Field stage) goes begins is =
+    let start = begins.0 in
+    let some = begins.1 in
+    let none : drop (start_of stage) bytes ≡ [] = drop_all (start_of stage) bytes (omega arith) in
+    record {
+      linked = record {
+        link = λ more. goes more ∙ ap (λ z. resume stage (z ++ more)) (sym none);
+        begun = omega arith;
+      };
+      unfinished = omega arith;
+    }
+begins_there bytes at (positions.ReadOver o) goes begins is =
+    let none_passed = begins.0 in
+    let bound = begins.2 in
+    record {
+      link = λ skipped more count. ap (λ z. message_at (z ++ more)) (append_empty bytes skipped (count ∙ none_passed)) ∙ goes more;
+      some = begins.1;
+      bound = omega arith;
+    }
+
+pub passed_there : (at : ℕ) (p : Position) → BeginsAt at p → passed_in p ≡ 0
+passed_there at (positions.Field stage) begins = refl
+passed_there at (positions.ReadOver o) begins = begins.0
+
+-- more bytes of the field
+pub linked_more : (bytes piece longer : List ℕ) (stage : Stage) → IsLinked bytes stage → longer ≡ bytes ++ piece → IsLinked longer stage
+linked_more bytes piece longer stage l is = record {
+  link = λ more.
+      rw (is, append_assoc, drop-append-le (start_of stage) bytes piece l.begun, append_assoc) (l.link (piece ++ more));
+  begun = rw (is, length-append) (omega (arith, l.begun));
+}
+
+-- where the field isn't whole, the message waits
+field_waits : (bytes : List ℕ) (stage : Stage) → IsInField bytes stage → message_at bytes ≡ More
+field_waits bytes stage at =
+    let few : length (drop (start_of stage) bytes) < wants_of stage = rw (length-drop) (omega (arith, at.linked.begun, at.unfinished)) in
+    ap message_at (sym (append-nil bytes)) ∙ at.linked.link []
+    ∙ ap (resume stage) (append-nil (drop (start_of stage) bytes))
+    ∙ resume-short stage (drop (start_of stage) bytes) few
+
+waits_at : (bytes : List ℕ) (p : Position) → IsAtPosition bytes p → (rest : List ℕ) → StandsFor bytes (passed_in p) rest → message_at rest ≡ More
+waits_at bytes (positions.Field stage) at rest s = ap message_at (stands_kept bytes 0 rest refl s) ∙ field_waits bytes stage at
+waits_at bytes (positions.ReadOver o) at rest s =
+    ap message_at (s.is ∙ sym (append-nil (bytes ++ s.skipped))) ∙ at.link s.skipped [] s.count ∙ input_waits o.kind o.left at.some
+
+-- what a reader stands for waits
+pub at_waits : (p : Progress) → IsAt p → (rest : List ℕ) → StandsFor p.bytes.items (passed_in p.position) rest → message_at rest ≡ More
+at_waits p at rest s = waits_at p.bytes.items p.position at rest s
+
+-- a message that is kept as far as it came
+pub kept_moves : (kept : List ℕ) (passed : ℕ) (old : List ClientMessage) (stream : List ℕ) → stream ≡ kept → passed ≡ 0 → Moves message_at itself kept passed old old stream
+kept_moves kept passed old stream is none = record {
+  rest = kept;
+  gives = gives_none message_at itself old old stream kept refl is;
+  stands = rw none (stands_whole kept);
+}
+
+-- a message that is whole, and given
+pub given_moves : (kept : List ℕ) (passed : ℕ) (old new : List ClientMessage) (stream : List ℕ) (m : ClientMessage) → message_at stream ≡ Got m []
+    → new ≡ old ++ m ∷ [] → kept ≡ [] → passed ≡ 0 → Moves message_at itself kept passed old new stream
+given_moves kept passed old new stream m whole given none no_passed = record {
+  rest = [];
+  gives = gives_one message_at itself old new m stream whole given;
+  stands = rw (none, no_passed) (stands_whole []);
+}
+
+-- some of the bytes pass
+pub over_goes : (n : ℕ) (bytes : List ℕ) (o : Over) → IsOver bytes o → n < o.left
+    → IsOver bytes (record { kind = o.kind; passed = o.passed + n; left = o.left - n })
+over_goes n bytes o is few = record {
+  link = λ skipped more count.
+      let a : List ℕ = take o.passed skipped in
+      let b : List ℕ = drop o.passed skipped in
+      let both : a ++ b ≡ skipped = take-append-drop o.passed skipped in
+      let length_a : length a ≡ o.passed = length-take-le o.passed skipped (omega arith) in
+      let length_b : length b ≡ n = length-drop o.passed skipped ∙ omega arith in
+      let left : o.left ≡ length b + (o.left - n) = omega arith in
+      let stream : (bytes ++ skipped) ++ more ≡ (bytes ++ a) ++ (b ++ more) =
+      ap (λ z. (bytes ++ z) ++ more) (sym both) ∙ ap (λ z. z ++ more) (sym (append_assoc bytes a b)) ∙ append_assoc (bytes ++ a) b more in
+      ap message_at stream ∙ is.link a (b ++ more) length_a
+      ∙ ap (λ k. input_at o.kind k (b ++ more)) left ∙ input_more o.kind (o.left - n) b more;
+  some = omega arith;
+  bound = omega (arith, is.bound);
+}
+
+-- where bytes pass, nothing is given
+pub pass_goes : (bytes : List ℕ) (passed n : ℕ) (old : List ClientMessage) (rest taken : List ℕ) → StandsFor bytes passed rest → length taken ≡ n
+    → Moves message_at itself bytes (passed + n) old old (rest ++ taken)
+pass_goes bytes passed n old rest taken s is = record {
+  rest = rest ++ taken;
+  gives = gives_none message_at itself old old (rest ++ taken) (rest ++ taken) refl refl;
+  stands = record {
+    skipped = s.skipped ++ taken;
+    count = rw length-append (omega (arith, s.count));
+    is = ap (λ z. z ++ taken) s.is ∙ append_assoc bytes s.skipped taken;
+  };
+}
+
+-- where all have passed, the message is whole
+pub over_whole : (bytes : List ℕ) (o : Over) (rest taken : List ℕ) → IsOver bytes o → StandsFor bytes o.passed rest → length taken ≡ o.left
+    → message_at (rest ++ taken) ≡ Got (messages.Input o.kind) []
+over_whole bytes o rest taken over s is =
+    ap (λ z. message_at (z ++ taken)) s.is ∙ over.link s.skipped taken s.count ∙ input_whole o.kind o.left taken is
+
+-- a fault in the bytes that are taken is one of the whole piece
+pub turn_faults : (n : ℕ) (kept piece taken : List ℕ) (f : WireFault) → taken ≡ kept ++ take n piece
+    → UnlessMemory f ((more : List ℕ) → message_at (taken ++ more) ≡ Bad f) → UnlessMemory f (message_at (kept ++ piece) ≡ Bad f)
+turn_faults n kept piece taken f is fault =
+    unless_memory_map f ((more : List ℕ) → message_at (taken ++ more) ≡ Bad f) (message_at (kept ++ piece) ≡ Bad f)
+    (λ e.
+    let all : taken ++ drop n piece ≡ kept ++ piece = rw (is, append_assoc, take-append-drop) refl in
+    ap message_at (sym all) ∙ e (drop n piece))
+    fault

@@ -1,0 +1,28 @@
+use Rattle.std.proofs.Common.{◌++◌}
+use Rattle.client_wire.specs.Grammar.{message_at}
+use Rattle.client_wire.specs.Progress.{passed_in}
+use Rattle.client_wire.specs.Stream.{StandsFor}
+use Rattle.client_wire.proofs.Local.{message_local}
+use Rattle.client_wire.proofs.Streams.{no_fault}
+use Rattle.client_wire.proofs.Turns.{at_waits}
+use Rattle.client_wire.proofs.reader.ClientReader.feed.Goals as goal
+
+pub returns-clause-goes : goal.returns-clause-goes
+returns-clause-goes c = λ rest stands.
+    let r = c.self.inside in
+    let stands' : StandsFor r.progress.bytes.items (passed_in r.progress.position) rest = rw (← c.self.view_is) at stands in
+    let m = c.in_default-read.ensures.moves rest stands' in
+    record {
+      rest = m.rest;
+      gives = m.gives;
+      stands = m.stands;
+      waits = at_waits c.read-read.new.self c.in_default-read.ensures.at m.rest m.stands;
+    }
+
+pub returns-clause-none : goal.returns-clause-none
+returns-clause-none c = λ rest f stands fault.
+    let r = c.self.inside in
+    let stands' : StandsFor r.progress.bytes.items (passed_in r.progress.position) rest = rw (← c.self.view_is) at stands in
+    let m = c.in_default-read.ensures.moves rest stands' in
+    no_fault message_at message_local (rest ++ c.args.piece.now) m.gives.parts m.rest f m.gives.reads
+    (at_waits c.read-read.new.self c.in_default-read.ensures.at m.rest m.stands) fault

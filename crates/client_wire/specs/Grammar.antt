@@ -1,0 +1,68 @@
+-- The messages of a viewer (RFC 6143, section 7.5), read from the front of a list of bytes. Each field
+-- is judged once it is whole, in the order of the fields: so the first fault is the one that is met.
+use Rattle.std.specs.Prelude.{ℕ, ℤ, ◌*◌, List, [], ◌∷◌, drop, slice_index, nat_eq, Result, Ok, Err, if◌then◌else◌}
+use Rattle.pixel_format.specs.Reading.{Reading, Got, Bad, ◌>>=◌, field}
+use Rattle.pixel_format.specs.Format.{Format}
+use Rattle.pixel_format.specs.Written.{format_at, is_flag}
+use Rattle.pixel_format.specs.declared.fault.FormatFault.{FormatFault}
+use Rattle.client_wire.specs.Number.{u16_at, u32_at, signed}
+use Rattle.client_wire.specs.declared.message.ClientMessage.{ClientMessage}
+use Rattle.client_wire.specs.declared.message.ClientMessage.TheVariants as messages
+use Rattle.client_wire.specs.declared.fault.WireFault.{WireFault}
+use Rattle.client_wire.specs.declared.fault.WireFault.TheVariants as faults
+
+-- a format that is valid, or the first test that it fails
+abbrev pub judged : Result Format FormatFault → List ℕ → Reading ClientMessage WireFault
+judged (Ok f) rest = Got (messages.SetPixelFormat f) rest
+judged (Err e) rest = Bad (faults.BadFormat e)
+
+-- SetPixelFormat, behind its type 0: three bytes of padding, and the 16 bytes of a format (sections
+-- 7.5.1 and 7.4)
+unfoldable pub set_pixel_format_at : List ℕ → Reading ClientMessage WireFault
+set_pixel_format_at bytes = field 19 bytes >>= λ f rest. judged (format_at (drop 3 f)) rest
+
+-- signed numbers of four bytes each
+abbrev pub numbers_of : List ℕ → List ℤ
+numbers_of (a ∷ b ∷ c ∷ d ∷ rest) = signed (u32_at (a ∷ b ∷ c ∷ d ∷ []) 0) ∷ numbers_of rest
+numbers_of _ = []
+
+-- the numbers of so many encodings
+unfoldable pub encodings_at : ℕ → List ℕ → Reading ClientMessage WireFault
+encodings_at count bytes = field (4 * count) bytes >>= λ f rest. Got (messages.SetEncodings (numbers_of f)) rest
+
+-- SetEncodings, behind its type 2: a byte of padding, the number of encodings, and the number of each
+-- (section 7.5.2)
+unfoldable pub set_encodings_at : List ℕ → Reading ClientMessage WireFault
+set_encodings_at bytes = field 3 bytes >>= λ f rest. encodings_at (u16_at f 1) rest
+
+-- FramebufferUpdateRequest, behind its type 3: the incremental flag, which is true when it isn't 0, and
+-- x, y, width and height (section 7.5.3)
+unfoldable pub request_at : List ℕ → Reading ClientMessage WireFault
+request_at bytes = field 9 bytes >>= λ f rest.
+    Got (messages.Request (is_flag (slice_index f 0)) (u16_at f 1) (u16_at f 3) (u16_at f 5) (u16_at f 7)) rest
+
+-- an input message, of which so many bytes are left; whichever they are, the type alone is kept
+unfoldable pub input_at : ℕ → ℕ → List ℕ → Reading ClientMessage WireFault
+input_at kind left bytes = field left bytes >>= λ f rest. Got (messages.Input kind) rest
+
+-- ClientCutText, behind its type 6: three bytes of padding, the text's length, and the text (section
+-- 7.5.6)
+unfoldable pub cut_text_at : List ℕ → Reading ClientMessage WireFault
+cut_text_at bytes = field 7 bytes >>= λ f rest. input_at 6 (u32_at f 3) rest
+
+-- What follows the type of a message. KeyEvent, type 4, has seven more bytes: the down-flag, two bytes of
+-- padding and the key (section 7.5.4). PointerEvent, type 5, has five: the button-mask, x and y (section
+-- 7.5.5).
+unfoldable pub body_at : ℕ → List ℕ → Reading ClientMessage WireFault
+body_at kind bytes =
+    if nat_eq kind 0 then set_pixel_format_at bytes
+    else (if nat_eq kind 2 then set_encodings_at bytes
+    else (if nat_eq kind 3 then request_at bytes
+    else (if nat_eq kind 4 then input_at 4 7 bytes
+    else (if nat_eq kind 5 then input_at 5 5 bytes
+    else (if nat_eq kind 6 then cut_text_at bytes
+    else Bad faults.UnknownType)))))
+
+-- the message that bytes begin with, by its type
+unfoldable pub message_at : List ℕ → Reading ClientMessage WireFault
+message_at bytes = field 1 bytes >>= λ kind rest. body_at (slice_index kind 0) rest

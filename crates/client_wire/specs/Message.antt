@@ -1,0 +1,71 @@
+-- What a viewer's message is (RFC 6143, section 7.5): a relation between its bytes and the message.
+use Rattle.std.specs.Prelude.{◌≡◌, ℕ, ℤ, ◌+◌, ◌*◌, ◌<◌, ◌⊎◌, Bool, List, [], ◌∷◌, ◌++◌, length, slice_index}
+use Rattle.pixel_format.specs.Format.{Format, IsValid}
+use Rattle.pixel_format.specs.Written.{format_of, is_flag}
+use Rattle.client_wire.specs.Number.{u16_at, u32_at, signed}
+use Rattle.client_wire.specs.declared.message.ClientMessage.{ClientMessage}
+use Rattle.client_wire.specs.declared.message.ClientMessage.TheVariants as messages
+
+-- SetPixelFormat: type 0, three bytes of padding, and the 16 bytes of a true-color format that is valid
+-- (sections 7.5.1 and 7.4)
+pub record IsSetPixelFormat (bytes : List ℕ) (f : Format) : Type 0 where
+  pub padding : List ℕ
+  pub format : List ℕ
+  pub bytes_are : bytes ≡ 0 ∷ (padding ++ format)
+  pub padding_length : length padding ≡ 3
+  pub format_length : length format ≡ 16
+  pub is : f ≡ format_of format
+  pub true_color : 0 < slice_index format 3
+  pub valid : IsValid f
+
+-- signed numbers one behind the other, of four bytes each
+abbrev pub AreNumbers : List ℤ → List ℕ → Type 0
+AreNumbers [] bytes = bytes ≡ []
+AreNumbers (n ∷ ns) bytes = (four : List ℕ) × (rest : List ℕ) × (bytes ≡ four ++ rest) × (length four ≡ 4)
+    × (n ≡ signed (u32_at four 0)) × AreNumbers ns rest
+
+-- SetEncodings: type 2, a byte of padding, the number of encodings, and the number of each (section
+-- 7.5.2)
+pub record IsSetEncodings (bytes : List ℕ) (ns : List ℤ) : Type 0 where
+  pub padding : ℕ
+  pub high : ℕ
+  pub low : ℕ
+  pub list : List ℕ
+  pub bytes_are : bytes ≡ 2 ∷ padding ∷ high ∷ low ∷ list
+  pub count_is : length ns ≡ 256 * high + low
+  pub list_is : AreNumbers ns list
+
+-- FramebufferUpdateRequest: type 3, the incremental flag, x, y, width and height (section 7.5.3)
+pub record IsRequest (bytes : List ℕ) (incremental : Bool) (x y w h : ℕ) : Type 0 where
+  pub flag : ℕ
+  pub area : List ℕ
+  pub bytes_are : bytes ≡ 3 ∷ flag ∷ area
+  pub area_length : length area ≡ 8
+  pub incremental_is : incremental ≡ is_flag flag
+  pub x_is : x ≡ u16_at area 0
+  pub y_is : y ≡ u16_at area 2
+  pub w_is : w ≡ u16_at area 4
+  pub h_is : h ≡ u16_at area 6
+
+-- KeyEvent: type 4, the down-flag, two bytes of padding, and four of the key (section 7.5.4)
+abbrev pub IsKeyEvent : List ℕ → Type 0
+IsKeyEvent bytes = (rest : List ℕ) × (bytes ≡ 4 ∷ rest) × (length rest ≡ 7)
+
+-- PointerEvent: type 5, the button-mask, x and y (section 7.5.5)
+abbrev pub IsPointerEvent : List ℕ → Type 0
+IsPointerEvent bytes = (rest : List ℕ) × (bytes ≡ 5 ∷ rest) × (length rest ≡ 5)
+
+-- ClientCutText: type 6, three bytes of padding, the text's length, and the text (section 7.5.6)
+abbrev pub IsCutText : List ℕ → Type 0
+IsCutText bytes = (head : List ℕ) × (text : List ℕ) × (bytes ≡ 6 ∷ (head ++ text)) × (length head ≡ 7) × (length text ≡ u32_at head 3)
+
+-- an input message of this type
+abbrev pub IsInput : List ℕ → ℕ → Type 0
+IsInput bytes kind =
+    ((kind ≡ 4) × IsKeyEvent bytes) ⊎ (((kind ≡ 5) × IsPointerEvent bytes) ⊎ ((kind ≡ 6) × IsCutText bytes))
+
+abbrev pub IsMessage : List ℕ → ClientMessage → Type 0
+IsMessage bytes (messages.SetPixelFormat f) = IsSetPixelFormat bytes f
+IsMessage bytes (messages.SetEncodings ns) = IsSetEncodings bytes ns
+IsMessage bytes (messages.Request incremental x y w h) = IsRequest bytes incremental x y w h
+IsMessage bytes (messages.Input kind) = IsInput bytes kind

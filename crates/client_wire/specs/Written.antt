@@ -1,0 +1,43 @@
+-- A viewer's messages as they are written. Padding is 0.
+use Rattle.std.specs.List.{flat_map}
+use Rattle.std.specs.Prelude.{ℕ, ℤ, ◌/◌, ◌%◌, List, [], ◌∷◌, ◌++◌, length, Bool}
+use Rattle.pixel_format.specs.Format.{Format}
+use Rattle.pixel_format.specs.Written.{format_bytes, flag}
+use Rattle.client_wire.specs.declared.message.Area.{Area}
+use Rattle.client_wire.specs.Number.{u32_bytes, unsigned}
+
+-- SetPixelFormat: type 0, three bytes of padding, and the format (RFC 6143, section 7.5.1)
+abbrev pub set_pixel_format_bytes : Format → List ℕ
+set_pixel_format_bytes f = 0 ∷ 0 ∷ 0 ∷ 0 ∷ format_bytes f
+
+-- SetEncodings: type 2, a byte of padding, the number of encodings, and each encoding's number (section
+-- 7.5.2)
+abbrev pub encodings_head : ℕ → List ℕ
+encodings_head n = 2 ∷ 0 ∷ n / 256 ∷ n % 256 ∷ []
+
+abbrev pub number_bytes : ℤ → List ℕ
+number_bytes n = u32_bytes (unsigned n)
+
+abbrev pub set_encodings_bytes : List ℤ → List ℕ
+set_encodings_bytes numbers = encodings_head (length numbers) ++ flat_map number_bytes numbers
+
+-- FramebufferUpdateRequest: type 3, the flag of an incremental request, and the area: x, y, width, height
+-- (section 7.5.3)
+abbrev pub request_bytes : Bool → Area → List ℕ
+request_bytes incremental a = 3 ∷ flag incremental
+    ∷ a.x / 256 ∷ a.x % 256 ∷ a.y / 256 ∷ a.y % 256 ∷ a.w / 256 ∷ a.w % 256 ∷ a.h / 256 ∷ a.h % 256 ∷ []
+
+-- KeyEvent: type 4, the down-flag, two bytes of padding, and the key (section 7.5.4)
+abbrev pub key_event_bytes : Bool → ℕ → List ℕ
+key_event_bytes down key = 4 ∷ flag down ∷ 0 ∷ 0 ∷ u32_bytes key
+
+-- PointerEvent: type 5, the button-mask, x and y (section 7.5.5)
+abbrev pub pointer_event_bytes : ℕ → ℕ → ℕ → List ℕ
+pointer_event_bytes mask x y = 5 ∷ mask ∷ x / 256 ∷ x % 256 ∷ y / 256 ∷ y % 256 ∷ []
+
+-- ClientCutText: type 6, three bytes of padding, the text's length, and the text (section 7.5.6)
+abbrev pub cut_text_head : ℕ → List ℕ
+cut_text_head n = 6 ∷ 0 ∷ 0 ∷ 0 ∷ u32_bytes n
+
+abbrev pub cut_text_bytes : List ℕ → List ℕ
+cut_text_bytes text = cut_text_head (length text) ++ text

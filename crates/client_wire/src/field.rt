@@ -1,0 +1,56 @@
+//! What the fields of a viewer's messages say.
+
+ghost use Rattle.std.specs.Prelude.{◌≡◌, ℕ, List, length, drop, slice_index, IfOk, MatchResult};
+ghost use Rattle.pixel_format.specs.Reading.{Got, Bad};
+ghost use Rattle.pixel_format.specs.Written.{format_at, is_flag};
+ghost use Rattle.client_wire.specs.Number.{u16_at};
+ghost use Rattle.client_wire.specs.Grammar.{judged, numbers_of};
+
+use crate::fault::WireFault;
+use crate::message::{ClientMessage, Encodings};
+use pixel_format::PixelFormat;
+use std::alloc::{AllocError, Global};
+
+/// The message of the field behind the type of a SetPixelFormat (RFC 6143, section 7.5.1).
+pub fn pixel_format_in(field: &[u8]) -> Result<ClientMessage, WireFault>
+    requires { length field.now ≡ 19 }
+    ensures { MatchResult result
+        (λ m. (more : List ℕ) → judged (format_at (drop 3 field.now)) more ≡ Got m more)
+        (λ f. (more : List ℕ) → judged (format_at (drop 3 field.now)) more ≡ Bad f) }
+{
+    let Some(bytes) = field[3..].first_chunk::<16>() else {
+        unreachable!();
+    };
+    match PixelFormat::read(bytes) {
+        Ok(format) => Ok(ClientMessage::SetPixelFormat(format)),
+        Err(fault) => Err(WireFault::BadFormat(fault)),
+    }
+}
+
+/// The numbers of the encodings of a SetEncodings (RFC 6143, section 7.5.2).
+pub fn encodings_in(alloc: Global, field: &[u8]) -> Result<Encodings, AllocError>
+    ensures { IfOk result (λ e. e ≡ numbers_of field.now) }
+{
+    let mut numbers = Vec::new(alloc);
+    let mut rest = field;
+    while let [a, b, c, d, behind @ ..] = rest {
+        numbers.push(u32::from_be_bytes([*a, *b, *c, *d]).cast_signed())?;
+        rest = behind;
+    }
+    Ok(Encodings::from_vec(numbers))
+}
+
+/// The message of the field behind the type of a FramebufferUpdateRequest (RFC 6143, section 7.5.3).
+pub fn request_in(field: &[u8]) -> ClientMessage
+    requires { length field.now ≡ 9 }
+    ensures { result ≡ ClientMessage.Request (is_flag (slice_index field.now 0))
+        (u16_at field.now 1) (u16_at field.now 3) (u16_at field.now 5) (u16_at field.now 7) }
+{
+    ClientMessage::Request {
+        incremental: field[0] != 0,
+        x: u16::from_be_bytes([field[1], field[2]]),
+        y: u16::from_be_bytes([field[3], field[4]]),
+        w: u16::from_be_bytes([field[5], field[6]]),
+        h: u16::from_be_bytes([field[7], field[8]]),
+    }
+}

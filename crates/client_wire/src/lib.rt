@@ -1,0 +1,29 @@
+//! Messages of a viewer in the remote framebuffer protocol (RFC 6143, section 7.5).
+#![tactic(auto)]
+
+mod fault;
+mod field;
+mod laws;
+mod message;
+mod plain;
+mod progress;
+mod reader;
+mod step;
+mod write;
+
+pub use fault::WireFault;
+pub use laws::{
+    a_rest_begins_none, grammar_reads_messages, no_message_begins_another, one_reading_of_a_stream,
+    one_reading_of_bytes,
+};
+pub use message::{Area, ClientMessage, Encodings};
+pub use plain::read_client_message;
+pub use reader::ClientReader;
+pub use write::{
+    write_client_cut_text, write_key_event, write_pointer_event, write_request,
+    write_set_encodings, write_set_pixel_format, written_encodings_are_read,
+    written_format_is_read, written_input_is_read, written_request_is_read,
+};
+
+#[cfg(test)]
+mod tests;

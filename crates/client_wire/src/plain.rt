@@ -1,0 +1,113 @@
+//! The grammar of a viewer's messages as a plain function, which has all the bytes before it.
+
+ghost use Rattle.std.specs.Prelude.{◌≡◌, ◌+◌, length, IfSome, MatchOption};
+ghost use Rattle.pixel_format.specs.Reading.{Got, More};
+ghost use Rattle.pixel_format.specs.Reading as reading;
+ghost use Rattle.client_wire.specs.declared.fault.WireFault.{WireFault};
+ghost use Rattle.client_wire.specs.Grammar.{set_pixel_format_at, set_encodings_at, request_at, input_at, cut_text_at, message_at};
+ghost use Rattle.client_wire.specs.Plain.{Says};
+
+use crate::fault::WireFault;
+use crate::field::{encodings_in, pixel_format_in, request_in};
+use crate::message::ClientMessage;
+use std::alloc::Global;
+
+// The first bytes, where there are so many, and the bytes behind them.
+fn field(count: usize, bytes: &[u8]) -> Option<(&[u8], &[u8])>
+    ensures reads { MatchOption result (reading.field {E = WireFault} count bytes.now ≡ More)
+        (λ x. reading.field {E = WireFault} count bytes.now ≡ Got x.0.now x.1.now) }
+    ensures lengths { IfSome result (λ x. (length x.0.now ≡ count)
+        × (count + length x.1.now ≡ length bytes.now)) }
+{
+    if bytes.len() < count {
+        return None;
+    }
+    Some(bytes.split_at(count))
+}
+
+// What the bytes behind the type of a SetPixelFormat begin with.
+fn set_pixel_format(bytes: &[u8]) -> Result<Option<(ClientMessage, &[u8])>, WireFault>
+    ensures { Says (λ x. x.0) (λ x. x.1.now) result (set_pixel_format_at bytes.now) }
+{
+    let Some((format, rest)) = field(19, bytes) else {
+        return Ok(None);
+    };
+    let message = pixel_format_in(format)?;
+    Ok(Some((message, rest)))
+}
+
+// The same of a SetEncodings.
+fn set_encodings(alloc: Global, bytes: &[u8]) -> Result<Option<(ClientMessage, &[u8])>, WireFault>
+    ensures { Says (λ x. x.0) (λ x. x.1.now) result (set_encodings_at bytes.now) }
+{
+    let Some((head, body)) = field(3, bytes) else {
+        return Ok(None);
+    };
+    let count = u16::from_be_bytes([head[1], head[2]]);
+    let Some((list, rest)) = field(4 * count as usize, body) else {
+        return Ok(None);
+    };
+    let encodings = encodings_in(alloc, list)?;
+    Ok(Some((ClientMessage::SetEncodings(encodings), rest)))
+}
+
+// The same of a FramebufferUpdateRequest.
+fn request(bytes: &[u8]) -> Result<Option<(ClientMessage, &[u8])>, WireFault>
+    ensures { Says (λ x. x.0) (λ x. x.1.now) result (request_at bytes.now) }
+{
+    let Some((numbers, rest)) = field(9, bytes) else {
+        return Ok(None);
+    };
+    Ok(Some((request_in(numbers), rest)))
+}
+
+// The same of an input message that has so many bytes left.
+fn input(kind: u8, left: usize, bytes: &[u8]) -> Result<Option<(ClientMessage, &[u8])>, WireFault>
+    ensures { Says (λ x. x.0) (λ x. x.1.now) result (input_at kind left bytes.now) }
+{
+    let Some((_, rest)) = field(left, bytes) else {
+        return Ok(None);
+    };
+    Ok(Some((ClientMessage::Input(kind), rest)))
+}
+
+// The same of a ClientCutText.
+fn cut_text(bytes: &[u8]) -> Result<Option<(ClientMessage, &[u8])>, WireFault>
+    ensures { Says (λ x. x.0) (λ x. x.1.now) result (cut_text_at bytes.now) }
+{
+    let Some((head, text)) = field(7, bytes) else {
+        return Ok(None);
+    };
+    let length = u32::from_be_bytes([head[3], head[4], head[5], head[6]]);
+    input(6, length as usize, text)
+}
+
+/// The message that the bytes begin with, and the bytes behind it; `None` where they are too few for
+/// it, and the fault that they begin with. It reads the bytes from their front, while a
+/// `ClientReader` takes them in pieces.
+pub fn read_client_message(
+    alloc: Global,
+    bytes: &[u8],
+) -> Result<Option<(ClientMessage, &[u8])>, WireFault>
+    ensures { Says (λ x. x.0) (λ x. x.1.now) result (message_at bytes.now) }
+{
+    let Some((first, body)) = field(1, bytes) else {
+        return Ok(None);
+    };
+    let kind = first[0];
+    if kind == 0 {
+        set_pixel_format(body)
+    } else if kind == 2 {
+        set_encodings(alloc, body)
+    } else if kind == 3 {
+        request(body)
+    } else if kind == 4 {
+        input(4, 7, body)
+    } else if kind == 5 {
+        input(5, 5, body)
+    } else if kind == 6 {
+        cut_text(body)
+    } else {
+        Err(WireFault::UnknownType)
+    }
+}

@@ -1,0 +1,86 @@
+//! The reader of a viewer's stream.
+
+ghost use Rattle.std.specs.Prelude.{◌≡◌, ℕ, List, [], ◌++◌, Option, Some, None, Ok, Err, OnOk, IfErr, OnErr};
+ghost use Rattle.client_wire.specs.declared.fault.WireFault.{WireFault};
+ghost use Rattle.client_wire.specs.Grammar.{message_at};
+ghost use Rattle.client_wire.specs.Stream.{Goes, Stops, FaultOf, StandsFor, itself};
+
+use crate::fault::WireFault;
+use crate::message::ClientMessage;
+use crate::progress::Progress;
+use std::alloc::Global;
+use std::marker::Model;
+
+/// Reads a viewer's messages from its stream, which comes in pieces of any length (RFC 6143, section
+/// 7.5). Each byte is looked at once, and memory is taken for bytes that have come alone; the bytes of
+/// an input message are counted and not kept.
+#[derive(Drop)]
+pub struct ClientReader {
+    alloc: Global,
+    progress: Progress,
+    fault: Option<WireFault>,
+}
+
+impl Model for ClientReader {
+    ghost use Rattle.client_wire.specs.Reader.{Reader};
+    ghost use Rattle.client_wire.specs.Progress.{IsAt, passed_in};
+
+    ghost Value = { Reader };
+
+    ghost view = { λ r. record {
+      kept = r.progress.bytes.items;
+      passed = passed_in r.progress.position;
+      fault = r.fault;
+    } };
+
+    ghost invariant = { λ r. IsAt r.progress };
+}
+
+impl ClientReader {
+    /// A reader at the start of a stream.
+    pub fn new(alloc: Global) -> ClientReader
+        ensures { result ≡ record { kept = []; passed = 0; fault = None } }
+    {
+        ClientReader {
+            alloc,
+            progress: Progress::new(alloc),
+            fault: None,
+        }
+    }
+
+    /// Takes the next piece of the stream, and appends each message that is whole now. A fault is
+    /// answered at the last byte of the field that holds it, once the messages before it are
+    /// appended; from then on each call answers the same fault and does nothing else, also where
+    /// memory ran out.
+    pub fn feed(&mut self, piece: &[u8], out: &mut Vec<ClientMessage>) -> Result<(), WireFault>
+        // The messages that are whole are given, and the reader stands for the rest.
+        ensures goes { OnOk result ((rest : List ℕ) → StandsFor self.old.kept self.old.passed rest
+            → Goes message_at itself self.new.kept self.new.passed
+            out.old.items out.new.items (rest ++ piece.now)) }
+        // It does not wait at a fault.
+        ensures none { OnOk result ((rest : List ℕ) → (f : WireFault)
+            → StandsFor self.old.kept self.old.passed rest
+            → FaultOf message_at (rest ++ piece.now) f → ⊥) }
+        // A fault stands in the stream, and the messages before it are given.
+        ensures faults { IfErr result (λ f. self.old.fault ≡ None → (rest : List ℕ)
+            → StandsFor self.old.kept self.old.passed rest
+            → Stops message_at itself f out.old.items out.new.items (rest ++ piece.now)) }
+        ensures going { OnOk result (self.new.fault ≡ None) }
+        ensures stopped { IfErr result (λ f. self.new.fault ≡ Some f) }
+        ensures for_good { (f : WireFault) → self.old.fault ≡ Some f
+            → (result ≡ Err f) × (self.new ≡ self.old) × (out.new.items ≡ out.old.items) }
+        ensures emptied { OnErr result (self.old.fault ≡ None
+            → (self.new.kept ≡ []) × (self.new.passed ≡ 0)) }
+    {
+        if let Some(fault) = self.fault {
+            return Err(fault);
+        }
+        let read = self.progress.read(self.alloc, piece, out);
+        if let Err(fault) = read {
+            self.fault = Some(fault);
+            self.progress = Progress::new(self.alloc);
+            return Err(fault);
+        }
+        Ok(())
+    }
+}

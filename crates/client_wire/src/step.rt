@@ -1,0 +1,87 @@
+//! What follows from a whole field of a message.
+
+ghost use Rattle.std.specs.Prelude.{◌≡◌, ℕ, ◌+◌, List, ◌++◌, length, slice_index, IfOk, IfErr};
+ghost use Rattle.pixel_format.specs.Reading.{Bad};
+ghost use Rattle.client_wire.specs.Fault.{UnlessMemory};
+ghost use Rattle.client_wire.specs.Grammar.{body_at};
+ghost use Rattle.client_wire.specs.Progress.{wants_of, start_of, resume, position_at, follow, BeginsAt, StepBeginsAt};
+
+use crate::fault::WireFault;
+use crate::field::{encodings_in, pixel_format_in, request_in};
+use crate::message::{ClientMessage, Encodings};
+use crate::progress::{Over, Position, Stage, Step};
+use std::alloc::Global;
+
+// Behind the type of a message.
+fn behind_type(kind: u8) -> Result<Position, WireFault>
+    ensures goes { IfOk result (λ p. (more : List ℕ) → body_at kind more ≡ position_at p more) }
+    ensures begins { IfOk result (BeginsAt 1) }
+    ensures faults { IfErr result (λ f. (more : List ℕ) → body_at kind more ≡ Bad f) }
+{
+    if kind == 0 {
+        Ok(Position::Field(Stage::PixelFormat))
+    } else if kind == 2 {
+        Ok(Position::Field(Stage::EncodingsHead))
+    } else if kind == 3 {
+        Ok(Position::Field(Stage::Request))
+    } else if kind == 4 {
+        Ok(Position::ReadOver(Over::new(4, 7)))
+    } else if kind == 5 {
+        Ok(Position::ReadOver(Over::new(5, 5)))
+    } else if kind == 6 {
+        Ok(Position::Field(Stage::TextHead))
+    } else {
+        Err(WireFault::UnknownType)
+    }
+}
+
+// Behind the head of a SetEncodings.
+fn behind_encodings_head(alloc: Global, field: &[u8]) -> Step
+    requires { length field.now ≡ 3 }
+    ensures goes { (more : List ℕ)
+        → resume Stage.EncodingsHead (field.now ++ more) ≡ follow result more }
+    ensures begins { StepBeginsAt 4 result }
+{
+    let count = u16::from_be_bytes([field[1], field[2]]);
+    if count == 0 {
+        let none = Encodings::from_vec(Vec::new(alloc));
+        return Step::Whole(ClientMessage::SetEncodings(none));
+    }
+    Step::Goes(Position::Field(Stage::Encodings { count }))
+}
+
+// Behind the head of a ClientCutText.
+fn behind_text_head(field: &[u8]) -> Step
+    requires { length field.now ≡ 7 }
+    ensures goes { (more : List ℕ)
+        → resume Stage.TextHead (field.now ++ more) ≡ follow result more }
+    ensures begins { StepBeginsAt 8 result }
+{
+    let length = u32::from_be_bytes([field[3], field[4], field[5], field[6]]);
+    if length == 0 {
+        return Step::Whole(ClientMessage::Input(6));
+    }
+    Step::Goes(Position::ReadOver(Over::new(6, length)))
+}
+
+/// What follows from the whole field of a stage.
+pub fn step(alloc: Global, stage: Stage, field: &[u8]) -> Result<Step, WireFault>
+    requires { length field.now ≡ wants_of stage }
+    ensures goes { IfOk result (λ s. (more : List ℕ)
+        → resume stage (field.now ++ more) ≡ follow s more) }
+    ensures begins { IfOk result (StepBeginsAt (start_of stage + wants_of stage)) }
+    ensures faults { IfErr result (λ f. UnlessMemory f
+        ((more : List ℕ) → resume stage (field.now ++ more) ≡ Bad f)) }
+{
+    match stage {
+        Stage::Type => Ok(Step::Goes(behind_type(field[0])?)),
+        Stage::PixelFormat => Ok(Step::Whole(pixel_format_in(field)?)),
+        Stage::EncodingsHead => Ok(behind_encodings_head(alloc, field)),
+        Stage::Encodings { .. } => {
+            let encodings = encodings_in(alloc, field)?;
+            Ok(Step::Whole(ClientMessage::SetEncodings(encodings)))
+        }
+        Stage::Request => Ok(Step::Whole(request_in(field))),
+        Stage::TextHead => Ok(behind_text_head(field)),
+    }
+}
