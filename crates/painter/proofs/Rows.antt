@@ -5,7 +5,7 @@ use Rattle.std.proofs.lemmas.List.{drop-drop, drop-take, take-take, length-take,
 use Rattle.std.proofs.Math.Nat.{mul-le-mul_left}
 use borrow.Rule.Slice.PartMut.{put_mid}
 use Rattle.pixel_format.specs.Pixel.{host_color}
-use Rattle.rfb_wire.specs.declared.message.Area.{Area}
+use Rattle.client_wire.specs.declared.message.Area.{Area}
 use Rattle.painter.specs.declared.pixel.Pixel.{Pixel}
 use Rattle.painter.specs.Picture.{is_in, raw_picture, pixel_at}
 use Rattle.painter.specs.Pixels.{black_pixel, color_of, pixel_color_at, color_in}

@@ -2,7 +2,7 @@
 use Rattle.std.specs.Prelude.{ℕ, ◌+◌, ◌-◌, ◌*◌, ◌&&◌, nat_le, nat_lt, Bool, List, [], ◌∷◌, take, drop, slice_range, if◌then◌else◌}
 use Rattle.pixel_format.specs.declared.Color.{Color}
 use Rattle.pixel_format.specs.Pixel.{host_color}
-use Rattle.rfb_wire.specs.declared.message.Area.{Area}
+use Rattle.client_wire.specs.declared.message.Area.{Area}
 use Rattle.rfb_wire.specs.declared.message.Rectangle.{Rectangle}
 use Rattle.rfb_wire.specs.declared.message.Encoding.{Encoding}
 use Rattle.rfb_wire.specs.declared.message.Encoding.TheVariants as encodings

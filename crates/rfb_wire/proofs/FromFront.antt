@@ -2,12 +2,13 @@
 use Rattle.std.proofs.Common.{◌≡◌, ℕ, suc, ◌+◌, ◌*◌, true, false, List, [], ◌∷◌, ◌++◌, nat_eq, refl, ◌∙◌, append_assoc}
 use Rattle.std.proofs.lemmas.List.{append-nil}
 use Rattle.pixel_format.specs.Reading.{Reading, Got, More, Bad, ◌>>=◌, field, guard}
-use Rattle.rfb_wire.specs.declared.message.Area.{Area}
+use Rattle.client_wire.specs.declared.message.Area.{Area}
 use Rattle.rfb_wire.specs.declared.message.Rectangle.{Rectangle}
 use Rattle.rfb_wire.specs.declared.message.Encoding.TheVariants as encodings
-use Rattle.rfb_wire.specs.declared.fault.WireFault.{WireFault}
-use Rattle.rfb_wire.specs.declared.fault.WireFault.TheVariants as faults
-use Rattle.rfb_wire.specs.Grammar.{signed, area_of, encoding_number, is_inside, raw_at, data_at, rectangle_at, rectangles_at, update_at, Recorded, u16_at}
+use Rattle.client_wire.specs.declared.fault.WireFault.{WireFault}
+use Rattle.client_wire.specs.declared.fault.WireFault.TheVariants as faults
+use Rattle.client_wire.specs.Number.{signed, u16_at}
+use Rattle.rfb_wire.specs.Grammar.{area_of, encoding_number, is_inside, raw_at, data_at, rectangle_at, rectangles_at, update_at, Recorded}
 use Rattle.rfb_wire.specs.Plain.{Says}
 use Rattle.rfb_wire.proofs.Turns.{unless_memory_map}
 use Rattle.std.proofs.Common.{Option, Some, None, Result, Ok, Err}

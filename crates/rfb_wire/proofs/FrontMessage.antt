@@ -6,8 +6,8 @@ use Rattle.std.proofs.lemmas.Bool.{ltb-true, ltb-false}
 use Rattle.pixel_format.specs.Reading.{Got, More, Bad, field, within}
 use Rattle.pixel_format.proofs.Readings.{true_or_false, within-short, within-long}
 use Rattle.rfb_wire.specs.declared.message.Rectangle.{Rectangle}
-use Rattle.rfb_wire.specs.declared.fault.WireFault.{WireFault}
-use Rattle.rfb_wire.specs.declared.fault.WireFault.TheVariants as faults
+use Rattle.client_wire.specs.declared.fault.WireFault.{WireFault}
+use Rattle.client_wire.specs.declared.fault.WireFault.TheVariants as faults
 use Rattle.rfb_wire.specs.Grammar.{update_at, message_at, other_at, Message, Recorded, message_limit}
 use Rattle.rfb_wire.specs.Host.{host_of, IsRecorded}
 use Rattle.rfb_wire.proofs.Messages.{update_read, message_is_read}

@@ -3,8 +3,9 @@ use Rattle.std.proofs.Common.{◌≡◌, ℕ, ◌+◌, ◌*◌, ◌-◌, ◌≤�
 use Rattle.std.specs.Prelude.{nat_lt, nat_le}
 use Rattle.std.proofs.lemmas.Bool.{lt-ltb, le-ltb, leb-true, leb-false}
 use Rattle.pixel_format.specs.Reading.{Got, More, field}
-use Rattle.rfb_wire.specs.declared.fault.WireFault.{WireFault}
-use Rattle.rfb_wire.specs.Grammar.{message_at, other_at, Recorded, ReadOver, color_map_at, text_at, text_data_at, read_over, text_limit, u16_at, u32_at}
+use Rattle.client_wire.specs.declared.fault.WireFault.{WireFault}
+use Rattle.client_wire.specs.Number.{u16_at, u32_at}
+use Rattle.rfb_wire.specs.Grammar.{message_at, other_at, Recorded, ReadOver, color_map_at, text_at, text_data_at, read_over, text_limit}
 use Rattle.rfb_wire.specs.Plain.{kind_of, Says}
 use Rattle.std.specs.Prelude.{MatchOption, if◌then◌else◌}
 use Rattle.std.proofs.lemmas.List.{drop_at, take_at}

@@ -4,12 +4,13 @@ use Rattle.std.proofs.Common.{inl, inr}
 use Rattle.std.specs.Prelude.{nat_lt, [], if◌then◌else◌}
 use Rattle.pixel_format.specs.Reading.{Reading, Got, ◌>>=◌, field, guard, within, Extends, IsLocal}
 use Rattle.pixel_format.proofs.Readings.{field_local, bind_local, guard_local, within_local, true_or_false}
-use Rattle.rfb_wire.specs.declared.message.Area.{Area}
+use Rattle.client_wire.specs.declared.message.Area.{Area}
 use Rattle.rfb_wire.specs.declared.message.Rectangle.{Rectangle}
 use Rattle.rfb_wire.specs.declared.message.Encoding.TheVariants as encodings
-use Rattle.rfb_wire.specs.declared.fault.WireFault.{WireFault}
-use Rattle.rfb_wire.specs.declared.fault.WireFault.TheVariants as faults
-use Rattle.rfb_wire.specs.Grammar.{area_of, encoding_number, is_inside, raw_at, data_at, rectangle_at, rectangles_at, update_at, message_at, other_at, color_map_at, text_at, text_data_at, read_over, text_limit, Message, Recorded, ReadOver, u16_at, u32_at}
+use Rattle.client_wire.specs.declared.fault.WireFault.{WireFault}
+use Rattle.client_wire.specs.declared.fault.WireFault.TheVariants as faults
+use Rattle.client_wire.specs.Number.{u16_at, u32_at}
+use Rattle.rfb_wire.specs.Grammar.{area_of, encoding_number, is_inside, raw_at, data_at, rectangle_at, rectangles_at, update_at, message_at, other_at, color_map_at, text_at, text_data_at, read_over, text_limit, Message, Recorded, ReadOver}
 
 raw_local : (area : Area) (at : ℕ) → IsLocal (raw_at area at)
 unfolding raw_at

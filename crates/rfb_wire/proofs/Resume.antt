@@ -3,13 +3,14 @@ use Rattle.std.proofs.Common.{◌≡◌, ℕ, ◌+◌, ◌*◌, true, false, Lis
 use Rattle.std.specs.Prelude.{nat_lt, if◌then◌else◌}
 use Rattle.pixel_format.specs.Reading.{Reading, Got, More, Bad, ◌>>=◌, field, guard}
 use Rattle.pixel_format.proofs.Readings.{field-whole}
-use Rattle.rfb_wire.specs.declared.message.Area.{Area}
+use Rattle.client_wire.specs.declared.message.Area.{Area}
 use Rattle.rfb_wire.specs.declared.message.Rectangle.{Rectangle}
 use Rattle.rfb_wire.specs.declared.message.Encoding.TheVariants as encodings
-use Rattle.rfb_wire.specs.declared.fault.WireFault.{WireFault}
-use Rattle.rfb_wire.specs.declared.fault.WireFault.TheVariants as faults
+use Rattle.client_wire.specs.declared.fault.WireFault.{WireFault}
+use Rattle.client_wire.specs.declared.fault.WireFault.TheVariants as faults
 use Rattle.rfb_wire.specs.declared.progress.Stage.TheVariants as stages
-use Rattle.rfb_wire.specs.Grammar.{signed, area_of, encoding_number, is_inside, raw_at, data_at, rectangle_at, rectangles_at, update_at, Message, Recorded, ReadOver, other_at, color_map_at, text_at, text_data_at, read_over, text_limit, u16_at, u32_at}
+use Rattle.client_wire.specs.Number.{signed, u16_at, u32_at}
+use Rattle.rfb_wire.specs.Grammar.{area_of, encoding_number, is_inside, raw_at, data_at, rectangle_at, rectangles_at, update_at, Message, Recorded, ReadOver, other_at, color_map_at, text_at, text_data_at, read_over, text_limit}
 use Rattle.rfb_wire.specs.Progress.{unlimited_at, behind, others_at, resume}
 
 pub behind_nil : (r : Reading Message WireFault) → behind [] r ≡ r

@@ -3,10 +3,12 @@ use Rattle.std.proofs.Common.{◌≡◌, ℕ, List, [], ◌∷◌, ◌++◌, len
 use Rattle.std.specs.List.{flat_map, AllByRecursion}
 use Rattle.std.proofs.lemmas.List.{append-nil, append_cancel_right}
 use Rattle.pixel_format.specs.Reading.{Got, More, Bad}
-use Rattle.rfb_wire.specs.declared.fault.WireFault.{WireFault}
+use Rattle.client_wire.specs.declared.fault.WireFault.{WireFault}
 use Rattle.rfb_wire.specs.Grammar.{message_at, Message, Recorded, ReadOver}
 use Rattle.rfb_wire.specs.Host.{Host}
-use Rattle.rfb_wire.specs.Stream.{IsFor, Part, Given, Passed, IsPart, bytes_of, recorded, IsParted, Reads, BeginsNone, FaultOf, StandsFor, Gives, Stops, UnlessMemory}
+use Rattle.client_wire.specs.Stream.{StandsFor}
+use Rattle.client_wire.specs.Fault.{UnlessMemory}
+use Rattle.rfb_wire.specs.Stream.{IsFor, Part, Given, Passed, IsPart, bytes_of, recorded, IsParted, Reads, BeginsNone, FaultOf, Gives, Stops}
 use Rattle.rfb_wire.proofs.Local.{message_local}
 
 pub flat_append : (a b : List Part) → flat_map bytes_of (a ++ b) ≡ flat_map bytes_of a ++ flat_map bytes_of b

@@ -6,8 +6,8 @@ use Rattle.rfb_wire.specs.Host.{host_of, IsRecorded}
 use Rattle.pixel_format.specs.Reading.{Reading, Got, More, Bad, ◌>>=◌, field, within}
 use Rattle.pixel_format.proofs.Readings.{field-whole, field-short, within-short, within-long}
 use Rattle.rfb_wire.specs.declared.message.Rectangle.{Rectangle}
-use Rattle.rfb_wire.specs.declared.fault.WireFault.{WireFault}
-use Rattle.rfb_wire.specs.declared.fault.WireFault.TheVariants as faults
+use Rattle.client_wire.specs.declared.fault.WireFault.{WireFault}
+use Rattle.client_wire.specs.declared.fault.WireFault.TheVariants as faults
 use Rattle.rfb_wire.specs.declared.progress.Stage.{Stage}
 use Rattle.rfb_wire.specs.declared.progress.Stage.TheVariants as stages
 use Rattle.rfb_wire.specs.Grammar.{update_at, message_at, other_at, color_map_at, text_at, text_data_at, read_over, Message, Recorded, raw_at, rectangle_at, rectangles_at}
@@ -16,7 +16,7 @@ use Rattle.rfb_wire.specs.declared.progress.Progress.{Progress}
 use Rattle.rfb_wire.specs.declared.progress.Next.{Next}
 use Rattle.rfb_wire.specs.declared.progress.Next.TheVariants as nexts
 use Rattle.rfb_wire.specs.declared.progress.Step.{Step}
-use Rattle.rfb_wire.specs.Stream.{UnlessMemory}
+use Rattle.client_wire.specs.Fault.{UnlessMemory}
 use Rattle.std.specs.Option.{option_to_list}
 use Rattle.rfb_wire.proofs.Resume.{behind_nil, behind_behind, behind_over}
 use Rattle.rfb_wire.proofs.Local.{message_local}
@@ -162,6 +162,7 @@ unless_memory faults.UnknownType P p = p
 unless_memory faults.OutsideScreen P p = p
 unless_memory (faults.Encoding n) P p = p
 unless_memory faults.TooLong P p = p
+unless_memory (faults.BadFormat e) P p = p
 unless_memory faults.NoMemory P p = tt
 
 pub unless_memory_map : (f : WireFault) (P Q : Type 0) → (P → Q) → UnlessMemory f P → UnlessMemory f Q
@@ -169,6 +170,7 @@ unless_memory_map faults.UnknownType P Q m p = m p
 unless_memory_map faults.OutsideScreen P Q m p = m p
 unless_memory_map (faults.Encoding n) P Q m p = m p
 unless_memory_map faults.TooLong P Q m p = m p
+unless_memory_map (faults.BadFormat e) P Q m p = m p
 unless_memory_map faults.NoMemory P Q m p = tt
 
 -- where the message is as long as it may be, and the field isn't whole, it is an update

@@ -4,11 +4,11 @@ use Rattle.std.specs.List.{flat_map, AllByRecursion}
 use Rattle.std.proofs.lemmas.List.{append-nil}
 use Rattle.pixel_format.specs.Reading.{More}
 use Rattle.pixel_format.proofs.Readings.{field-short}
-use Rattle.rfb_wire.specs.declared.fault.WireFault.{WireFault}
+use Rattle.client_wire.specs.declared.fault.WireFault.{WireFault}
 use Rattle.rfb_wire.specs.Grammar.{message_at}
 use Rattle.rfb_wire.specs.Host.{Host}
 use Rattle.rfb_wire.specs.Stream.{IsFor, Part, Given, Passed, IsPart, bytes_of, recorded, Goes, Reads, FaultOf, Stops}
-use Rattle.rfb_wire.specs.declared.fault.WireFault.TheVariants as faults
+use Rattle.client_wire.specs.declared.fault.WireFault.TheVariants as faults
 use Rattle.rfb_wire.proofs.Streams.{reads_one, waits_begins_none, one_reading, empty_list, message_again, same_host, no_fault}
 
 -- no bytes are an unfinished message
@@ -111,4 +111,5 @@ memory_alone limit width height m bytes given faults.UnknownType is same stops =
 memory_alone limit width height m bytes given faults.OutsideScreen is same stops = absurd (faultless limit width height m bytes faults.OutsideScreen is same (record { messages = stops.gives.messages; rest = stops.rest; reads = stops.gives.reads; fault = stops.fault }))
 memory_alone limit width height m bytes given (faults.Encoding n) is same stops = absurd (faultless limit width height m bytes (faults.Encoding n) is same (record { messages = stops.gives.messages; rest = stops.rest; reads = stops.gives.reads; fault = stops.fault }))
 memory_alone limit width height m bytes given faults.TooLong is same stops = absurd (faultless limit width height m bytes faults.TooLong is same (record { messages = stops.gives.messages; rest = stops.rest; reads = stops.gives.reads; fault = stops.fault }))
+memory_alone limit width height m bytes given (faults.BadFormat e) is same stops = absurd (faultless limit width height m bytes (faults.BadFormat e) is same (record { messages = stops.gives.messages; rest = stops.rest; reads = stops.gives.reads; fault = stops.fault }))
 memory_alone limit width height m bytes given faults.NoMemory is same stops = refl

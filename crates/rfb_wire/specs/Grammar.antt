@@ -1,24 +1,14 @@
 -- The messages of a host (RFC 6143, sections 7.6 and 7.7), read from the front of a list of bytes.
 -- Each field is judged once it is whole, in the order of the fields: so the first fault is the one
 -- that is met.
-use Rattle.std.specs.Prelude.{ℕ, ℤ, pos, negsuc, ◌^◌, ◌-◌, nat_lt, zero, suc, ◌+◌, ◌*◌, List, [], ◌∷◌, slice_index, Bool, ◌&&◌, nat_le, nat_eq, if◌then◌else◌}
+use Rattle.std.specs.Prelude.{ℕ, nat_lt, zero, suc, ◌+◌, ◌*◌, List, [], ◌∷◌, slice_index, Bool, ◌&&◌, nat_le, nat_eq, if◌then◌else◌}
 use Rattle.pixel_format.specs.Reading.{Reading, Got, Bad, ◌>>=◌, field, guard, within}
-use Rattle.rfb_wire.specs.declared.message.Area.{Area}
+use Rattle.client_wire.specs.declared.message.Area.{Area}
 use Rattle.rfb_wire.specs.declared.message.Rectangle.{Rectangle}
 use Rattle.rfb_wire.specs.declared.message.Encoding.TheVariants as encodings
-use Rattle.rfb_wire.specs.declared.fault.WireFault.{WireFault}
-use Rattle.rfb_wire.specs.declared.fault.WireFault.TheVariants as faults
-
--- The numbers of a field, from its byte i on: the higher byte first (section 7).
-abbrev pub u16_at : List ℕ → ℕ → ℕ
-u16_at f i = 256 * slice_index f i + slice_index f (i + 1)
-
-abbrev pub u32_at : List ℕ → ℕ → ℕ
-u32_at f i = 65536 * u16_at f i + u16_at f (i + 2)
-
--- the signed number that four bytes are, in two's complement
-abbrev pub signed : ℕ → ℤ
-signed n = if nat_lt n (2 ^ 31) then pos n else negsuc (2 ^ 32 - suc n)
+use Rattle.client_wire.specs.Number.{u16_at, u32_at, signed}
+use Rattle.client_wire.specs.declared.fault.WireFault.{WireFault}
+use Rattle.client_wire.specs.declared.fault.WireFault.TheVariants as faults
 
 -- The header of a rectangle is 12 bytes: x, y, width, height, and the encoding of its pixels
 -- (section 7.6.1).

@@ -1,11 +1,12 @@
 -- What a recorded message of a host is (RFC 6143, sections 7.6 and 7.7): a relation between the size
 -- of a screen, the message's bytes, and where its rectangles stand in them.
 use Rattle.std.specs.Prelude.{◌≡◌, ℕ, ◌+◌, ◌*◌, ◌≤◌, List, [], ◌∷◌, ◌++◌, length, max, ◌⊎◌}
-use Rattle.rfb_wire.specs.declared.message.Area.{Area}
+use Rattle.client_wire.specs.declared.message.Area.{Area}
 use Rattle.rfb_wire.specs.declared.message.Rectangle.{Rectangle}
 use Rattle.rfb_wire.specs.declared.message.Encoding.{Encoding}
 use Rattle.rfb_wire.specs.declared.message.Encoding.TheVariants as encodings
-use Rattle.rfb_wire.specs.Grammar.{area_of, encoding_number, u32_at, text_limit}
+use Rattle.client_wire.specs.Number.{u32_at}
+use Rattle.rfb_wire.specs.Grammar.{area_of, encoding_number, text_limit}
 
 -- the number of an encoding (section 7.7)
 abbrev pub number_of : Encoding → ℕ

@@ -4,7 +4,7 @@ use Rattle.std.specs.Prelude.{◌≡◌, ℕ, suc, ◌+◌, ◌*◌, ◌<◌, �
 use Rattle.std.specs.Option.{option_to_list}
 use Rattle.pixel_format.specs.Reading.{Reading, Got, ◌>>=◌, field}
 use Rattle.rfb_wire.specs.declared.message.Rectangle.{Rectangle}
-use Rattle.rfb_wire.specs.declared.fault.WireFault.{WireFault}
+use Rattle.client_wire.specs.declared.fault.WireFault.{WireFault}
 use Rattle.rfb_wire.specs.declared.progress.Stage.{Stage}
 use Rattle.rfb_wire.specs.declared.progress.Stage.TheVariants as stages
 use Rattle.rfb_wire.specs.declared.progress.Next.{Next}
@@ -12,7 +12,8 @@ use Rattle.rfb_wire.specs.declared.progress.Next.TheVariants as nexts
 use Rattle.rfb_wire.specs.declared.progress.Over.{Over}
 use Rattle.rfb_wire.specs.declared.progress.Step.{Step}
 use Rattle.rfb_wire.specs.declared.progress.Progress.{Progress}
-use Rattle.rfb_wire.specs.Grammar.{Message, Recorded, ReadOver, u16_at, raw_at, rectangles_at, update_at, other_at, color_map_at, text_at, text_data_at, read_over, message_at, text_limit}
+use Rattle.client_wire.specs.Number.{u16_at}
+use Rattle.rfb_wire.specs.Grammar.{Message, Recorded, ReadOver, raw_at, rectangles_at, update_at, other_at, color_map_at, text_at, text_data_at, read_over, message_at, text_limit}
 
 -- how many bytes the field has
 abbrev pub wants_of : Stage → ℕ

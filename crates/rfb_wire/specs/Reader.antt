@@ -1,6 +1,6 @@
 -- What contracts see of a reader of a host's stream.
 use Rattle.std.specs.Prelude.{ℕ, List, Option}
-use Rattle.rfb_wire.specs.declared.fault.WireFault.{WireFault}
+use Rattle.client_wire.specs.declared.fault.WireFault.{WireFault}
 
 -- The screen's size; of an unfinished message the bytes that are kept and the number of those that are
 -- read over; and the fault that was met, if one was.

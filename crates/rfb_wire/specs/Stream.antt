@@ -2,8 +2,9 @@
 use Rattle.std.specs.Prelude.{◌≡◌, ℕ, List, [], ◌∷◌, ◌++◌, length}
 use Rattle.std.specs.List.{flat_map, AllByRecursion}
 use Rattle.pixel_format.specs.Reading.{Got, More, Bad}
-use Rattle.rfb_wire.specs.declared.fault.WireFault.{WireFault}
-use Rattle.rfb_wire.specs.declared.fault.WireFault.TheVariants as faults
+use Rattle.client_wire.specs.declared.fault.WireFault.{WireFault}
+use Rattle.client_wire.specs.Fault.{UnlessMemory}
+use Rattle.client_wire.specs.Stream.{StandsFor}
 use Rattle.rfb_wire.specs.Grammar.{message_at, ReadOver}
 use Rattle.rfb_wire.specs.Host.{Host, IsRecorded}
 
@@ -54,13 +55,6 @@ pub record FaultOf (limit width height : ℕ) (stream : List ℕ) (f : WireFault
   pub reads : Reads limit width height stream messages rest
   pub fault : message_at limit width height rest ≡ Bad f
 
--- What a reader stands for: the bytes of an unfinished message, of which it keeps some and counts the
--- others, which are read over.
-pub record StandsFor (kept : List ℕ) (passed : ℕ) (rest : List ℕ) : Type 0 where
-  pub skipped : List ℕ
-  pub count : length skipped ≡ passed
-  pub is : rest ≡ kept ++ skipped
-
 -- the messages that new has behind old are those that the stream begins with
 pub record Gives (limit width height : ℕ) (old new : List Host) (stream rest : List ℕ) : Type 0 where
   pub messages : List Host
@@ -81,14 +75,6 @@ pub record Moves (limit width height : ℕ) (kept : List ℕ) (passed : ℕ) (ol
   pub rest : List ℕ
   pub gives : Gives limit width height old new stream rest
   pub stands : StandsFor kept passed rest
-
--- what holds of a fault that the bytes caused
-abbrev pub UnlessMemory : WireFault → Type 0 → Type 0
-UnlessMemory faults.UnknownType P = P
-UnlessMemory faults.OutsideScreen P = P
-UnlessMemory (faults.Encoding n) P = P
-UnlessMemory faults.TooLong P = P
-UnlessMemory faults.NoMemory P = Unit {0}
 
 -- The messages before the place where a reader stops are given. Unless memory ran out there, a fault of
 -- the stream stands at that place.

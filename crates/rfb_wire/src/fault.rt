@@ -1,31 +1,10 @@
 //! Why bytes are refused.
 
 ghost use Rattle.std.specs.Prelude.{◌≡◌};
-ghost use Rattle.rfb_wire.specs.declared.fault.WireFault.TheVariants as faults;
-ghost use Rattle.rfb_wire.specs.Fault.{wire_number, bytes_number};
+ghost use Rattle.rfb_wire.specs.Fault.{bytes_number};
 
-use std::alloc::{AllocError, AllocFailed};
+use client_wire::WireFault;
 use thiserror::Error;
-
-/// What is wrong with the bytes of a peer, at the first field that is refused.
-#[derive(Debug, Clone, Copy, PartialEq, Eq, Error)]
-pub enum WireFault {
-    /// No message has this type.
-    #[error("a message of an unknown type")]
-    UnknownType,
-    /// A rectangle leaves the screen.
-    #[error("a rectangle outside the screen")]
-    OutsideScreen,
-    /// A rectangle's encoding, which has this number, is not known.
-    #[error("an unknown encoding: {0}")]
-    Encoding(i32),
-    /// An update of more than 67,108,864 bytes.
-    #[error("an update that is too long")]
-    TooLong,
-    /// There is no memory for what the bytes say.
-    #[error("no memory")]
-    NoMemory,
-}
 
 /// Why bytes are not one recorded message.
 #[derive(Debug, Clone, Copy, PartialEq, Eq, Error)]
@@ -38,21 +17,6 @@ pub enum BytesFault {
     Wire(WireFault),
 }
 
-impl WireFault {
-    /// The fault's number, by which it is printed: 1 to 4, and 9 for want of memory.
-    pub fn number(&self) -> u8
-        ensures { result ≡ wire_number self.now }
-    {
-        match self {
-            WireFault::UnknownType => 1,
-            WireFault::OutsideScreen => 2,
-            WireFault::Encoding(_) => 3,
-            WireFault::TooLong => 4,
-            WireFault::NoMemory => 9,
-        }
-    }
-}
-
 impl BytesFault {
     /// The fault's number, by which it is printed: 0 for `NotOne`, else the reader's fault's.
     pub fn number(&self) -> u8
@@ -62,21 +26,5 @@ impl BytesFault {
             BytesFault::NotOne => 0,
             BytesFault::Wire(fault) => fault.number(),
         }
-    }
-}
-
-impl From<AllocError> for WireFault {
-    ghost from_gives = { λ _ f. f ≡ faults.NoMemory };
-
-    fn from(_fault: AllocError) -> WireFault {
-        WireFault::NoMemory
-    }
-}
-
-impl<T: Drop> From<AllocFailed<T>> for WireFault {
-    ghost from_gives = { λ _ f. f ≡ faults.NoMemory };
-
-    fn from(_fault: AllocFailed<T>) -> WireFault {
-        WireFault::NoMemory
     }
 }

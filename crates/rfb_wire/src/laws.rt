@@ -3,7 +3,7 @@
 ghost use Rattle.std.specs.Prelude.{◌≡◌, ◌↔◌, ℕ, List, [], ◌++◌};
 ghost use Rattle.pixel_format.specs.Reading.{Got, More, Bad};
 ghost use Rattle.rfb_wire.specs.declared.message.Rectangle.{Rectangle};
-ghost use Rattle.rfb_wire.specs.declared.fault.WireFault.{WireFault};
+ghost use Rattle.client_wire.specs.declared.fault.WireFault.{WireFault};
 ghost use Rattle.rfb_wire.specs.Grammar.{message_at, Recorded};
 ghost use Rattle.rfb_wire.specs.Host.{Host};
 ghost use Rattle.rfb_wire.specs.Message.{IsMessage};

@@ -10,12 +10,13 @@ mod reader;
 mod step;
 mod write;
 
-pub use fault::{BytesFault, WireFault};
+pub use client_wire::{Area, WireFault};
+pub use fault::BytesFault;
 pub use laws::{
     a_rest_begins_none, grammar_reads_messages, no_message_begins_another, one_reading_of_a_stream,
     one_reading_of_bytes,
 };
-pub use message::{Area, Encoding, HostMessage, Rectangle};
+pub use message::{Encoding, HostMessage, Rectangle};
 pub use plain::{Front, read_message};
 pub use reader::ServerReader;
 pub use write::{

@@ -2,20 +2,12 @@
 
 ghost use Rattle.std.specs.Prelude.{◌≡◌, ◌≤◌, All, IfOk, Err, MatchResult, length};
 
-use crate::fault::{BytesFault, WireFault};
+use crate::fault::BytesFault;
 use crate::reader::ServerReader;
+use client_wire::{Area, WireFault};
 use pixel_format::NoMemory;
 use std::alloc::Global;
 use std::marker::Model;
-
-/// A rectangle of places: its upper left corner, its width and its height.
-#[derive(Clone, Copy, Debug, PartialEq, Eq)]
-pub struct Area {
-    pub x: u16,
-    pub y: u16,
-    pub w: u16,
-    pub h: u16,
-}
 
 /// How the pixels of a rectangle are written (RFC 6143, section 7.7).
 #[derive(Clone, Copy, Debug, PartialEq, Eq)]
@@ -66,10 +58,11 @@ impl Model for HostMessage {
 }
 
 impl HostMessage {
-    ghost use Rattle.rfb_wire.specs.declared.fault.WireFault.{WireFault};
+    ghost use Rattle.client_wire.specs.declared.fault.WireFault.{WireFault};
     ghost use Rattle.rfb_wire.specs.Grammar.{message_limit};
     ghost use Rattle.rfb_wire.specs.Host.{Host, host_of, IsRecorded, IsPlaced};
-    ghost use Rattle.rfb_wire.specs.Stream.{IsFor, FaultOf, UnlessMemory};
+    ghost use Rattle.client_wire.specs.Fault.{UnlessMemory};
+    ghost use Rattle.rfb_wire.specs.Stream.{IsFor, FaultOf};
 
     // The message whose parts these are.
     pub(crate) fn from_parts(

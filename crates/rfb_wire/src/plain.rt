@@ -3,14 +3,14 @@
 ghost use Rattle.std.specs.Prelude.{◌≡◌, ◌+◌, ◌*◌, ◌<◌, ◌≤◌, slice_index, nat_eq, true, false, length, IfOk, IfSome, MatchOption};
 ghost use Rattle.pixel_format.specs.Reading.{Got, More};
 ghost use Rattle.pixel_format.specs.Reading as reading;
-ghost use Rattle.rfb_wire.specs.declared.fault.WireFault.{WireFault};
+ghost use Rattle.client_wire.specs.declared.fault.WireFault.{WireFault};
 ghost use Rattle.rfb_wire.specs.Grammar.{rectangle_at, rectangles_at, update_at, color_map_at, text_at, other_at, message_at, message_limit, Recorded, ReadOver};
 ghost use Rattle.rfb_wire.specs.Plain.{Says, SaysMessage, kind_of};
 
-use crate::fault::WireFault;
 use crate::message::{Encoding, HostMessage, Rectangle};
 use crate::progress::MESSAGE_LIMIT;
 use crate::step::{TEXT_LIMIT, area_at, encoding_at, lies_inside};
+use client_wire::WireFault;
 use std::alloc::Global;
 
 /// The message that bytes begin with.

@@ -5,11 +5,13 @@ ghost use Rattle.std.specs.Option.{option_to_list};
 ghost use Rattle.pixel_format.specs.Reading.{Got, Bad};
 ghost use Rattle.rfb_wire.specs.Grammar.{message_at, Recorded, message_limit};
 ghost use Rattle.rfb_wire.specs.Host.{Host, host_of, IsRecorded};
-ghost use Rattle.rfb_wire.specs.Stream.{Moves, Stops, StandsFor, UnlessMemory};
+ghost use Rattle.client_wire.specs.Stream.{StandsFor};
+ghost use Rattle.client_wire.specs.Fault.{UnlessMemory};
+ghost use Rattle.rfb_wire.specs.Stream.{Moves, Stops};
 
-use crate::fault::WireFault;
-use crate::message::{Area, HostMessage, Rectangle};
+use crate::message::{HostMessage, Rectangle};
 use crate::step::step;
+use client_wire::{Area, WireFault};
 use std::alloc::Global;
 
 /// The greatest number of bytes of an update.

@@ -1,13 +1,14 @@
 //! The reader of a host's stream.
 
 ghost use Rattle.std.specs.Prelude.{◌≡◌, ℕ, List, [], ◌++◌, Option, Some, None, Ok, Err, OnOk, IfErr, OnErr};
-ghost use Rattle.rfb_wire.specs.declared.fault.WireFault.{WireFault};
+ghost use Rattle.client_wire.specs.declared.fault.WireFault.{WireFault};
 ghost use Rattle.rfb_wire.specs.Grammar.{message_limit};
-ghost use Rattle.rfb_wire.specs.Stream.{Goes, Stops, FaultOf, StandsFor};
+ghost use Rattle.client_wire.specs.Stream.{StandsFor};
+ghost use Rattle.rfb_wire.specs.Stream.{Goes, Stops, FaultOf};
 
-use crate::fault::WireFault;
 use crate::message::HostMessage;
 use crate::progress::Progress;
+use client_wire::WireFault;
 use std::alloc::Global;
 use std::marker::Model;
 

@@ -2,12 +2,13 @@
 
 ghost use Rattle.std.specs.Prelude.{◌≡◌, ℕ, ◌+◌, ◌*◌, ◌<◌, ◌≤◌, List, ◌++◌, drop, slice_index, nat_lt, if◌then◌else◌, length, IfOk, IfErr};
 ghost use Rattle.pixel_format.specs.Reading.{Bad};
-ghost use Rattle.rfb_wire.specs.Grammar.{message_limit, text_limit, read_over, text_data_at, area_of, encoding_number, is_inside, u16_at, u32_at};
+ghost use Rattle.client_wire.specs.Number.{u16_at, u32_at};
+ghost use Rattle.rfb_wire.specs.Grammar.{message_limit, text_limit, read_over, text_data_at, area_of, encoding_number, is_inside};
 ghost use Rattle.rfb_wire.specs.Progress.{wants_of, start_of, NextBegins, IsOfUpdate, IsOfKind, NextIsOfKind, resume, go_on, step_on, others_at};
 
-use crate::fault::WireFault;
-use crate::message::{Area, Encoding, Rectangle};
+use crate::message::{Encoding, Rectangle};
 use crate::progress::{Next, Stage, Step};
+use client_wire::{Area, WireFault};
 
 /// The greatest number of bytes of a text that is recorded.
 pub const TEXT_LIMIT: u32 = 65_536;

@@ -3,11 +3,11 @@
 ghost use Rattle.std.specs.Prelude.{◌≡◌, ◌+◌, ◌*◌, ◌<◌, ◌≤◌, ◌^◌, IsTrue, ℕ, List, [], ◌∷◌, ◌++◌, take, length, OnOk, OnErr};
 ghost use Rattle.pixel_format.specs.Reading.{Got};
 ghost use Rattle.pixel_format.specs.declared.Color.{Color as ColorValue};
-ghost use Rattle.rfb_wire.specs.declared.message.Area.{Area as AreaValue};
+ghost use Rattle.client_wire.specs.declared.message.Area.{Area as AreaValue};
 ghost use Rattle.rfb_wire.specs.Grammar.{message_at, is_inside, Recorded, ReadOver, text_limit};
 ghost use Rattle.rfb_wire.specs.Written.{raw_head, raw_update_bytes, raw_rectangle, color_map_head, color_bytes, color_map_bytes, bell_bytes, text_head, cut_text_bytes};
 
-use crate::message::Area;
+use client_wire::Area;
 use pixel_format::{Color, NoMemory};
 
 /// Appends a host's FramebufferUpdate of one Raw rectangle (RFC 6143, sections 7.6.1 and 7.7.1): its

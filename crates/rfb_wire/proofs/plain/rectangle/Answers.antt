@@ -2,8 +2,9 @@ use Rattle.std.proofs.Common.{◌≡◌, ◌<◌, nat_eq, true, false, sym, ap, 
 use Rattle.std.proofs.lemmas.Bool.{ne_eqb}
 use Rattle.std.proofs.lemmas.Int.{of_z-to_z}
 use Rattle.pixel_format.specs.Reading.{Bad}
-use Rattle.rfb_wire.specs.declared.fault.WireFault.TheVariants as faults
-use Rattle.rfb_wire.specs.Grammar.{signed, area_of, encoding_number, is_inside}
+use Rattle.client_wire.specs.declared.fault.WireFault.TheVariants as faults
+use Rattle.client_wire.specs.Number.{signed}
+use Rattle.rfb_wire.specs.Grammar.{area_of, encoding_number, is_inside}
 use Rattle.rfb_wire.proofs.FromFront.{header_short, outside, unknown, data_short, data_whole}
 use Rattle.rfb_wire.proofs.plain.rectangle.Goals as goal
 

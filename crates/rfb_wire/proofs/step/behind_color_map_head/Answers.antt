@@ -1,5 +1,6 @@
 use Rattle.std.proofs.Common.{◌≡◌, ◌*◌, rules, sym, ◌∙◌, ap}
-use Rattle.rfb_wire.specs.Grammar.{u16_at, read_over}
+use Rattle.client_wire.specs.Number.{u16_at}
+use Rattle.rfb_wire.specs.Grammar.{read_over}
 use Rattle.rfb_wire.specs.Progress.{go_on}
 use Rattle.rfb_wire.proofs.Resume.{head_of_color_map, behind_nil}
 use Rattle.rfb_wire.proofs.step.behind_color_map_head.Goals as goal

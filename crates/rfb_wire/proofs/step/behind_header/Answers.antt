@@ -3,9 +3,10 @@ use Rattle.std.proofs.Math.Nat.{zero-mul, mul-zero}
 use Rattle.std.proofs.lemmas.Bool.{ne_eqb}
 use Rattle.std.proofs.lemmas.Int.{of_z-to_z}
 use Rattle.pixel_format.specs.Reading.{Bad}
-use Rattle.rfb_wire.specs.declared.fault.WireFault.TheVariants as faults
+use Rattle.client_wire.specs.declared.fault.WireFault.TheVariants as faults
 use Rattle.rfb_wire.specs.declared.progress.Stage.TheVariants as stages
-use Rattle.rfb_wire.specs.Grammar.{signed, area_of, encoding_number, is_inside}
+use Rattle.client_wire.specs.Number.{signed}
+use Rattle.rfb_wire.specs.Grammar.{area_of, encoding_number, is_inside}
 use Rattle.rfb_wire.specs.Progress.{go_on, resume}
 use Rattle.rfb_wire.proofs.Resume.{header_outside, header_unknown, header_of_raw, behind_nil}
 use Rattle.rfb_wire.proofs.step.behind_header.Goals as goal

@@ -1,6 +1,6 @@
 use Rattle.std.proofs.Common.{◌≡◌, ℕ, ◌+◌, ◌*◌, ◌/◌, ◌%◌, ◌≤◌, true, List, [], ◌∷◌, ◌++◌, length, refl, sym, inl, arith}
 use Rattle.std.proofs.lemmas.List.{append-nil}
-use Rattle.rfb_wire.specs.declared.message.Area.{Area}
+use Rattle.client_wire.specs.declared.message.Area.{Area}
 use Rattle.rfb_wire.specs.Grammar.{area_of, encoding_number, is_inside}
 use Rattle.rfb_wire.specs.Message.{IsUpdate, IsRectangle}
 use Rattle.rfb_wire.specs.Written.{two_bytes, raw_update_bytes, raw_rectangle}

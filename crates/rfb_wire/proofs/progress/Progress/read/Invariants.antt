@@ -1,6 +1,7 @@
 use Rattle.std.proofs.Common.{◌≡◌, ℕ, List, ◌++◌, length}
 use Rattle.rfb_wire.specs.Progress.{IsAt, passed_in}
-use Rattle.rfb_wire.specs.Stream.{Moves, StandsFor}
+use Rattle.client_wire.specs.Stream.{StandsFor}
+use Rattle.rfb_wire.specs.Stream.{Moves}
 use Rattle.rfb_wire.specs.Grammar.{message_limit}
 use Rattle.rfb_wire.proofs.progress.Progress.read.Given as goal
 

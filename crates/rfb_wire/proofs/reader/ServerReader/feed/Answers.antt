@@ -1,6 +1,7 @@
 use Rattle.std.proofs.Common.{◌++◌}
 use Rattle.rfb_wire.specs.Progress.{passed_in}
-use Rattle.rfb_wire.specs.Stream.{FaultOf, StandsFor}
+use Rattle.client_wire.specs.Stream.{StandsFor}
+use Rattle.rfb_wire.specs.Stream.{FaultOf}
 use Rattle.rfb_wire.proofs.Over.{at_waits}
 use Rattle.rfb_wire.proofs.Streams.{no_fault}
 use Rattle.rfb_wire.specs.Grammar.{message_limit}
