@@ -13,9 +13,9 @@ use Rattle.client_wire.specs.Number.{u16_at}
 use Rattle.rfb_wire.specs.Grammar.{Recorded, ReadOver, message_at, update_at, rectangles_at, read_over}
 use Rattle.rfb_wire.specs.Host.{Host}
 use Rattle.rfb_wire.specs.Progress.{IsAt, IsInField, IsOver, passed_in, unlimited_at}
-use Rattle.client_wire.specs.Stream.{StandsFor}
-use Rattle.rfb_wire.specs.Stream.{Moves}
-use Rattle.rfb_wire.proofs.Streams.{empty_list, stands_kept, stands_whole, gives_none, gives_passed}
+use Rattle.client_wire.specs.Stream.{StandsFor, Moves}
+use Rattle.rfb_wire.specs.Stream.{given}
+use Rattle.client_wire.proofs.Streams.{empty_list, stands_kept, stands_whole, gives_none, gives_one}
 use Rattle.rfb_wire.proofs.Turns.{field_waits, unlimited-first, message-first}
 
 -- some of the bytes that are left
@@ -110,10 +110,10 @@ over_goes limit width height n bytes o is few = record {
 
 -- where bytes pass, nothing is given
 pub pass_goes : (limit width height : ℕ) (bytes : List ℕ) (passed n : ℕ) (old : List Host) (rest taken : List ℕ) → StandsFor bytes passed rest → length taken ≡ n
-    → Moves limit width height bytes (passed + n) old old (rest ++ taken)
+    → Moves (message_at limit width height) (given width height) bytes (passed + n) old old (rest ++ taken)
 pass_goes limit width height bytes passed n old rest taken s is = record {
   rest = rest ++ taken;
-  gives = gives_none limit width height old old (rest ++ taken) (rest ++ taken) refl refl;
+  gives = gives_none (message_at limit width height) (given width height) old old (rest ++ taken) (rest ++ taken) refl refl;
   stands = record {
     skipped = s.skipped ++ taken;
     count = rw length-append (omega (arith, s.count));
@@ -124,13 +124,13 @@ pass_goes limit width height bytes passed n old rest taken s is = record {
 -- where all have passed, the message is whole
 pub pass_ends : (limit width height : ℕ) (bytes kept : List ℕ) (o : Over) (passed : ℕ) (old : List Host) (rest taken : List ℕ) → IsOver limit width height bytes o
     → StandsFor bytes o.passed rest → length taken ≡ o.left → kept ≡ [] → passed ≡ 0
-    → Moves limit width height kept passed old old (rest ++ taken)
+    → Moves (message_at limit width height) (given width height) kept passed old old (rest ++ taken)
 pass_ends limit width height bytes kept o passed old rest taken over s is none no_passed =
     let whole : message_at limit width height (rest ++ taken) ≡ Got ReadOver [] =
     ap (λ z. message_at limit width height (z ++ taken)) s.is ∙ over.link s.skipped taken s.count ∙ read_over_whole o.left taken is in
     record {
       rest = [];
-      gives = gives_passed limit width height old (rest ++ taken) whole;
+      gives = gives_one (message_at limit width height) (given width height) old old ReadOver (rest ++ taken) whole (sym (append-nil old));
       stands = rw (none, no_passed) (stands_whole []);
     }
 
@@ -149,19 +149,19 @@ at_waits limit width height p at rest s = waits_by limit width height p p.over a
 
 -- a message that is whole at its head
 pub once_ends : (limit width height : ℕ) (bytes kept : List ℕ) (passed : ℕ) (old : List Host) → message_at limit width height bytes ≡ Got ReadOver []
-    → kept ≡ [] → passed ≡ 0 → Moves limit width height kept passed old old bytes
+    → kept ≡ [] → passed ≡ 0 → Moves (message_at limit width height) (given width height) kept passed old old bytes
 once_ends limit width height bytes kept passed old whole none no_passed = record {
   rest = [];
-  gives = gives_passed limit width height old bytes whole;
+  gives = gives_one (message_at limit width height) (given width height) old old ReadOver bytes whole (sym (append-nil old));
   stands = rw (none, no_passed) (stands_whole []);
 }
 
 -- a message that is kept as far as it came
 pub kept_stands : (limit width height : ℕ) (kept : List ℕ) (passed : ℕ) (old : List Host) (stream : List ℕ) → stream ≡ kept → passed ≡ 0
-    → Moves limit width height kept passed old old stream
+    → Moves (message_at limit width height) (given width height) kept passed old old stream
 kept_stands limit width height kept passed old stream is none = record {
   rest = kept;
-  gives = gives_none limit width height old old stream kept refl is;
+  gives = gives_none (message_at limit width height) (given width height) old old stream kept refl is;
   stands = rw none (stands_whole kept);
 }
 

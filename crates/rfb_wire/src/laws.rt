@@ -4,10 +4,9 @@ ghost use Rattle.std.specs.Prelude.{◌≡◌, ◌↔◌, ℕ, List, [], ◌++�
 ghost use Rattle.pixel_format.specs.Reading.{Got, More, Bad};
 ghost use Rattle.rfb_wire.specs.declared.message.Rectangle.{Rectangle};
 ghost use Rattle.client_wire.specs.declared.fault.WireFault.{WireFault};
-ghost use Rattle.rfb_wire.specs.Grammar.{message_at, Recorded};
-ghost use Rattle.rfb_wire.specs.Host.{Host};
+ghost use Rattle.rfb_wire.specs.Grammar.{message_at, Message, Recorded};
 ghost use Rattle.rfb_wire.specs.Message.{IsMessage};
-ghost use Rattle.rfb_wire.specs.Stream.{Reads, BeginsNone};
+ghost use Rattle.client_wire.specs.Stream.{Part, Reads, BeginsNone};
 
 /// What the grammar reads of all the bytes is a recorded message, and each recorded message is what
 /// it reads.
@@ -35,16 +34,16 @@ pub fn no_message_begins_another()
 /// No whole message begins a rest that waits, or that begins with a fault.
 pub fn a_rest_begins_none()
     ensures waits { (limit width height : ℕ) → (rest : List ℕ)
-        → message_at limit width height rest ≡ More → BeginsNone limit width height rest }
+        → message_at limit width height rest ≡ More → BeginsNone (message_at limit width height) rest }
     ensures fault { (limit width height : ℕ) → (rest : List ℕ) → (f : WireFault)
-        → message_at limit width height rest ≡ Bad f → BeginsNone limit width height rest }
+        → message_at limit width height rest ≡ Bad f → BeginsNone (message_at limit width height) rest }
 {}
 
 /// A stream has at most one reading: messages, and a rest that no whole message begins.
 pub fn one_reading_of_a_stream()
-    ensures { (limit width height : ℕ) → (stream : List ℕ) → (messages others : List Host)
+    ensures { (limit width height : ℕ) → (stream : List ℕ) → (messages others : List (Part Message))
         → (rest other : List ℕ)
-        → Reads limit width height stream messages rest → BeginsNone limit width height rest
-        → Reads limit width height stream others other → BeginsNone limit width height other
+        → Reads (message_at limit width height) stream messages rest → BeginsNone (message_at limit width height) rest
+        → Reads (message_at limit width height) stream others other → BeginsNone (message_at limit width height) other
         → (messages ≡ others) × (rest ≡ other) }
 {}

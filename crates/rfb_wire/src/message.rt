@@ -59,10 +59,11 @@ impl Model for HostMessage {
 
 impl HostMessage {
     ghost use Rattle.client_wire.specs.declared.fault.WireFault.{WireFault};
-    ghost use Rattle.rfb_wire.specs.Grammar.{message_limit};
+    ghost use Rattle.rfb_wire.specs.Grammar.{message_at, message_limit};
     ghost use Rattle.rfb_wire.specs.Host.{Host, host_of, IsRecorded, IsPlaced};
     ghost use Rattle.client_wire.specs.Fault.{UnlessMemory};
-    ghost use Rattle.rfb_wire.specs.Stream.{IsFor, FaultOf};
+    ghost use Rattle.client_wire.specs.Stream.{FaultOf};
+    ghost use Rattle.rfb_wire.specs.Stream.{IsFor};
 
     // The message whose parts these are.
     pub(crate) fn from_parts(
@@ -97,9 +98,9 @@ impl HostMessage {
         ensures not_one { result ≡ Err BytesFault.NotOne → (m : Host)
             → IsFor message_limit width height m → m.bytes ≡ bytes.now → ⊥ }
         ensures no_fault { result ≡ Err BytesFault.NotOne → (f : WireFault)
-            → FaultOf message_limit width height bytes.now f → ⊥ }
+            → FaultOf (message_at message_limit width height) bytes.now f → ⊥ }
         ensures wire { (f : WireFault) → result ≡ Err (BytesFault.Wire f)
-            → UnlessMemory f (FaultOf message_limit width height bytes.now f) }
+            → UnlessMemory f (FaultOf (message_at message_limit width height) bytes.now f) }
     {
         let mut reader = ServerReader::new(alloc, width, height);
         let mut messages = Vec::new(alloc);

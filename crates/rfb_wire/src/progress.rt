@@ -5,9 +5,9 @@ ghost use Rattle.std.specs.Option.{option_to_list};
 ghost use Rattle.pixel_format.specs.Reading.{Got, Bad};
 ghost use Rattle.rfb_wire.specs.Grammar.{message_at, Recorded, message_limit};
 ghost use Rattle.rfb_wire.specs.Host.{Host, host_of, IsRecorded};
-ghost use Rattle.client_wire.specs.Stream.{StandsFor};
 ghost use Rattle.client_wire.specs.Fault.{UnlessMemory};
-ghost use Rattle.rfb_wire.specs.Stream.{Moves, Stops};
+ghost use Rattle.client_wire.specs.Stream.{StandsFor, Moves, Stops};
+ghost use Rattle.rfb_wire.specs.Stream.{given};
 
 use crate::message::{HostMessage, Rectangle};
 use crate::step::step;
@@ -148,7 +148,7 @@ impl Progress {
         requires head { 0 < length self.old.bytes.items }
         requires link { (more : List ℕ) → unlimited_at width height (self.old.bytes.items ++ more) ≡ read_over left more }
         ensures at { IsAt message_limit width height self.new }
-        ensures moves { (old : List Host) → Moves message_limit width height self.new.bytes.items (passed_in self.new.over) old old self.old.bytes.items }
+        ensures moves { (old : List Host) → Moves (message_at message_limit width height) (given width height) self.new.bytes.items (passed_in self.new.over) old old self.old.bytes.items }
     {
         if left == 0 {
             *self = Progress::new(alloc);
@@ -171,7 +171,7 @@ impl Progress {
         ensures taken { (0 < result) × (result ≤ available) }
         ensures at { IsAt message_limit width height self.new }
         ensures moves { (old : List Host) → (rest taken : List ℕ) → StandsFor self.old.bytes.items over.passed rest → length taken ≡ result
-            → Moves message_limit width height self.new.bytes.items (passed_in self.new.over) old old (rest ++ taken) }
+            → Moves (message_at message_limit width height) (given width height) self.new.bytes.items (passed_in self.new.over) old old (rest ++ taken) }
     {
         let taken = over.left.min(available as u64);
         if taken == over.left {
@@ -228,7 +228,7 @@ impl Progress {
         ensures taken { IfOk result (λ n. (0 < n) × (n ≤ length piece.now)) }
         ensures at { OnOk result (IsAt message_limit width height self.new) }
         ensures moves { IfOk result (λ n. (rest : List ℕ) → StandsFor self.old.bytes.items (passed_in self.old.over) rest
-            → Moves message_limit width height self.new.bytes.items (passed_in self.new.over) out.old.items out.new.items (rest ++ take n piece.now)) }
+            → Moves (message_at message_limit width height) (given width height) self.new.bytes.items (passed_in self.new.over) out.old.items out.new.items (rest ++ take n piece.now)) }
         ensures faults { IfErr result (λ f. (rest : List ℕ) → StandsFor self.old.bytes.items (passed_in self.old.over) rest
             → UnlessMemory f (message_at message_limit width height (rest ++ piece.now) ≡ Bad f)) }
         ensures err { OnErr result (out.new.items ≡ out.old.items) }
@@ -261,9 +261,9 @@ impl Progress {
         requires { IsAt message_limit width height self.old }
         ensures at { OnOk result (IsAt message_limit width height self.new) }
         ensures moves { OnOk result ((rest : List ℕ) → StandsFor self.old.bytes.items (passed_in self.old.over) rest
-            → Moves message_limit width height self.new.bytes.items (passed_in self.new.over) out.old.items out.new.items (rest ++ piece.now)) }
+            → Moves (message_at message_limit width height) (given width height) self.new.bytes.items (passed_in self.new.over) out.old.items out.new.items (rest ++ piece.now)) }
         ensures faults { IfErr result (λ f. (rest : List ℕ) → StandsFor self.old.bytes.items (passed_in self.old.over) rest
-            → Stops message_limit width height f out.old.items out.new.items (rest ++ piece.now)) }
+            → Stops (message_at message_limit width height) (given width height) f out.old.items out.new.items (rest ++ piece.now)) }
     {
         let mut rest = piece;
         while !rest.is_empty() {

@@ -2,9 +2,9 @@
 
 ghost use Rattle.std.specs.Prelude.{◌≡◌, ℕ, List, [], ◌++◌, Option, Some, None, Ok, Err, OnOk, IfErr, OnErr};
 ghost use Rattle.client_wire.specs.declared.fault.WireFault.{WireFault};
-ghost use Rattle.rfb_wire.specs.Grammar.{message_limit};
-ghost use Rattle.client_wire.specs.Stream.{StandsFor};
-ghost use Rattle.rfb_wire.specs.Stream.{Goes, Stops, FaultOf};
+ghost use Rattle.client_wire.specs.Stream.{StandsFor, Goes, Stops, FaultOf};
+ghost use Rattle.rfb_wire.specs.Grammar.{message_at, message_limit};
+ghost use Rattle.rfb_wire.specs.Stream.{given};
 
 use crate::message::HostMessage;
 use crate::progress::Progress;
@@ -64,16 +64,16 @@ impl ServerReader {
     pub fn feed(&mut self, piece: &[u8], out: &mut Vec<HostMessage>) -> Result<(), WireFault>
         // The messages that are whole are given, and the reader stands for the rest.
         ensures goes { OnOk result ((rest : List ℕ) → StandsFor self.old.kept self.old.passed rest
-            → Goes message_limit self.old.width self.old.height self.new.kept self.new.passed
+            → Goes (message_at message_limit self.old.width self.old.height) (given self.old.width self.old.height) self.new.kept self.new.passed
             out.old.items out.new.items (rest ++ piece.now)) }
         // It does not wait at a fault.
         ensures none { OnOk result ((rest : List ℕ) → (f : WireFault)
             → StandsFor self.old.kept self.old.passed rest
-            → FaultOf message_limit self.old.width self.old.height (rest ++ piece.now) f → ⊥) }
+            → FaultOf (message_at message_limit self.old.width self.old.height) (rest ++ piece.now) f → ⊥) }
         // A fault stands in the stream, and the messages before it are given.
         ensures faults { IfErr result (λ f. self.old.fault ≡ None → (rest : List ℕ)
             → StandsFor self.old.kept self.old.passed rest
-            → Stops message_limit self.old.width self.old.height f
+            → Stops (message_at message_limit self.old.width self.old.height) (given self.old.width self.old.height) f
             out.old.items out.new.items (rest ++ piece.now)) }
         ensures going { OnOk result (self.new.fault ≡ None) }
         ensures stopped { IfErr result (λ f. self.new.fault ≡ Some f) }

@@ -2,7 +2,7 @@ use Rattle.std.proofs.Common.{◌≡◌, [], ◌∙◌, sym, ap, refl, length}
 use Rattle.std.proofs.lemmas.List.{append-nil}
 use Rattle.client_wire.specs.Stream.{StandsFor}
 use Rattle.rfb_wire.specs.Grammar.{message_limit}
-use Rattle.rfb_wire.proofs.Streams.{stands_whole}
+use Rattle.client_wire.proofs.Streams.{stands_whole}
 use Rattle.rfb_wire.proofs.Whole.{whole_is, none_given, other_given, same_by_bytes, memory_alone}
 use Rattle.rfb_wire.specs.declared.fault.BytesFault.TheVariants as bytes_faults
 use Rattle.rfb_wire.proofs.message.HostMessage.from_bytes.Goals as goal

@@ -1,8 +1,9 @@
 use Rattle.std.proofs.Common.{◌≡◌, ℕ, List, ◌++◌, length}
 use Rattle.rfb_wire.specs.Progress.{IsAt, passed_in}
 use Rattle.client_wire.specs.Stream.{StandsFor}
-use Rattle.rfb_wire.specs.Stream.{Moves}
-use Rattle.rfb_wire.specs.Grammar.{message_limit}
+use Rattle.client_wire.specs.Stream.{Moves}
+use Rattle.rfb_wire.specs.Stream.{given}
+use Rattle.rfb_wire.specs.Grammar.{message_at, message_limit}
 use Rattle.rfb_wire.proofs.progress.Progress.read.Given as goal
 
 -- what of the piece is read is given, kept, or read over
@@ -12,7 +13,7 @@ invariant-loop-rest l = record {
   front : List ℕ;
   piece : l.initial.rest ≡ front ++ l.rest;
   moves : (rest : List ℕ) → StandsFor l.initial.self.bytes.items (passed_in l.initial.self.over) rest
-      → Moves message_limit l.width l.height l.self.bytes.items (passed_in l.self.over) l.initial.out.items l.out.items (rest ++ front);
+      → Moves (message_at message_limit l.width l.height) (given l.width l.height) l.self.bytes.items (passed_in l.self.over) l.initial.out.items l.out.items (rest ++ front);
 }
 
 abbrev pub decreases-loop-rest : goal.decreases-loop-rest

@@ -1,11 +1,14 @@
-use Rattle.std.proofs.Common.{arith, ◌≡◌, [], ◌++◌, ◌∙◌, sym, ap, refl, take}
+use Rattle.std.proofs.Common.{arith, ◌≡◌, [], ◌∷◌, ◌++◌, ◌∙◌, sym, ap, take, subst}
+use Rattle.std.proofs.lemmas.List.{length-take-le}
 use Rattle.std.proofs.lemmas.Result.{err_from_is_err_and}
+use Rattle.client_wire.specs.Stream.{StandsFor, Moves}
 use Rattle.rfb_wire.specs.Host.{host_of}
 use Rattle.rfb_wire.specs.Progress.{IsInField, passed_in}
 use Rattle.rfb_wire.proofs.Turns.{turn_long, turn_faults, whole_recorded}
-use Rattle.rfb_wire.proofs.Streams.{gives_one, stands_kept, stands_whole}
+use Rattle.client_wire.proofs.Streams.{gives_one, stands_kept, stands_whole}
 use Rattle.rfb_wire.proofs.Over.{kept_stands, in_field}
-use Rattle.rfb_wire.specs.Grammar.{message_limit}
+use Rattle.rfb_wire.specs.Grammar.{message_at, Recorded, message_limit}
+use Rattle.rfb_wire.specs.Stream.{given}
 use Rattle.rfb_wire.proofs.progress.Progress.turn.Goals as goal
 
 pub returns-in_err-taken-clause-faults : goal.returns-in_err-taken-clause-faults
@@ -49,12 +52,32 @@ returns-in_ok-give-in-End-clause-moves c = λ rest stands.
     let same : c.advance.new.self.bytes.items ≡ c.take.new.bytes.items = ap (λ v. v.items) c.in_ok-advance.ensures.bytes in
     let recorded = whole_recorded message_limit c.args.width c.args.height c.advance.new.self.bytes.items c.take.new.bytes.items c.advance.new.self.rectangles.items
     same c.in_ok-taken.ensures.short whole in
+    let rectangles = c.advance.new.self.rectangles.items in
+    let stream = rest ++ take c.in_ok-taken.taken c.args.piece.now in
+    let is : stream ≡ c.advance.new.self.bytes.items =
+    ap (λ z. z ++ take c.in_ok-taken.taken c.args.piece.now) kept ∙ sym (same ∙ c.in_ok-taken.ensures.bytes) in
     record {
       rest = [];
-      gives = gives_one message_limit c.args.width c.args.height c.args.out.now.items c.give.new.out.items
-          (host_of c.args.width c.args.height c.advance.new.self.bytes.items c.advance.new.self.rectangles.items)
-          (rest ++ take c.in_ok-taken.taken c.args.piece.now) []
-          (record { width_is = refl; height_is = refl; recorded = recorded }) c.in_ok-give-in-End.ensures.ok
-          (ap (λ z. z ++ take c.in_ok-taken.taken c.args.piece.now) kept ∙ sym (same ∙ c.in_ok-taken.ensures.bytes)) refl;
+      gives = gives_one (message_at message_limit c.args.width c.args.height) (given c.args.width c.args.height) c.args.out.now.items c.give.new.out.items
+          (Recorded rectangles) stream (ap (message_at message_limit c.args.width c.args.height) is ∙ recorded)
+          (c.in_ok-give-in-End.ensures.ok ∙ ap (λ z. c.args.out.now.items ++ host_of c.args.width c.args.height z rectangles ∷ []) (sym is));
       stands = rw (c.in_ok-give-in-End.ensures.none, c.in_ok-give-in-End.ensures.over) (stands_whole []);
     }
+
+pub returns-in-Some-clause-moves : goal.returns-in-Some-clause-moves
+returns-in-Some-clause-moves c = λ rest stands.
+    let s = c.args.self.now in
+    let n = c.pass.result in
+    let over : StandsFor s.bytes.items c.in-Some.over.passed rest = subst (λ p. StandsFor s.bytes.items p rest) (ap passed_in c.in-Some.is) stands in
+    c.pass.ensures.moves c.args.out.now.items rest (take n c.args.piece.now) over (length-take-le n c.args.piece.now c.pass.ensures.taken.1)
+
+pub returns-in-ReadOver-clause-moves : goal.returns-in-ReadOver-clause-moves
+returns-in-ReadOver-clause-moves c = λ rest stands.
+    let s = c.args.self.now in
+    let t = c.read_over.new.self in
+    let piece = take c.in_ok-taken.taken c.args.piece.now in
+    let kept = stands_kept s.bytes.items (passed_in s.over) rest (ap passed_in c.in_default.is) stands in
+    let is : c.advance.new.self.bytes.items ≡ rest ++ piece =
+    ap (λ v. v.items) c.in_ok-advance.ensures.bytes ∙ c.in_ok-taken.ensures.bytes ∙ ap (λ z. z ++ piece) (sym kept) in
+    subst (λ z. Moves (message_at message_limit c.args.width c.args.height) (given c.args.width c.args.height) t.bytes.items (passed_in t.over) c.args.out.now.items c.args.out.now.items z)
+    is (c.read_over.ensures.moves c.args.out.now.items)

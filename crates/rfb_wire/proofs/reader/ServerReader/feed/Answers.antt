@@ -1,10 +1,10 @@
 use Rattle.std.proofs.Common.{◌++◌}
 use Rattle.rfb_wire.specs.Progress.{passed_in}
-use Rattle.client_wire.specs.Stream.{StandsFor}
-use Rattle.rfb_wire.specs.Stream.{FaultOf}
+use Rattle.client_wire.specs.Stream.{StandsFor, FaultOf}
 use Rattle.rfb_wire.proofs.Over.{at_waits}
-use Rattle.rfb_wire.proofs.Streams.{no_fault}
-use Rattle.rfb_wire.specs.Grammar.{message_limit}
+use Rattle.client_wire.proofs.Streams.{no_fault}
+use Rattle.rfb_wire.specs.Grammar.{message_at, message_limit}
+use Rattle.rfb_wire.proofs.Local.{message_local}
 use Rattle.rfb_wire.proofs.reader.ServerReader.feed.Goals as goal
 
 pub invariant_of-self : goal.invariant_of-self
@@ -26,7 +26,7 @@ pub returns-clause-none : goal.returns-clause-none
 returns-clause-none c = λ rest f stands fault.
     let r = c.self.inside in
     let stands' : StandsFor r.progress.bytes.items (passed_in r.progress.over) rest = rw (← c.self.view_is) at stands in
-    let here : FaultOf message_limit r.width r.height (rest ++ c.args.piece.now) f = rw (← c.self.view_is) at fault in
+    let here : FaultOf (message_at message_limit r.width r.height) (rest ++ c.args.piece.now) f = rw (← c.self.view_is) at fault in
     let m = c.in_default-read.ensures.moves rest stands' in
-    no_fault message_limit r.width r.height (rest ++ c.args.piece.now) m.gives.messages m.rest f m.gives.reads
+    no_fault (message_at message_limit r.width r.height) (message_local message_limit r.width r.height) (rest ++ c.args.piece.now) m.gives.parts m.rest f m.gives.reads
     (at_waits message_limit r.width r.height c.read-read.new.self c.in_default-read.ensures.at m.rest m.stands) here
