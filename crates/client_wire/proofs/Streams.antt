@@ -8,11 +8,11 @@ use Rattle.client_wire.specs.Fault.{UnlessMemory}
 use Rattle.client_wire.specs.Stream.{Part, bytes_of, IsPart, Reads, BeginsNone, FaultOf, StandsFor, given_of, Gives, Moves, Stops}
 
 -- a list made of those of two lists
-flat_append : {A B : Type 0} (f : A → List B) (a b : List A) → flat_map f (a ++ b) ≡ flat_map f a ++ flat_map f b
+pub flat_append : {A B : Type 0} (f : A → List B) (a b : List A) → flat_map f (a ++ b) ≡ flat_map f a ++ flat_map f b
 flat_append f [] b = refl
 flat_append f (m ∷ a) b = ap (λ z. f m ++ z) (flat_append f a b) ∙ sym (append_assoc (f m) (flat_map f a) (flat_map f b))
 
-all_append : {A : Type 0} (P : A → Type 0) (a b : List A) → AllByRecursion P a → AllByRecursion P b → AllByRecursion P (a ++ b)
+pub all_append : {A : Type 0} (P : A → Type 0) (a b : List A) → AllByRecursion P a → AllByRecursion P b → AllByRecursion P (a ++ b)
 all_append P [] b all more = more
 all_append P (m ∷ a) b all more = (all.0, all_append P a b all.1 more)
 
@@ -49,13 +49,13 @@ gives_then read give old mid new stream rest more after a b =
     }
 
 -- a message is read from the front of any bytes that it begins
-part_again : {M : Type 0} (read : List ℕ → Reading M WireFault) → IsLocal read → (p : Part M) (more : List ℕ) → IsPart read p
+pub part_again : {M : Type 0} (read : List ℕ → Reading M WireFault) → IsLocal read → (p : Part M) (more : List ℕ) → IsPart read p
     → read (p.bytes ++ more) ≡ Got p.message more
 part_again read local p more is =
     let l = local p.bytes more in
     rw is at l
 
-same_part : {M : Type 0} (p q : Part M) → p.message ≡ q.message → p.bytes ≡ q.bytes → p ≡ q
+pub same_part : {M : Type 0} (p q : Part M) → p.message ≡ q.message → p.bytes ≡ q.bytes → p ≡ q
 same_part {M} p q a b =
     let same : record { message = p.message; bytes = p.bytes } ≡ q = rw (a, b) refl in
     same

@@ -16,6 +16,7 @@ use Rattle.client_wire.specs.declared.progress.Position.{Position}
 use Rattle.client_wire.specs.declared.progress.Position.TheVariants as positions
 use Rattle.client_wire.specs.declared.progress.Progress.{Progress}
 use Rattle.client_wire.specs.Fault.{UnlessMemory}
+use Rattle.client_wire.specs.Reader.{kept_limit}
 use Rattle.client_wire.specs.Grammar.{input_at, message_at}
 use Rattle.client_wire.specs.Progress.{wants_of, start_of, resume, position_at, BeginsAt, IsLinked, IsInField, IsOver, IsAtPosition, IsAt, passed_in}
 use Rattle.client_wire.specs.Stream.{StandsFor, Moves, itself}
@@ -52,7 +53,7 @@ append_empty bytes skipped none = ap (λ z. bytes ++ z) (empty_list skipped none
 -- at the start of a message
 pub at_start : (bytes : List ℕ) → bytes ≡ [] → IsInField bytes stages.Type
 unfolding resume
-at_start bytes none = rw none (record { linked = record { link = λ more. refl; begun = omega arith }; unfinished = omega arith })
+at_start bytes none = rw none (record { linked = record { link = λ more. refl; begun = omega arith }; unfinished = omega arith; short = omega arith })
 
 -- at what follows a whole field
 pub begins_there : (bytes : List ℕ) (at : ℕ) (p : Position) → ((more : List ℕ) → message_at (bytes ++ more) ≡ position_at p more) → BeginsAt at p → length bytes ≡ at
@@ -60,6 +61,7 @@ pub begins_there : (bytes : List ℕ) (at : ℕ) (p : Position) → ((more : Lis
 begins_there bytes at (positions.Field stage) goes begins is =
     let start = begins.0 in
     let some = begins.1 in
+    let few = begins.2 in
     let none : drop (start_of stage) bytes ≡ [] = drop_all (start_of stage) bytes (omega arith) in
     record {
       linked = record {
@@ -67,14 +69,17 @@ begins_there bytes at (positions.Field stage) goes begins is =
         begun = omega arith;
       };
       unfinished = omega arith;
+      short = omega arith;
     }
 begins_there bytes at (positions.ReadOver o) goes begins is =
     let none_passed = begins.0 in
     let bound = begins.2 in
+    let head = begins.3 in
     record {
       link = λ skipped more count. ap (λ z. message_at (z ++ more)) (append_empty bytes skipped (count ∙ none_passed)) ∙ goes more;
       some = begins.1;
       bound = omega arith;
+      short = omega arith;
     }
 
 pub passed_there : (at : ℕ) (p : Position) → BeginsAt at p → passed_in p ≡ 0
@@ -140,6 +145,7 @@ over_goes n bytes o is few = record {
       ∙ ap (λ k. input_at o.kind k (b ++ more)) left ∙ input_more o.kind (o.left - n) b more;
   some = omega arith;
   bound = omega (arith, is.bound);
+  short = is.short;
 }
 
 -- where bytes pass, nothing is given
@@ -170,3 +176,11 @@ turn_faults n kept piece taken f is fault =
     let all : taken ++ drop n piece ≡ kept ++ piece = rw (is, append_assoc, take-append-drop) refl in
     ap message_at (sym all) ∙ e (drop n piece))
     fault
+
+-- few bytes are kept
+short_there : (bytes : List ℕ) (p : Position) → IsAtPosition bytes p → length bytes < kept_limit
+short_there bytes (positions.Field stage) at = omega (arith, at.unfinished, at.short)
+short_there bytes (positions.ReadOver o) at = omega (arith, at.short)
+
+pub at_short : (p : Progress) → IsAt p → length p.bytes.items < kept_limit
+at_short p at = short_there p.bytes.items p.position at

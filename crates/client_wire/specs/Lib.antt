@@ -5,6 +5,6 @@ pub mod Grammar
 pub mod Plain
 pub mod Message
 pub mod Stream
-pub mod Progress
 pub mod Reader
+pub mod Progress
 pub mod Written

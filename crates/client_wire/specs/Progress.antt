@@ -12,6 +12,7 @@ use Rattle.client_wire.specs.declared.progress.Position.TheVariants as positions
 use Rattle.client_wire.specs.declared.progress.Step.{Step}
 use Rattle.client_wire.specs.declared.progress.Step.TheVariants as steps
 use Rattle.client_wire.specs.declared.progress.Progress.{Progress}
+use Rattle.client_wire.specs.Reader.{kept_limit}
 use Rattle.client_wire.specs.Grammar.{set_pixel_format_at, encodings_at, set_encodings_at, request_at, input_at, cut_text_at, message_at}
 
 -- how many bytes the field has
@@ -53,8 +54,8 @@ follow (steps.Whole m) bytes = Got m bytes
 
 -- the start of a field that has bytes, or of some bytes that are read over, at this place of the message
 abbrev pub BeginsAt : ℕ → Position → Type 0
-BeginsAt at (positions.Field stage) = (start_of stage ≡ at) × (0 < wants_of stage)
-BeginsAt at (positions.ReadOver o) = (o.passed ≡ 0) × (0 < o.left) × (o.left < 2 ^ 32)
+BeginsAt at (positions.Field stage) = (start_of stage ≡ at) × (0 < wants_of stage) × (at + wants_of stage ≤ kept_limit)
+BeginsAt at (positions.ReadOver o) = (o.passed ≡ 0) × (0 < o.left) × (o.left < 2 ^ 32) × (at ≤ 8)
 
 abbrev pub StepBeginsAt : ℕ → Step → Type 0
 StepBeginsAt at (steps.Goes p) = BeginsAt at p
@@ -70,6 +71,7 @@ pub record IsLinked (bytes : List ℕ) (stage : Stage) : Type 0 where
 pub record IsInField (bytes : List ℕ) (stage : Stage) : Type 0 where
   pub linked : IsLinked bytes stage
   pub unfinished : length bytes < start_of stage + wants_of stage
+  pub short : start_of stage + wants_of stage ≤ kept_limit
 
 -- The reader stands in bytes that are read over. Behind what is kept and as many bytes as have passed,
 -- whichever they were, those that are left come to the message's end.
@@ -78,6 +80,7 @@ pub record IsOver (bytes : List ℕ) (o : Over) : Type 0 where
       → message_at ((bytes ++ skipped) ++ more) ≡ input_at o.kind o.left more
   pub some : 0 < o.left
   pub bound : o.passed + o.left < 2 ^ 32
+  pub short : length bytes ≤ 8
 
 -- where the reader stands
 abbrev pub IsAtPosition : List ℕ → Position → Type 0

@@ -4,7 +4,6 @@ use Rattle.std.specs.Prelude.{◌≡◌, ℕ, List, [], ◌∷◌, ◌++◌, len
 use Rattle.std.specs.List.{flat_map, AllByRecursion}
 use Rattle.pixel_format.specs.Reading.{Reading, Got, More, Bad}
 use Rattle.client_wire.specs.declared.fault.WireFault.{WireFault}
-use Rattle.client_wire.specs.declared.message.ClientMessage.{ClientMessage}
 use Rattle.client_wire.specs.Fault.{UnlessMemory}
 
 -- a message in a stream, and its bytes
@@ -74,6 +73,6 @@ pub record Stops {M G : Type 0} (read : List ℕ → Reading M WireFault) (give 
   pub gives : Gives read give old new stream rest
   pub fault : UnlessMemory f (read rest ≡ Bad f)
 
--- a viewer's messages are all given, without their bytes
-abbrev pub itself : ClientMessage → List ℕ → List ClientMessage
+-- of a message, itself is given, without its bytes
+abbrev pub itself : {M : Type 0} → M → List ℕ → List M
 itself m bytes = m ∷ []

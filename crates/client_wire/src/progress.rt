@@ -107,7 +107,7 @@ impl Over {
 }
 
 impl Progress {
-    ghost use Rattle.client_wire.specs.Progress.{wants_of, start_of, passed_in, IsLinked, IsOver, IsAt};
+    ghost use Rattle.client_wire.specs.Progress.{wants_of, start_of, passed_in, IsLinked, IsInField, IsOver, IsAt};
 
     /// A reader at the start of a message.
     pub fn new(alloc: Global) -> Progress
@@ -204,8 +204,7 @@ impl Progress {
         piece: &[u8],
         out: &mut Vec<ClientMessage>,
     ) -> Result<usize, WireFault>
-        requires linked { IsLinked self.old.bytes.items stage }
-        requires unfinished { length self.old.bytes.items < start_of stage + wants_of stage }
+        requires field { IsInField self.old.bytes.items stage }
         requires position { self.old.position ≡ Position.Field stage }
         requires some { 0 < length piece.now }
         ensures taken { IfOk result (λ n. (0 < n) × (n ≤ length piece.now)) }

@@ -1,8 +1,9 @@
 //! The reader of a viewer's stream.
 
-ghost use Rattle.std.specs.Prelude.{◌≡◌, ℕ, List, [], ◌++◌, Option, Some, None, Ok, Err, OnOk, IfErr, OnErr};
+ghost use Rattle.std.specs.Prelude.{◌≡◌, ℕ, List, [], ◌++◌, ◌<◌, length, Option, Some, None, Ok, Err, OnOk, IfErr, OnErr};
 ghost use Rattle.client_wire.specs.declared.fault.WireFault.{WireFault};
 ghost use Rattle.client_wire.specs.Grammar.{message_at};
+ghost use Rattle.client_wire.specs.Reader.{kept_limit};
 ghost use Rattle.client_wire.specs.Stream.{Goes, Stops, FaultOf, StandsFor, itself};
 
 use crate::fault::WireFault;
@@ -71,6 +72,8 @@ impl ClientReader {
             → (result ≡ Err f) × (self.new ≡ self.old) × (out.new.items ≡ out.old.items) }
         ensures emptied { OnErr result (self.old.fault ≡ None
             → (self.new.kept ≡ []) × (self.new.passed ≡ 0)) }
+        // The bytes of an input message are counted, and those of any other are few.
+        ensures short { length self.new.kept < kept_limit }
     {
         if let Some(fault) = self.fault {
             return Err(fault);
