@@ -96,7 +96,8 @@ fn times(color: Color, colors: &[Color]) -> usize {
     colors.iter().filter(|other| **other == color).count()
 }
 
-// Encodes a picture in the host format.
+// Encodes a picture in the host format: no colour is more frequent than the background, and libvncserver would list
+// no fewer subrectangles over it.
 fn compare(rt: &impl Abort, alloc: Global, w: u16, h: u16, picture: &[Color]) -> Result<(), Fail>
     requires { length picture.now ≡ h * w }
 {
