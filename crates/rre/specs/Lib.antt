@@ -5,3 +5,4 @@ pub mod Data
 pub mod Picture
 pub mod Measuring
 pub mod Encoded
+pub mod Frequent

@@ -1,12 +1,14 @@
 //! Which subrectangles an encoder lists.
 
-ghost use Rattle.std.specs.Prelude.{◌≡◌, ◌↔◌, ℕ, ◌+◌, ◌*◌, ◌<◌, ◌≤◌, length, IsTrue, OnOk, IfOk, slice_index, if◌then◌else◌, ◌&&◌, nat_le, nat_lt};
+ghost use Rattle.std.specs.Prelude.{◌≡◌, ◌↔◌, ℕ, ◌+◌, ◌*◌, ◌^◌, ◌<◌, ◌≤◌, length, IsTrue, OnOk, IfOk, slice_index, if◌then◌else◌, ◌&&◌, nat_le, nat_lt};
 ghost use Rattle.rre.specs.Encoded.{nth, rows_of, IsUniform, AreUniform, Reaches, part_picture};
+ghost use Rattle.rre.specs.Frequent.{is_color, count_of, counted};
 ghost use Rattle.pixel_format.specs.Canvas.{Agree};
 
 use crate::data::Subrectangle;
 use pixel_format::{Color, NoMemory};
 use std::alloc::Global;
+use std::collections::BTreeMap;
 
 fn same(one: Color, other: Color) -> bool
     ensures { IsTrue result ↔ (one ≡ other) }
@@ -14,24 +16,59 @@ fn same(one: Color, other: Color) -> bool
     one.r == other.r && one.g == other.g && one.b == other.b
 }
 
-/// The index of a colour that most of the places have, if one colour has more than half of them.
-pub(crate) fn background(colors: &[Color]) -> usize
-    requires { 0 < length colors.now }
-    ensures { result < length colors.now }
+// How often each colour was met, by its channels.
+type Counts = BTreeMap<(u16, u16, u16), usize>;
+
+// Counts a colour so many times more, and answers how often it is counted then.
+fn count_more(counts: &mut Counts, color: Color, more: usize) -> Result<usize, NoMemory>
+    requires { counted counts.old color + more < 2 ^ 64 }
+    ensures total { IfOk result (λ count. count ≡ counted counts.old color + more) }
+    ensures counts { IfOk result (λ count. (other : Color)
+        → counted counts.new other ≡ (if is_color other color then count else counted counts.old other)) }
 {
-    let mut place = 0;
-    let mut votes = 0usize;
-    for k in 0..colors.len() {
-        if votes == 0 {
-            place = k;
-            votes = 1;
-        } else if same(colors[k], colors[place]) {
-            votes += 1;
-        } else {
-            votes -= 1;
-        }
+    let key = (color.r, color.g, color.b);
+    let count = counts.get(&key).copied().unwrap_or(0) + more;
+    counts.insert(key, count)?;
+    Ok(count)
+}
+
+// The end of the run of one colour that begins at a place.
+fn end_of_run(colors: &[Color], start: usize) -> usize
+    requires { start < length colors.now }
+    ensures some { start < result }
+    ensures within { result ≤ length colors.now }
+    ensures same { (k : ℕ) → start ≤ k → k < result → nth colors.now k ≡ nth colors.now start }
+{
+    let color = colors[start];
+    let mut end = start + 1;
+    while end < colors.len() && same(colors[end], color) {
+        end += 1;
     }
-    place
+    end
+}
+
+/// The index of a colour that stands at the most places: no colour stands at more. Each run of one
+/// colour is one look into a map of the colours so far.
+pub(crate) fn background(alloc: Global, colors: &[Color]) -> Result<usize, NoMemory>
+    requires { 0 < length colors.now }
+    ensures within { IfOk result (λ place. place < length colors.now) }
+    ensures frequent { IfOk result (λ place. (color : Color)
+        → count_of color colors.now ≤ count_of (nth colors.now place) colors.now) }
+{
+    let mut counts = BTreeMap::new(alloc);
+    let mut place = 0;
+    let mut most = 0;
+    let mut start = 0;
+    while start < colors.len() {
+        let end = end_of_run(colors, start);
+        let count = count_more(&mut counts, colors[start], end - start)?;
+        if most < count {
+            place = start;
+            most = count;
+        }
+        start = end;
+    }
+    Ok(place)
 }
 
 // Whether so many places of a row, from a column on, have the colour.

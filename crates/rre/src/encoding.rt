@@ -1,30 +1,37 @@
 //! Encoding a rectangle.
 
-ghost use Rattle.std.specs.Prelude.{◌≡◌, ◌*◌, All, OnOk, OnErr, length};
+ghost use Rattle.std.specs.Prelude.{◌≡◌, ◌*◌, ◌≤◌, All, IfOk, OnOk, OnErr, length};
 ghost use Rattle.pixel_format.specs.Pixel.{IsWithin};
 ghost use Rattle.rre.specs.Encoded.{Appends, Shows};
+ghost use Rattle.rre.specs.Frequent.{count_of};
 
 use crate::append::append_data;
 use crate::cover::{background, cover};
 use pixel_format::{Color, NoMemory, PixelFormat};
 use std::alloc::Global;
 
-// The colour of the background: black where there are no places.
-fn background_color(format: &PixelFormat, colors: &[Color]) -> Color
+// The colour of the background, which stands at the most places: black where there are none.
+fn background_color(
+    alloc: Global,
+    format: &PixelFormat,
+    colors: &[Color],
+) -> Result<Color, NoMemory>
     requires { All (IsWithin format.now) colors.now }
-    ensures { IsWithin format.now result }
+    ensures within { IfOk result (IsWithin format.now) }
+    ensures frequent { IfOk result (λ color. (other : Color) → count_of other colors.now ≤ count_of color colors.now) }
 {
     if colors.is_empty() {
-        return Color { r: 0, g: 0, b: 0 };
+        return Ok(Color { r: 0, g: 0, b: 0 });
     }
-    colors[background(colors)]
+    let place = background(alloc, colors)?;
+    Ok(colors[place])
 }
 
 /// Appends data of a rectangle of w by h that has these colours, by rows from the top and each from
-/// the left, in a format to whose maxima they keep (RFC 6143, section 7.7.3). The background is the
-/// colour of more than half of the places, where one is; the subrectangles are as wide, and then as
-/// high, as one colour reaches. It looks at each place a bounded number of times. Want of memory
-/// leaves `bytes` as it was.
+/// the left, in a format to whose maxima they keep (RFC 6143, section 7.7.3). The background is a
+/// colour that stands at the most places; the subrectangles are as wide, and then as high, as one
+/// colour reaches. It looks at each place a bounded number of times. Want of memory leaves `bytes` as
+/// it was.
 pub fn encode(
     alloc: Global,
     format: &PixelFormat,
@@ -38,7 +45,7 @@ pub fn encode(
     ensures ok { OnOk result (Appends (Shows format.now w h colors.now) bytes.old.items bytes.new.items) }
     ensures err { OnErr result (bytes.new.items ≡ bytes.old.items) }
 {
-    let background = background_color(format, colors);
+    let background = background_color(alloc, format, colors)?;
     let parts = cover(alloc, w, h, colors, background)?;
     let start = bytes.len();
     if let Err(fault) = append_data(format, background, &parts, bytes) {

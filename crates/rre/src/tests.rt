@@ -7,6 +7,8 @@ use pixel_format::{Canvas, Color, NoMemory, PixelFormat};
 use std::alloc::Global;
 use std::test::Fail;
 
+mod shortness;
+
 const BLACK: Color = Color { r: 0, g: 0, b: 0 };
 
 const RED: Color = Color { r: 255, g: 0, b: 0 };

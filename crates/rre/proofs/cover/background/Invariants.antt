@@ -1,5 +1,11 @@
-use Rattle.std.proofs.Common.{◌<◌, ◌≤◌, length}
+use Rattle.std.proofs.Common.{◌-◌, length}
+use Rattle.rre.proofs.Frequencies.{IsTally}
 use Rattle.rre.proofs.cover.background.Given as goal
 
-abbrev pub invariant-loop-k : goal.invariant-loop-k
-invariant-loop-k l = record { place : l.place < length l.colors; votes : l.votes ≤ l.k }
+abbrev pub invariant-loop-start : goal.invariant-loop-start
+invariant-loop-start l = record {
+  tally : IsTally l.colors l.counts l.start l.place l.most;
+}
+
+abbrev pub decreases-loop-start : goal.decreases-loop-start
+decreases-loop-start l = length l.colors - l.start

@@ -1,0 +1,13 @@
+use Rattle.std.proofs.Common.{◌≡◌, ℕ, ◌-◌, ◌<◌, ◌≤◌, length}
+use Rattle.rre.specs.Encoded.{nth}
+use Rattle.rre.proofs.cover.end_of_run.Given as goal
+
+abbrev pub invariant-loop-end : goal.invariant-loop-end
+invariant-loop-end l = record {
+  some : l.start < l.end;
+  within : l.end ≤ length l.colors;
+  same : (k : ℕ) → l.start ≤ k → k < l.end → nth l.colors k ≡ l.color;
+}
+
+abbrev pub decreases-loop-end : goal.decreases-loop-end
+decreases-loop-end l = length l.colors - l.end
