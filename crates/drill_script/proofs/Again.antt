@@ -1,11 +1,18 @@
 -- What words say is what they are read as.
-use Rattle.std.proofs.Common.{◌≡◌, ◌≢◌, ℕ, ◌^◌, ◌<◌, true, false, eqb, List, [], ◌∷◌, ◌++◌, length, Some, refl, arith}
+use Rattle.std.proofs.Common.{◌≡◌, ◌≢◌, ℕ, ◌^◌, ◌<◌, true, false, eqb, List, [], ◌∷◌, ◌++◌, length, Some, Ok, refl, sym, ap, ◌∙◌, inl, inr, arith}
 use Rattle.std.specs.Char.{is_ascii_digit, IsAsciiDigit}
 use Rattle.std.specs.List.{AllByRecursion, concat, list_all, list_any}
 use Rattle.std.proofs.lemmas.Bool.{lt-ltb, ne_eqb, or_from}
 use Rattle.std.proofs.lemmas.Bool.Decides.{nat_tests}
-use Rattle.drill_script.specs.Grammar.{Command, NewCommand, HostCommand, TakeCommand, BodyCommand, GateCommand, OpenCommand, PixelCommand, decimal, IsNumber, IsName, IsHex, Says}
-use Rattle.drill_script.specs.Reading.{number_of, number_at, name_at, joined_at, hex_at, kind_by, new_at, host_at, pixel_at, command_at}
+use Rattle.drill_script.specs.Grammar.{Command, NewCommand, HostCommand, TakeCommand, BodyCommand, GateCommand, OpenCommand, PixelCommand, FailCommand, StopCommand, decimal, IsNumber, IsName, IsHex, IsFill, Says}
+use Rattle.drill_script.specs.Reading.{number_of, number_at, name_at, joined_at, hex_at, kind_by, new_at, host_at, pixel_at, fill_of, fill_at, fail_at, stop_at, command_at}
+use Rattle.std.specs.Prelude.{codes}
+use Rattle.std.specs.Str.{bytes_eq}
+use Rattle.std.proofs.lemmas.Bool.{cases_Bool}
+use Rattle.std.proofs.lemmas.Slice.Eq.{bytes_eq-Decides}
+use Rattle.hex.specs.Hex.{decode_sized}
+use Rattle.drill_script.specs.declared.line.Fill.{Fill}
+use Rattle.drill_script.specs.declared.line.Fill.TheVariants as fills
 use Rattle.drill_script.proofs.Taken.{AreSome}
 
 digits_pass : (word : List ℕ) → AllByRecursion IsAsciiDigit word → list_all is_ascii_digit word ≡ true
@@ -64,6 +71,32 @@ unfolding pixel_at
 pixel_again n column row count x y a b d =
     rw (number_again (2 ^ 64) n count (column ∷ row ∷ []) a, number_again (2 ^ 16) column x (row ∷ []) b, number_again (2 ^ 16) row y [] d) refl
 
+other_name : (word name : List ℕ) (byte : ℕ) → (decode_sized name 1 ≡ Ok (byte ∷ []) → ⊥) → decode_sized word 1 ≡ Ok (byte ∷ []) → bytes_eq word name ≡ false
+other_name word name byte never spelled = elim (cases_Bool (bytes_eq word name)) [
+  | inl is ↦ absurd (never (ap (λ w. decode_sized w 1) (sym ((bytes_eq-Decides word name).0 is)) ∙ spelled))
+  | inr other ↦ other
+]
+
+fill_named : (word : List ℕ) (fill : Fill) → IsFill word fill → fill_of word ≡ Some fill
+unfolding fill_of
+fill_named word fills.Held is = rw is refl
+fill_named word fills.Now is = rw is refl
+fill_named word (fills.Byte byte) is =
+    rw (other_name word (codes "held") byte (λ e. absurd cc) is, other_name word (codes "now") byte (λ e. absurd cc) is, is) refl
+
+fill_again : (word : List ℕ) (fill : Fill) (rest : List (List ℕ)) → word ≢ [] → IsFill word fill → fill_at (word ∷ rest) ≡ Some (fill, rest)
+unfolding fill_at
+fill_again [] fill rest some is = absurd (some refl)
+fill_again (c ∷ cs) fill rest some is = rw (fill_named (c ∷ cs) fill is) refl
+
+fail_again : (n : List ℕ) (calls : ℕ) → IsNumber (2 ^ 64) n calls → fail_at (n ∷ []) ≡ Some (FailCommand calls, [])
+unfolding fail_at
+fail_again n calls a = rw (number_again (2 ^ 64) n calls [] a) refl
+
+stop_again : (n f : List ℕ) (calls : ℕ) (fill : Fill) → IsNumber (2 ^ 64) n calls → f ≢ [] → IsFill f fill → stop_at (n ∷ f ∷ []) ≡ Some (StopCommand calls fill, [])
+unfolding stop_at
+stop_again n f calls fill a some b = rw (number_again (2 ^ 64) n calls (f ∷ []) a, fill_again f fill [] some b) refl
+
 -- the words say one command, as which they are read
 pub command_again : (words : List (List ℕ)) (command : Command) → AreSome words → Says words command → command_at words ≡ Some command
 unfolding command_at kind_by
@@ -78,3 +111,7 @@ command_again words BodyCommand some says = rw says refl
 command_again words GateCommand some says = rw says refl
 command_again words OpenCommand some says = rw says refl
 command_again words (PixelCommand count x y) some says = rw says.3 (rw (pixel_again says.0 says.1 says.2 count x y says.4 says.5 says.6) refl)
+command_again words (FailCommand calls) some says = rw says.1 (rw (fail_again says.0 calls says.2) refl)
+command_again words (StopCommand calls fill) some says =
+    let all = rw says.2 at some in
+    rw says.2 (rw (stop_again says.0 says.1 calls fill says.3 all.1.1.0 says.4) refl)

@@ -8,12 +8,14 @@ use Rattle.std.proofs.lemmas.Bool.{and_parts, or_parts, ltb-true, eqb-false}
 use Rattle.std.proofs.lemmas.Bool.Decides.{nat_tests}
 use Rattle.std.proofs.lemmas.Option.{option_and_then_some, some_pair_parts, same_Some}
 use Rattle.std.proofs.lemmas.Slice.Eq.{bytes_eq-Decides}
-use Rattle.hex.specs.Hex.{decode_of}
+use Rattle.hex.specs.Hex.{decode_of, decode_sized}
+use Rattle.drill_script.specs.declared.line.Fill.{Fill}
+use Rattle.drill_script.specs.declared.line.Fill.TheVariants as fills
 use Rattle.hex.specs.declared.error.FromHexError.{FromHexError}
 use Rattle.drill_script.specs.declared.words.Kind.{Kind}
 use Rattle.drill_script.specs.declared.words.Kind.TheVariants as kind
-use Rattle.drill_script.specs.Grammar.{Command, NewCommand, HostCommand, TakeCommand, BodyCommand, GateCommand, OpenCommand, PixelCommand, decimal, IsNumber, IsName, IsHex, Says}
-use Rattle.drill_script.specs.Reading.{◌>>=◌, word_at, number_of, number_at, name_at, joined_at, spelled_by, hex_at, kind_by, new_at, host_at, pixel_at, rest_at, ended, command_at}
+use Rattle.drill_script.specs.Grammar.{Command, NewCommand, HostCommand, TakeCommand, BodyCommand, GateCommand, OpenCommand, PixelCommand, FailCommand, StopCommand, decimal, IsNumber, IsName, IsHex, IsFill, Says}
+use Rattle.drill_script.specs.Reading.{◌>>=◌, word_at, number_of, number_at, name_at, joined_at, spelled_by, hex_at, kind_by, new_at, host_at, pixel_at, byte_told, fill_of, fill_at, fail_at, stop_at, rest_at, ended, command_at}
 use Rattle.drill_script.proofs.Steps.{bind_some, test_some, test_none, chosen}
 
 -- no word is empty
@@ -135,6 +137,44 @@ hex_takes words x e =
       some = j.some;
     }
 
+-- ---- fills
+
+byte_is : (word : List ℕ) (r : Result (List ℕ) FromHexError) (fill : Fill) → decode_sized word 1 ≡ r → byte_told r ≡ Some fill → IsFill word fill
+byte_is word (Ok []) fill e told = absurd cc
+byte_is word (Ok (byte ∷ [])) fill e told = subst (λ f. IsFill word f) (same_Some (fills.Byte byte) fill told) e
+byte_is word (Ok (byte ∷ next ∷ rest)) fill e told = absurd cc
+byte_is word (Err fault) fill e told = absurd cc
+
+name_is : (word name : List ℕ) (it fill : Fill) → (word ≡ name → IsFill word it) → bytes_eq word name ≡ true → Some it ≡ Some fill → IsFill word fill
+name_is word name it fill named test same = subst (λ f. IsFill word f) (same_Some it fill same) (named ((bytes_eq-Decides word name).0 test))
+
+fill_is : (word : List ℕ) (fill : Fill) → fill_of word ≡ Some fill → IsFill word fill
+unfolding fill_of
+fill_is word fill e =
+    chosen (IsFill word fill) (bytes_eq word (codes "held")) (Some fills.Held) _ (Some fill) e (name_is word (codes "held") fills.Held fill (λ is. is))
+    (λ _ other. chosen (IsFill word fill) (bytes_eq word (codes "now")) (Some fills.Now) _ (Some fill) other (name_is word (codes "now") fills.Now fill (λ is. is))
+    (λ _ last. byte_is word (decode_sized word 1) fill refl last))
+
+pub record TakesFill (words : List (List ℕ)) (x : Fill × List (List ℕ)) : Type 0 where
+  pub word : List ℕ
+  pub first : words ≡ word ∷ x.1
+  pub some : word ≢ []
+  pub fill : IsFill word x.0
+
+fill_takes : (words : List (List ℕ)) (x : Fill × List (List ℕ)) → fill_at words ≡ Some x → TakesFill words x
+unfolding fill_at
+fill_takes words x e =
+    let a = bind_some (word_at words) (λ word. fill_of word.0 >>= λ fill. Some (fill, word.1)) x e in
+    let b = bind_some (fill_of a.0.0) (λ fill. Some (fill, a.0.1)) x a.2 in
+    let parts = some_pair_parts b.0 x.0 a.0.1 x.1 b.2 in
+    let w = word_takes words a.0 a.1 in
+    record {
+      word = a.0.0;
+      first = w.0 ∙ ap (λ (r : List (List ℕ)). a.0.0 ∷ r) parts.1;
+      some = w.1;
+      fill = subst (λ (f : Fill). IsFill a.0.0 f) parts.0 (fill_is a.0.0 b.0 b.1);
+    }
+
 -- ---- the first word
 
 -- what a line of a kind begins with
@@ -146,6 +186,8 @@ keyword kind.Body = codes "body"
 keyword kind.Gate = codes "gate"
 keyword kind.Open = codes "open"
 keyword kind.Pixel = codes "pixel"
+keyword kind.Fail = codes "fail"
+keyword kind.Stop = codes "stop"
 
 named : (word : List ℕ) (it kind : Kind) → bytes_eq word (keyword it) ≡ true → Some it ≡ Some kind → word ≡ keyword kind
 named word it kind test e = (bytes_eq-Decides word (keyword it)).0 test ∙ ap keyword (same_Some it kind e)
@@ -161,7 +203,7 @@ one_named (it ∷ others) word kind e =
 
 pub kind_named : (word : List ℕ) (it : Kind) → kind_by word ≡ Some it → word ≡ keyword it
 unfolding kind_by
-kind_named word it e = one_named (kind.New ∷ kind.Host ∷ kind.Take ∷ kind.Body ∷ kind.Gate ∷ kind.Open ∷ kind.Pixel ∷ []) word it e
+kind_named word it e = one_named (kind.New ∷ kind.Host ∷ kind.Take ∷ kind.Body ∷ kind.Gate ∷ kind.Open ∷ kind.Pixel ∷ kind.Fail ∷ kind.Stop ∷ []) word it e
 
 -- ---- the rest of a line
 
@@ -230,6 +272,26 @@ pixel_told words x e none =
     told_at (codes "pixel") words (n.word ∷ c.word ∷ r.word ∷ []) (PixelCommand count.0 column.0 row.0) x.0 all said.0
     (pixel_tells n.word c.word r.word count.0 column.0 row.0 n.number c.number r.number))))
 
+fail_told : (words : List (List ℕ)) (x : Command × List (List ℕ)) → fail_at words ≡ Some x → x.1 ≡ [] → Told (codes "fail" ∷ words) x.0
+unfolding fail_at
+fail_told words x e none =
+    option_and_then_some (λ calls. Some (FailCommand calls.0, calls.1)) (number_at (2 ^ 64) words) x e (λ calls is_calls e_said.
+    let n = number_takes (2 ^ 64) words calls is_calls in
+    let said = some_pair_parts (FailCommand calls.0) x.0 calls.1 x.1 e_said in
+    told_at (codes "fail") words (n.word ∷ []) (FailCommand calls.0) x.0 (then_words n.word n.first (said.1 ∙ none)) said.0
+    ((n.word, refl, n.number), (λ empty. absurd cc, (n.number.some, tt))))
+
+stop_told : (words : List (List ℕ)) (x : Command × List (List ℕ)) → stop_at words ≡ Some x → x.1 ≡ [] → Told (codes "stop" ∷ words) x.0
+unfolding stop_at
+stop_told words x e none =
+    option_and_then_some (λ calls. fill_at calls.1 >>= λ fill. Some (StopCommand calls.0 fill.0, fill.1)) (number_at (2 ^ 64) words) x e (λ calls is_calls e_fill.
+    option_and_then_some (λ fill. Some (StopCommand calls.0 fill.0, fill.1)) (fill_at calls.1) x e_fill (λ fill is_fill e_said.
+    let n = number_takes (2 ^ 64) words calls is_calls in
+    let f = fill_takes calls.1 fill is_fill in
+    let said = some_pair_parts (StopCommand calls.0 fill.0) x.0 fill.1 x.1 e_said in
+    told_at (codes "stop") words (n.word ∷ f.word ∷ []) (StopCommand calls.0 fill.0) x.0 (then_words n.word n.first (then_words f.word f.first (said.1 ∙ none))) said.0
+    ((n.word, f.word, refl, n.number, f.fill), (λ empty. absurd cc, (n.number.some, (f.some, tt))))))
+
 bare_told : (word : List ℕ) (said : Command) (words : List (List ℕ)) (x : Command × List (List ℕ)) → word ≢ [] → Says (word ∷ []) said → Some (said, words) ≡ Some x → x.1 ≡ []
     → Told (word ∷ words) x.0
 bare_told word said words x some says e none =
@@ -244,6 +306,8 @@ rest_told kind.Body words x e none = bare_told (codes "body") BodyCommand words 
 rest_told kind.Gate words x e none = bare_told (codes "gate") GateCommand words x (λ empty. absurd cc) refl e none
 rest_told kind.Open words x e none = bare_told (codes "open") OpenCommand words x (λ empty. absurd cc) refl e none
 rest_told kind.Pixel words x e none = pixel_told words x e none
+rest_told kind.Fail words x e none = fail_told words x e none
+rest_told kind.Stop words x e none = stop_told words x e none
 
 -- what a line is read as is what its words say
 pub command_told : (words : List (List ℕ)) (command : Command) → command_at words ≡ Some command → Told words command

@@ -2,7 +2,9 @@
 use Rattle.std.specs.Prelude.{◌≡◌, ◌≢◌, ◌⊎◌, ℕ, ◌+◌, ◌-◌, ◌*◌, ◌^◌, ◌<◌, ◌==◌, List, [], ◌∷◌, length, codes, Ok}
 use Rattle.std.specs.List.{AllByRecursion, before_first, concat, join_with_byte}
 use Rattle.std.specs.Char.{IsAsciiDigit}
-use Rattle.hex.specs.Hex.{decode_of}
+use Rattle.hex.specs.Hex.{decode_of, decode_sized}
+use Rattle.drill_script.specs.declared.line.Fill.{Fill}
+use Rattle.drill_script.specs.declared.line.Fill.TheVariants as fill
 use Rattle.drill_script.specs.declared.line.Line.{Line}
 use Rattle.drill_script.specs.declared.line.Line.TheVariants as line
 
@@ -15,6 +17,8 @@ pub data Command : Type 0 where
   GateCommand : Command
   OpenCommand : Command
   PixelCommand : (count x y : ℕ) → Command
+  FailCommand : (calls : ℕ) → Command
+  StopCommand : (calls : ℕ) (fill : Fill) → Command
 
 -- what a line that was read says
 abbrev pub command_of : Line → Command
@@ -25,6 +29,8 @@ command_of line.Body = BodyCommand
 command_of line.Gate = GateCommand
 command_of line.Open = OpenCommand
 command_of (line.Pixel count x y) = PixelCommand count x y
+command_of (line.Fail calls) = FailCommand calls
+command_of (line.Stop calls fill) = StopCommand calls fill
 
 -- a word: one byte or more, and no space
 abbrev pub IsWord : List ℕ → Type 0
@@ -57,6 +63,12 @@ pub record IsHex (words : List (List ℕ)) (bytes : List ℕ) : Type 0 where
   pub some : words ≢ []
   pub spelled : decode_of (concat words) ≡ Ok bytes
 
+-- the name of a fill, or two hexadecimal digits, which spell the byte
+abbrev pub IsFill : List ℕ → Fill → Type 0
+IsFill word fill.Held = word ≡ codes "held"
+IsFill word fill.Now = word ≡ codes "now"
+IsFill word (fill.Byte byte) = decode_sized word 1 ≡ Ok (byte ∷ [])
+
 -- the words say the command
 abbrev pub Says : List (List ℕ) → Command → Type 0
 Says words (NewCommand width height key_interval name) =
@@ -71,6 +83,9 @@ Says words OpenCommand = words ≡ codes "open" ∷ []
 Says words (PixelCommand count x y) =
     (n : List ℕ) × (column : List ℕ) × (row : List ℕ) × (words ≡ codes "pixel" ∷ n ∷ column ∷ row ∷ [])
     × IsNumber (2 ^ 64) n count × IsNumber (2 ^ 16) column x × IsNumber (2 ^ 16) row y
+Says words (FailCommand calls) = (n : List ℕ) × (words ≡ codes "fail" ∷ n ∷ []) × IsNumber (2 ^ 64) n calls
+Says words (StopCommand calls fill) =
+    (n : List ℕ) × (f : List ℕ) × (words ≡ codes "stop" ∷ n ∷ f ∷ []) × IsNumber (2 ^ 64) n calls × IsFill f fill
 
 -- the text spells the command: its words say it
 abbrev pub Spells : List ℕ → Command → Type 0

@@ -3,14 +3,16 @@ use Rattle.std.specs.Prelude.{◌≡◌, ℕ, ◌^◌, ◌==◌, ◌&&◌, nat_l
 use Rattle.std.specs.List.{slice_split, list_all, list_any}
 use Rattle.std.specs.Char.{is_ascii_digit}
 use Rattle.std.specs.Str.{bytes_eq}
-use Rattle.hex.specs.Hex.{decode_of}
+use Rattle.hex.specs.Hex.{decode_of, decode_sized}
 use Rattle.hex.specs.declared.error.FromHexError.{FromHexError}
 use Rattle.drill_script.specs.declared.fault.LineFault.{LineFault}
 use Rattle.drill_script.specs.declared.fault.LineFault.TheVariants.{Bad, NoMemory}
 use Rattle.drill_script.specs.declared.words.Kind.{Kind}
 use Rattle.drill_script.specs.declared.words.Kind.TheVariants as kind
+use Rattle.drill_script.specs.declared.line.Fill.{Fill}
+use Rattle.drill_script.specs.declared.line.Fill.TheVariants as fills
 use Rattle.drill_script.specs.declared.line.Line.{Line}
-use Rattle.drill_script.specs.Grammar.{Command, command_of, NewCommand, HostCommand, TakeCommand, BodyCommand, GateCommand, OpenCommand, PixelCommand, decimal}
+use Rattle.drill_script.specs.Grammar.{Command, command_of, NewCommand, HostCommand, TakeCommand, BodyCommand, GateCommand, OpenCommand, PixelCommand, FailCommand, StopCommand, decimal}
 
 -- What a call that takes no memory answered, seen by view, and the words that it left, are what reading gives.
 abbrev pub Reads : {A B : Type 0} → (A → B) → Result A LineFault → List (List ℕ) → Option (B × List (List ℕ)) → Type 0
@@ -93,6 +95,8 @@ kind_by word =
     else if bytes_eq word (codes "gate") then Some kind.Gate
     else if bytes_eq word (codes "open") then Some kind.Open
     else if bytes_eq word (codes "pixel") then Some kind.Pixel
+    else if bytes_eq word (codes "fail") then Some kind.Fail
+    else if bytes_eq word (codes "stop") then Some kind.Stop
     else None
 
 -- what follows `new`
@@ -119,6 +123,40 @@ pixel_at words = do
   y ← number_at (2 ^ 16) x.1
   Some (PixelCommand count.0 x.0 y.0, y.1)
 
+-- the byte that decoding into room for one byte gave, if it gave any
+abbrev pub byte_told : Result (List ℕ) FromHexError → Option Fill
+byte_told (Ok []) = None
+byte_told (Ok (byte ∷ [])) = Some (fills.Byte byte)
+byte_told (Ok (byte ∷ next ∷ rest)) = None
+byte_told (Err fault) = None
+
+-- the fill that a word names
+unfoldable pub fill_of : List ℕ → Option Fill
+fill_of word =
+    if bytes_eq word (codes "held") then Some fills.Held
+    else if bytes_eq word (codes "now") then Some fills.Now
+    else byte_told (decode_sized word 1)
+
+-- the next word, a fill
+unfoldable pub fill_at : List (List ℕ) → Option (Fill × List (List ℕ))
+fill_at words = do
+  word ← word_at words
+  fill ← fill_of word.0
+  Some (fill, word.1)
+
+-- what follows `fail`
+unfoldable pub fail_at : List (List ℕ) → Option (Command × List (List ℕ))
+fail_at words = do
+  calls ← number_at (2 ^ 64) words
+  Some (FailCommand calls.0, calls.1)
+
+-- what follows `stop`
+unfoldable pub stop_at : List (List ℕ) → Option (Command × List (List ℕ))
+stop_at words = do
+  calls ← number_at (2 ^ 64) words
+  fill ← fill_at calls.1
+  Some (StopCommand calls.0 fill.0, fill.1)
+
 -- what follows a line's first word, and the words that it leaves
 abbrev pub rest_at : Kind → List (List ℕ) → Option (Command × List (List ℕ))
 rest_at kind.New words = new_at words
@@ -128,6 +166,8 @@ rest_at kind.Body words = Some (BodyCommand, words)
 rest_at kind.Gate words = Some (GateCommand, words)
 rest_at kind.Open words = Some (OpenCommand, words)
 rest_at kind.Pixel words = pixel_at words
+rest_at kind.Fail words = fail_at words
+rest_at kind.Stop words = stop_at words
 
 -- a line of this kind takes memory
 abbrev pub KindTakesMemory : Kind → Type 0
@@ -138,6 +178,8 @@ KindTakesMemory kind.Body = ⊥
 KindTakesMemory kind.Gate = ⊥
 KindTakesMemory kind.Open = ⊥
 KindTakesMemory kind.Pixel = ⊥
+KindTakesMemory kind.Fail = ⊥
+KindTakesMemory kind.Stop = ⊥
 
 -- a whole line leaves no word
 abbrev pub ended : Command × List (List ℕ) → Option Command

@@ -1,5 +1,16 @@
 //! What a line says.
 
+/// What a stop leaves of the bytes that were not synced.
+#[derive(Clone, Copy, Debug, PartialEq, Eq)]
+pub enum Fill {
+    /// `held`: the bytes of the last sync.
+    Held,
+    /// `now`: the bytes as they were written.
+    Now,
+    /// Two hexadecimal digits: this byte at each place that was written since the last sync.
+    Byte(u8),
+}
+
 /// A line of a drill script.
 #[derive(Debug, PartialEq, Eq, Drop)]
 pub enum Line {
@@ -23,6 +34,16 @@ pub enum Line {
     Gate,
     /// `open`: the recording is closed and opened again.
     Open,
+    /// `fail N`: the device call after N more fails, once.
+    Fail {
+        calls: u64,
+    },
+    /// `stop N FILL`: N more device calls pass, and then all fail. The next `open` finds what FILL
+    /// leaves.
+    Stop {
+        calls: u64,
+        fill: Fill,
+    },
     /// `pixel N X Y`: the colour at (X, Y) after N messages.
     Pixel {
         count: u64,

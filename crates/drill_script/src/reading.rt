@@ -3,11 +3,12 @@
 ghost use Rattle.std.specs.Prelude.{◌≡◌, ◌==◌, ◌^◌, ℕ, List, IfOk};
 ghost use Rattle.std.specs.Char.{is_ascii_digit};
 ghost use Rattle.std.specs.List.{list_all, list_any};
+ghost use Rattle.hex.specs.Hex.{decode_sized};
 ghost use Rattle.drill_script.specs.Grammar.{Command, command_of, Spells, TakesMemory};
-ghost use Rattle.drill_script.specs.Reading.{parts, Reads, ReadsInMemory, GivesLine, KindTakesMemory, command_at, number_of, number_at, name_at, joined_at, hex_at, new_at, host_at, pixel_at, rest_at};
+ghost use Rattle.drill_script.specs.Reading.{parts, Reads, ReadsInMemory, GivesLine, KindTakesMemory, command_at, number_of, number_at, name_at, joined_at, hex_at, new_at, host_at, pixel_at, byte_told, fill_of, fill_at, fail_at, stop_at, rest_at};
 
 use crate::fault::LineFault;
-use crate::line::Line;
+use crate::line::{Fill, Line};
 use crate::words::{Kind, Words, kind_of};
 use std::alloc::Global;
 
@@ -123,6 +124,53 @@ fn pixel_line(words: &mut Words) -> Result<Line, LineFault>
     Ok(Line::Pixel { count, x, y })
 }
 
+// The byte that two hexadecimal digits spell.
+fn fill_byte(word: &[u8]) -> Option<Fill>
+    ensures { result ≡ byte_told (decode_sized word.now 1) }
+{
+    let mut byte = [0; 1];
+    match hex::decode_to_slice(word, &mut byte) {
+        Ok(()) => Some(Fill::Byte(byte[0])),
+        Err(_) => None,
+    }
+}
+
+// The fill that a word names.
+#[tactic(auto, unfolding(crate::specs::Reading::fill_of))]
+fn named_fill(word: &[u8]) -> Option<Fill>
+    ensures { result ≡ fill_of word.now }
+{
+    match word {
+        b"held" => Some(Fill::Held),
+        b"now" => Some(Fill::Now),
+        _ => fill_byte(word),
+    }
+}
+
+#[tactic(auto, unfolding(crate::specs::Reading::fill_at))]
+fn fill_word(words: &mut Words) -> Result<Fill, LineFault>
+    ensures { Reads (λ fill. fill) result words.new (fill_at words.old) }
+{
+    named_fill(words.word()?).ok_or(LineFault::Bad)
+}
+
+#[tactic(auto, unfolding(crate::specs::Reading::fail_at))]
+fn fail_line(words: &mut Words) -> Result<Line, LineFault>
+    ensures { Reads command_of result words.new (fail_at words.old) }
+{
+    let calls = u64_word(words)?;
+    Ok(Line::Fail { calls })
+}
+
+#[tactic(auto, unfolding(crate::specs::Reading::stop_at))]
+fn stop_line(words: &mut Words) -> Result<Line, LineFault>
+    ensures { Reads command_of result words.new (stop_at words.old) }
+{
+    let calls = u64_word(words)?;
+    let fill = fill_word(words)?;
+    Ok(Line::Stop { calls, fill })
+}
+
 fn rest_of_line(alloc: Global, kind: Kind, words: &mut Words) -> Result<Line, LineFault>
     ensures read { ReadsInMemory command_of result words.new (rest_at kind words.old) }
     ensures memory { result ≡ Err LineFault.NoMemory → KindTakesMemory kind }
@@ -135,6 +183,8 @@ fn rest_of_line(alloc: Global, kind: Kind, words: &mut Words) -> Result<Line, Li
         Kind::Gate => Ok(Line::Gate),
         Kind::Open => Ok(Line::Open),
         Kind::Pixel => pixel_line(words),
+        Kind::Fail => fail_line(words),
+        Kind::Stop => stop_line(words),
     }
 }
 

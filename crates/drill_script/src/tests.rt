@@ -33,6 +33,20 @@ fn each_kind_of_line(rt: HostRuntime) -> Result<(), Fail> {
             y: 0
         })
     );
+    assert_eq!(rt;
+        read_line(rt.alloc(), b"fail 3"),
+        Ok(Line::Fail { calls: 3 })
+    );
+    let stops: [(&[u8], Fill); 4] = [
+        (b"stop 9 held", Fill::Held),
+        (b"stop 9 now", Fill::Now),
+        (b"stop 9 4f", Fill::Byte(0x4f)),
+        (b"stop 9 F0", Fill::Byte(0xf0)),
+    ];
+    for (text, fill) in stops {
+        let stop = Line::Stop { calls: 9, fill };
+        assert_eq!(rt; read_line(rt.alloc(), text), Ok(stop));
+    }
     spells_one_line();
     Ok(())
 }
@@ -54,7 +68,7 @@ fn names_of_any_bytes(rt: HostRuntime) -> Result<(), Fail> {
 
 #[test]
 fn texts_that_are_no_line(rt: HostRuntime) {
-    let texts: [&[u8]; 22] = [
+    let texts: [&[u8]; 30] = [
         b"",
         b" ",
         b"shut",
@@ -77,6 +91,14 @@ fn texts_that_are_no_line(rt: HostRuntime) {
         b"pixel 18446744073709551616 0 0",
         b"pixel 0 0 65536",
         b"pixel 0 -1 0",
+        b"fail",
+        b"fail 18446744073709551616",
+        b"fail 0 0",
+        b"stop 1",
+        b"stop 1 4",
+        b"stop 1 4g",
+        b"stop 1 004f",
+        b"stop 1 Held",
     ];
     for text in texts {
         assert_eq!(rt;

@@ -17,6 +17,8 @@ pub(crate) enum Kind {
     Gate,
     Open,
     Pixel,
+    Fail,
+    Stop,
 }
 
 // The kind of line that begins with a word.
@@ -32,6 +34,8 @@ pub(crate) fn kind_of(word: &[u8]) -> Option<Kind>
         b"gate" => Some(Kind::Gate),
         b"open" => Some(Kind::Open),
         b"pixel" => Some(Kind::Pixel),
+        b"fail" => Some(Kind::Fail),
+        b"stop" => Some(Kind::Stop),
         _ => None,
     }
 }

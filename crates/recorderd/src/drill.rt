@@ -1,11 +1,11 @@
-// A drill: a script's lines, run over one memory disk.
+// A drill: a script's lines, run over one disk in memory, which fails when the script says so.
 
 use crate::answer::Answer;
 use crate::book::PlainBook;
 use crate::reading::BookFault;
 use crate::steps;
-use disk::MemoryDisk;
-use drill_script::{Line, LineFault, read_line};
+use disk::{FailingDisk, FusedDisk, MemoryDisk, Switch};
+use drill_script::{Fill, Line, LineFault, read_line};
 use gated_journal::{Header, Refused};
 use std::alloc::{AllocError, Global};
 use std::io::{BufRead, BufReader, Read, Write};
@@ -15,58 +15,89 @@ use std::{io, mem};
 #[derive(Drop)]
 enum Bench {
     Empty,
-    Disk(MemoryDisk),
-    Book(PlainBook<MemoryDisk>),
+    Disk(FusedDisk),
+    Book(PlainBook<FusedDisk>),
 }
+
+/// A book that is opened again, or why it isn't.
+type Reopened = Result<PlainBook<FusedDisk>, Refused<FusedDisk, BookFault>>;
 
 /// The state of a run between two lines.
 #[derive(Drop)]
 struct Drill {
     alloc: Global,
+    switch: Switch,
+    /// What the last `stop` leaves.
+    stop: Option<Fill>,
     bench: Bench,
 }
 
 impl Drill {
+    // A disk that works until the switch is armed.
+    fn armed(&self, disk: MemoryDisk) -> Result<FusedDisk, AllocError> {
+        let failing = FailingDisk::new(disk, self.switch.clone()?);
+        Ok(FusedDisk::new(failing, self.switch.clone()?))
+    }
+
     // A second `new` begins again with an empty disk.
-    fn start(&mut self, width: u16, height: u16, key_interval: u16, name: &[u8]) -> Answer {
-        let disk = MemoryDisk::new(self.alloc);
+    fn start(
+        &mut self,
+        width: u16,
+        height: u16,
+        key_interval: u16,
+        name: &[u8],
+    ) -> Result<Answer, AllocError> {
+        self.switch.disarm();
+        self.stop = None;
+        let disk = self.armed(MemoryDisk::new(self.alloc))?;
         let header = match Header::new(self.alloc, width, height, key_interval, name) {
             Ok(header) => header,
             Err(fault) => {
                 self.bench = Bench::Disk(disk);
-                return Answer::HeaderRefused(fault.number());
+                return Ok(Answer::HeaderRefused(fault.number()));
             }
         };
         match PlainBook::create(self.alloc, disk, header) {
             Ok(book) => {
                 self.bench = Bench::Book(book);
-                Answer::Recording {
+                Ok(Answer::Recording {
                     width,
                     height,
                     key_interval,
-                }
+                })
             }
             Err(refused) => {
                 self.bench = Bench::Disk(refused.disk);
-                Answer::CreateRefused(refused.fault.number())
+                Ok(Answer::CreateRefused(refused.fault.number()))
             }
         }
     }
 
-    // Ends the book, and opens what its disk holds.
-    fn open(&mut self) -> Answer {
-        let opened = match mem::replace(&mut self.bench, Bench::Empty) {
-            Bench::Empty => return Answer::Bad,
-            Bench::Disk(disk) => PlainBook::open(self.alloc, disk),
-            Bench::Book(book) => book.reopened(),
+    // Ends the book, and opens what its disk holds: after a stop, what the stop leaves.
+    fn open(&mut self) -> Result<Answer, AllocError> {
+        self.switch.disarm();
+        let stop = self.stop.take();
+        let opened = match (mem::replace(&mut self.bench, Bench::Empty), stop) {
+            (Bench::Empty, _) => return Ok(Answer::Bad),
+            (Bench::Disk(disk), None) => PlainBook::open(self.alloc, disk),
+            (Bench::Book(book), None) => book.reopened(),
+            (Bench::Disk(disk), Some(fill)) => self.recovered(disk, fill)?,
+            (Bench::Book(book), Some(fill)) => self.recovered(book.close(), fill)?,
         };
-        self.keep(opened)
+        Ok(self.keep(opened))
     }
 
-    fn keep(
-        &mut self,
-        opened: Result<PlainBook<MemoryDisk>, Refused<MemoryDisk, BookFault>>,
-    ) -> Answer {
+    // Opens what a stopped disk leaves.
+    fn recovered(&self, disk: FusedDisk, fill: Fill) -> Result<Reopened, AllocError> {
+        let left = match fill {
+            Fill::Held => disk::Fill::Held,
+            Fill::Now => disk::Fill::Now,
+            Fill::Byte(byte) => disk::Fill::Byte(byte),
+        };
+        Ok(PlainBook::open(self.alloc, self.armed(disk.left(left))?))
+    }
+
+    fn keep(&mut self, opened: Reopened) -> Answer {
         match opened {
             Ok(book) => {
                 let committed = book.committed();
@@ -80,9 +111,9 @@ impl Drill {
         }
     }
 
-    fn answer(&mut self, line: Line) -> Answer {
+    fn answer(&mut self, line: Line) -> Result<Answer, AllocError> {
         let alloc = self.alloc;
-        match (line, &mut self.bench) {
+        let answer = match (line, &mut self.bench) {
             (
                 Line::New {
                     width,
@@ -91,8 +122,8 @@ impl Drill {
                     name,
                 },
                 _,
-            ) => self.start(width, height, key_interval, &name),
-            (Line::Open, _) => self.open(),
+            ) => self.start(width, height, key_interval, &name)?,
+            (Line::Open, _) => self.open()?,
             (Line::Host { time, bytes }, Bench::Book(book)) => {
                 steps::host(alloc, book, time, &bytes)
             }
@@ -100,8 +131,18 @@ impl Drill {
             (Line::Body, Bench::Book(book)) => steps::body(book),
             (Line::Gate, Bench::Book(book)) => steps::gate(book),
             (Line::Pixel { count, x, y }, Bench::Book(book)) => steps::pixel(book, count, x, y),
+            (Line::Fail { calls }, Bench::Book(_)) => {
+                self.switch.fail_after(calls);
+                Answer::Set
+            }
+            (Line::Stop { calls, fill }, Bench::Book(_)) => {
+                self.switch.stop_after(calls);
+                self.stop = Some(fill);
+                Answer::Set
+            }
             (_, Bench::Empty | Bench::Disk(_)) => Answer::Bad,
-        }
+        };
+        Ok(answer)
     }
 }
 
@@ -111,6 +152,8 @@ pub fn run<I: Read + Drop, O: Write>(alloc: Global, input: I, out: &mut O) -> io
     let mut input = BufReader::new(alloc, input)?;
     let mut drill = Drill {
         alloc,
+        switch: Switch::new(alloc)?,
+        stop: None,
         bench: Bench::Empty,
     };
     let mut text = Vec::new(alloc);
@@ -126,7 +169,7 @@ pub fn run<I: Read + Drop, O: Write>(alloc: Global, input: I, out: &mut O) -> io
             continue;
         }
         let answer = match read_line(alloc, &text) {
-            Ok(line) => drill.answer(line),
+            Ok(line) => drill.answer(line)?,
             Err(LineFault::Bad) => Answer::Bad,
             Err(LineFault::NoMemory) => return Err(AllocError.into()),
         };

@@ -2,12 +2,12 @@
 
 use crate::answer::Answer;
 use crate::book::PlainBook;
-use disk::MemoryDisk;
+use disk::FusedDisk;
 use rfb_wire::HostMessage;
 use std::alloc::Global;
 
 /// `host T HEX`.
-pub fn host(alloc: Global, book: &mut PlainBook<MemoryDisk>, time: u32, bytes: &[u8]) -> Answer {
+pub fn host(alloc: Global, book: &mut PlainBook<FusedDisk>, time: u32, bytes: &[u8]) -> Answer {
     let (width, height) = book.header().size();
     match HostMessage::from_bytes(alloc, width, height, bytes) {
         Ok(message) => match book.host(time, message) {
@@ -19,7 +19,7 @@ pub fn host(alloc: Global, book: &mut PlainBook<MemoryDisk>, time: u32, bytes: &
 }
 
 /// `take`.
-pub fn take(book: &mut PlainBook<MemoryDisk>) -> Answer {
+pub fn take(book: &mut PlainBook<FusedDisk>) -> Answer {
     match book.take() {
         Ok(taken) => Answer::Taken {
             first: taken.first,
@@ -30,7 +30,7 @@ pub fn take(book: &mut PlainBook<MemoryDisk>) -> Answer {
 }
 
 /// `body`.
-pub fn body(book: &mut PlainBook<MemoryDisk>) -> Answer {
+pub fn body(book: &mut PlainBook<FusedDisk>) -> Answer {
     match book.body() {
         Ok(()) => Answer::Written,
         Err(refusal) => Answer::BodyRefused(refusal.number()),
@@ -38,7 +38,7 @@ pub fn body(book: &mut PlainBook<MemoryDisk>) -> Answer {
 }
 
 /// `gate`.
-pub fn gate(book: &mut PlainBook<MemoryDisk>) -> Answer {
+pub fn gate(book: &mut PlainBook<FusedDisk>) -> Answer {
     match book.gate() {
         Ok(committed) => Answer::Committed(committed),
         Err(refusal) => Answer::GateRefused(refusal.number()),
@@ -46,7 +46,7 @@ pub fn gate(book: &mut PlainBook<MemoryDisk>) -> Answer {
 }
 
 /// `pixel N X Y`: a place outside the screen is a bad line, whatever N is.
-pub fn pixel(book: &PlainBook<MemoryDisk>, count: u64, x: u16, y: u16) -> Answer {
+pub fn pixel(book: &PlainBook<FusedDisk>, count: u64, x: u16, y: u16) -> Answer {
     let (width, height) = book.header().size();
     if x >= width || y >= height {
         return Answer::Bad;

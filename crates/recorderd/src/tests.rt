@@ -96,6 +96,56 @@ fn scripts_are_answered(rt: HostRuntime) -> Result<(), Fail> {
     Ok(())
 }
 
+// What a script of lines parted by semicolons answers, parted in the same way.
+fn answers(alloc: Global, script: &str) -> Result<String, Fail> {
+    let lines = script.replace(alloc, "; ", "\n")?;
+    let (_, text) = drilled(alloc, &lines)?;
+    Ok(text.replace(alloc, "\n", "; ")?)
+}
+
+#[test]
+fn a_disk_that_fails_or_stops(rt: HostRuntime) -> Result<(), Fail> {
+    let alloc = rt.alloc();
+    let red = RED_HEX;
+    // A stop in the body's write leaves no message, and recording goes on behind the torn bytes.
+    let torn = format!(in alloc;
+        "new 1 1 4 x; host 0 {red}; take; stop 0 4f; body; open; host 0 02; take; body; gate; open"
+    )?;
+    assert_eq!(rt;
+        answers(alloc, &torn)?.as_str(),
+        "recording 1 1 4; accepted 0; taken 0 1; set; body refused 2; opened 0; accepted 0; taken 0 1; written; committed 1; opened 1; "
+    );
+    // A stop before the gate's sync leaves the gate open or closed.
+    for (fill, opened) in [("4f", 1), ("00", 0), ("now", 1), ("held", 0)] {
+        let script = format!(in alloc;
+            "new 1 1 4 x; host 0 {red}; take; body; stop 1 {fill}; gate; open"
+        )?;
+        let expected = format!(in alloc;
+            "recording 1 1 4; accepted 0; taken 0 1; written; set; gate refused 2; opened {opened}; "
+        )?;
+        assert_eq!(rt; answers(alloc, &script)?.as_str(), expected.as_str());
+    }
+    // What is committed comes through a stop at any time.
+    let committed = format!(in alloc;
+        "new 1 1 4 x; host 0 {red}; take; body; host 1 {red}; gate; stop 0 held; open; pixel 1 0 0"
+    )?;
+    assert_eq!(rt;
+        answers(alloc, &committed)?.as_str(),
+        "recording 1 1 4; accepted 0; taken 0 1; written; accepted 1; committed 1; set; opened 1; ff0000; "
+    );
+    // A call that fails once breaks the book until it is opened again.
+    let failed = format!(in alloc;
+        "new 1 1 4 x; host 0 {red}; take; fail 1; body; host 2 {red}; open; host 2 02; take; body"
+    )?;
+    assert_eq!(rt;
+        answers(alloc, &failed)?.as_str(),
+        "recording 1 1 4; accepted 0; taken 0 1; set; body refused 2; host refused 3; opened 0; accepted 0; taken 0 1; written; "
+    );
+    // There is nothing to arm before there is a recording.
+    assert_eq!(rt; answers(alloc, "stop 0 now")?.as_str(), "line 1: bad; ");
+    Ok(())
+}
+
 #[test]
 fn bytes_that_are_no_text_are_a_bad_line(rt: HostRuntime) -> Result<(), Fail> {
     let alloc = rt.alloc();

@@ -299,3 +299,67 @@ fn plain_function_and_reader_agree(rt: HostRuntime) -> Result<(), Fail> {
     assert_eq!(rt; message.rectangles().len(), 1);
     Ok(())
 }
+
+// A bell, a cut text of two bytes, a colour map of one colour, and an update.
+const STREAM: [u8; 43] = [
+    2, 3, 0, 0, 0, 0, 0, 0, 2, 104, 105, 1, 0, 0, 0, 0, 1, 0, 0, 0, 0, 0, 0, 0, 0, 0, 1, 0, 0, 0,
+    0, 0, 1, 0, 1, 0, 0, 0, 0, 0, 0, 255, 0,
+];
+
+// Also run with each allocation failing in turn.
+#[test]
+fn reading_while_memory_lasts(rt: HostRuntime) {
+    let mut reader = ServerReader::new(rt.alloc(), 1, 1);
+    let mut messages = Vec::new(rt.alloc());
+    let mut stopped = None;
+    for piece in STREAM.chunks(1) {
+        let before = messages.len();
+        let fault = reader.feed(piece, &mut messages).err();
+        assert!(rt; fault.is_none() || fault == Some(WireFault::NoMemory));
+        assert!(rt; stopped.is_none() || (fault == stopped && messages.len() == before));
+        stopped = fault;
+    }
+    assert!(rt; stopped.is_some() || messages.len() == 3);
+    for (message, length) in messages.iter().zip(&[1, 10, 20]) {
+        assert_eq!(rt; message.bytes().len(), *length);
+    }
+}
+
+// Also run with each allocation failing in turn.
+#[test]
+fn writing_while_memory_lasts(rt: HostRuntime) {
+    let mut out = Vec::new(rt.alloc());
+    let area = Area {
+        x: 0,
+        y: 0,
+        w: 1,
+        h: 1,
+    };
+    let color = Color { r: 0, g: 0, b: 0 };
+    for _ in 0..9 {
+        let before = out.len();
+        let written = write_raw_update(area, &[0, 0, 255, 0], &mut out);
+        assert_eq!(rt;
+            out.len(),
+            if written.is_ok() { before + 20 } else { before }
+        );
+        let before = out.len();
+        let written = write_color_map(7, &[color], &mut out);
+        assert_eq!(rt;
+            out.len(),
+            if written.is_ok() { before + 12 } else { before }
+        );
+        let before = out.len();
+        let written = write_cut_text(b"hello", &mut out);
+        assert_eq!(rt;
+            out.len(),
+            if written.is_ok() { before + 13 } else { before }
+        );
+        let before = out.len();
+        let written = write_bell(&mut out);
+        assert_eq!(rt;
+            out.len(),
+            if written.is_ok() { before + 1 } else { before }
+        );
+    }
+}
