@@ -1,0 +1,5 @@
+pub mod Tiling
+pub mod Steps
+pub mod FieldsRead
+pub mod TilesRead
+pub mod Refused
