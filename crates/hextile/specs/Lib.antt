@@ -5,3 +5,4 @@ pub mod Grammar
 pub mod Data
 pub mod Picture
 pub mod Measuring
+pub mod Painting

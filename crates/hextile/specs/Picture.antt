@@ -48,7 +48,9 @@ tiles_picture w latest column row =
 abbrev pub picture_of : ℕ → List Tile → Picture
 picture_of w tiles = tiles_picture w (onto tiles [])
 
--- the picture of a rectangle whose upper left corner is (x, y), over one that was there before
+-- a picture of w by h whose upper left corner is (x, y), over one that was there before
+abbrev pub laid_over : ℕ → ℕ → ℕ → ℕ → Picture → Picture → Picture
+laid_over x y w h picture before column row = if covers x y w h column row then picture (column - x) (row - y) else before column row
+
 abbrev pub painted_over : ℕ → ℕ → ℕ → ℕ → List Tile → Picture → Picture
-painted_over x y w h tiles before column row =
-    if covers x y w h column row then picture_of w tiles (column - x) (row - y) else before column row
+painted_over x y w h tiles before = laid_over x y w h (picture_of w tiles) before

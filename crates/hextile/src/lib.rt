@@ -6,12 +6,14 @@ mod fault;
 mod fields;
 mod laws;
 mod measuring;
+mod painting;
 mod position;
 
 pub use fault::Measure;
 pub use fields::{Mask, Named, Subrectangle};
 pub use laws::{grammar_reads_data, no_data_begin_others, one_reading_of_data};
 pub use measuring::{Measuring, measure};
+pub use painting::paint;
 pub use position::{Position, TileHead};
 
 #[cfg(test)]
