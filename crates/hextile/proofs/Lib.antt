@@ -7,3 +7,7 @@ pub mod Covering
 pub mod PaintedParts
 pub mod PaintedTile
 pub mod PaintedTiles
+pub mod Covered
+pub mod Written
+pub mod EncodedTile
+pub mod EncodedTiles

@@ -98,10 +98,10 @@ next_tile f w h number named bytes ts less e =
       are = d.first ∙ ap (λ z. Got d.value z) end;
     }
 
-upto_same : (number : ℕ) (t : Tile) (latest : List Tile) → length latest ≡ number → upto number (t ∷ latest) ≡ t ∷ latest
+pub upto_same : (number : ℕ) (t : Tile) (latest : List Tile) → length latest ≡ number → upto number (t ∷ latest) ≡ t ∷ latest
 upto_same number t latest is = ap (λ b. cond b (t ∷ latest) (upto number latest)) (eq-eqb number (length latest) (sym is))
 
-upto_other : (number : ℕ) (t : Tile) (latest : List Tile) → (number ≡ length latest → ⊥) → upto number (t ∷ latest) ≡ upto number latest
+pub upto_other : (number : ℕ) (t : Tile) (latest : List Tile) → (number ≡ length latest → ⊥) → upto number (t ∷ latest) ≡ upto number latest
 upto_other number t latest other = ap (λ b. cond b (t ∷ latest) (upto number latest)) (ne_eqb number (length latest) other)
 
 -- one tile more is painted

@@ -6,3 +6,4 @@ pub mod Data
 pub mod Picture
 pub mod Measuring
 pub mod Painting
+pub mod Encoded

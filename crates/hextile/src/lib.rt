@@ -2,13 +2,17 @@
 //! places. The data of a tile are its pixels, or a background and subrectangles over it.
 #![tactic(auto)]
 
+mod cover;
+mod encoding;
 mod fault;
 mod fields;
 mod laws;
 mod measuring;
 mod painting;
 mod position;
+mod writing;
 
+pub use encoding::encode;
 pub use fault::Measure;
 pub use fields::{Mask, Named, Subrectangle};
 pub use laws::{grammar_reads_data, no_data_begin_others, one_reading_of_data};
