@@ -1,9 +1,9 @@
 -- Parts that show the colours of a tile.
-use Rattle.std.proofs.Common.{◌≡◌, ℕ, ◌+◌, ◌-◌, ◌*◌, ◌/◌, ◌%◌, ◌<◌, inl, inr, true, cond, List, [], ◌∷◌, ◌++◌, length, set, sym, ap, ◌∙◌, arith}
-use Rattle.std.specs.Prelude.{reverse, All, Option, Some, None, IfSome}
-use Rattle.std.proofs.Math.Nat.{div-add-mod, mul_comm}
+use Rattle.std.proofs.Common.{◌≡◌, ℕ, ◌+◌, ◌-◌, ◌*◌, ◌/◌, ◌%◌, ◌<◌, ◌≤◌, false, inl, inr, true, cond, List, [], ◌∷◌, ◌++◌, length, set, refl, sym, ap, ◌∙◌, arith}
+use Rattle.std.specs.Prelude.{reverse, nat_lt, ◌&&◌, All, Option, Some, None, IfSome}
+use Rattle.std.proofs.Math.Nat.{div-add-mod, mul_comm, mul-le-mul_right, add-mul}
 use Rattle.std.proofs.lemmas.Nat.{div-mul-add, mod-mul-add, mul-add-lt}
-use Rattle.std.proofs.lemmas.Bool.{cases_Bool, cases_eq}
+use Rattle.std.proofs.lemmas.Bool.{cases_Bool, cases_eq, cases_lt, lt-ltb, le-ltb}
 use Rattle.std.proofs.lemmas.List.{get_or-set_same, get_or-set_other, reverse-append}
 use Rattle.std.proofs.lemmas.List.Elements.{All-nil, All-push}
 use Rattle.pixel_format.specs.declared.Color.{Color}
@@ -13,7 +13,7 @@ use Rattle.pixel_format.specs.Canvas.{covers}
 use Rattle.hextile.specs.declared.cover.Part.{Part}
 use Rattle.hextile.specs.Picture.{black}
 use Rattle.hextile.specs.Encoded.{nth, AreTileColors, IsPart, IsUniform, IsCover, ShownUpto, part_picture}
-use Rattle.hextile.proofs.Covering.{in_is, is_in}
+use Rattle.hextile.proofs.Covering.{in_is, is_in, not_in}
 
 -- one more of a tile's colours
 pub colors_more : (colors : List Color) (w left top tw : ℕ) (tile : List Color) (k : ℕ) (color : Color) → k < length tile
@@ -106,3 +106,24 @@ pub over_everywhere : {V : Type 0} (items : V → List Part) (r : Option V) (w h
     → IfSome r (λ parts. (f : Format) → All (IsWithin f) colors → IsCover f w h colors background (items parts))
 over_everywhere items None w h colors shown background known all = tt
 over_everywhere items (Some v) w h colors shown background known all = λ f within. known f background within all
+
+-- ---- the places of a part
+
+-- none stands behind its last one
+behind_part : (w x y v k i : ℕ) → 0 < k → y * w + x + (k - 1) * w + v ≤ i → covers x y v k (i % w) (i / w) ≡ false
+behind_part w x y v k i some behind =
+    not_in x y v k (i % w) (i / w) (λ is.
+    let r = is.right in
+    let b = is.bottom in
+    let most : i / w ≤ y + (k - 1) = omega arith in
+    let down : i / w * w ≤ (y + (k - 1)) * w = mul-le-mul_right w most in
+    let sum : (y + (k - 1)) * w ≡ y * w + (k - 1) * w = add-mul y (k - 1) w in
+    let whole = index_of w i in
+    absurd (omega (arith, down, sum, whole, behind, r)))
+
+pub all_of_part : (w x y v k n i : ℕ) (color before : Color) → 0 < k → y * w + x + (k - 1) * w + v ≤ n
+    → cond (nat_lt i n && covers x y v k (i % w) (i / w)) color before ≡ cond (covers x y v k (i % w) (i / w)) color before
+all_of_part w x y v k n i color before some most = elim (cases_lt i n) [
+  | inl below ↦ rw (lt-ltb i n below) refl
+  | inr above ↦ rw (le-ltb i n above, behind_part w x y v k i some (omega (arith, above, most))) refl
+]

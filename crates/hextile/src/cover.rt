@@ -144,13 +144,20 @@ fn covers_place(part: Part, column: usize, row: usize) -> bool
     x <= column && column < x + part.w as usize && y <= row && row < y + part.h as usize
 }
 
-// Gives the places of a part its colour, in a tile of width w.
+// Gives the places of a part its colour, in a tile of width w. It looks at the places from the part's
+// first one to its last one.
 fn show(shown: &mut [Color], w: u8, part: Part)
-    requires { 0 < w }
+    requires width { 0 < w }
+    requires across { 0 < part.w }
+    requires down { 0 < part.h }
+    requires columns { part.x + part.w ≤ w }
+    requires rows { (part.y + part.h) * w ≤ length shown.old }
     ensures { (k : ℕ) → k < length shown.old
         → nth shown.new k ≡ (if covers part.x part.y part.w part.h (k % w) (k / w) then part.color else nth shown.old k) }
 {
-    for k in 0..shown.len() {
+    let start = part.y as usize * w as usize + part.x as usize;
+    let rows = part.h as usize - 1;
+    for k in start..start + rows * w as usize + part.w as usize {
         let here = covers_place(part, k % w as usize, k / w as usize);
         shown[k] = chosen(here, part.color, shown[k]);
     }
