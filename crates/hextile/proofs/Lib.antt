@@ -1,0 +1,13 @@
+pub mod Tiling
+pub mod Steps
+pub mod FieldsRead
+pub mod TilesRead
+pub mod Refused
+pub mod Covering
+pub mod PaintedParts
+pub mod PaintedTile
+pub mod PaintedTiles
+pub mod Covered
+pub mod Written
+pub mod EncodedTile
+pub mod EncodedTiles

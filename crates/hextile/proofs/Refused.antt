@@ -1,0 +1,379 @@
+-- What is refused has a mask that may not stand there or a subrectangle outside its tile, and what is
+-- measured is data.
+use Rattle.std.proofs.Common.{◌≡◌, ℕ, zero, suc, ◌+◌, ◌-◌, ◌*◌, ◌<◌, ◌≤◌, ◌⊎◌, inl, inr, Bool, true, false, List, [], ◌∷◌, ◌++◌, length, take, refl, sym, ap, ◌∙◌, subst, arith, append_assoc, length-append, cond, Ok, Err}
+use Rattle.std.specs.Prelude.{nat_lt, slice_index, Result, IfOk}
+use Rattle.std.proofs.lemmas.List.{take_at}
+use Rattle.pixel_format.specs.Format.{Format, pixel_bytes}
+use Rattle.pixel_format.specs.Reading.{Reading, Got, More, Bad, ◌>>=◌, field, guard}
+use Rattle.pixel_format.proofs.Readings.{field_got, field-whole, true_or_false}
+use Rattle.hextile.specs.declared.fields.Subrectangle.{Subrectangle}
+use Rattle.hextile.specs.declared.fields.Named.{Named}
+use Rattle.hextile.specs.declared.fault.Measure.{Measure}
+use Rattle.hextile.specs.declared.fault.Measure.TheVariants as answers
+use Rattle.hextile.specs.Tiles.{tile_count, tile_width, tile_height}
+use Rattle.hextile.specs.Grammar.{Tile, Raw, Parts, Fault, Refused, mask_of, is_allowed, colors_of, head_bytes, background_in, foreground_in, count_in, subrectangle_bytes, subrectangle_of, is_inside, subrectangle_at, subrectangles_at, raw_at, parts_at, body_at, tile_at, named_with, tiles_at, data_at}
+use Rattle.hextile.specs.Data.{IsAllowed, LiesWithin, AreBytesOf, AreSubrectangles, AreTiles, IsData, AreData, onto, HasForbidden, HasOutside, IsRefused}
+use Rattle.hextile.specs.Measuring.{measured}
+use Rattle.hextile.proofs.FieldsRead.{field_front, one_byte, head_is, head_again, bytes_of_field, inside_is, names_of, names_more, allowed_is, allowed_again, forbidden_again, refused_is_not_raw}
+use Rattle.hextile.proofs.TilesRead.{subrectangle_read, subrectangles_refused, mask_first, tile_read, tile_again, data_read, data_again}
+
+-- ---- what a fault was met by
+
+-- the first part, or what follows it
+record StopsAt {A B E : Type 0} (r : Reading A E) (f : A → List ℕ → Reading B E) (fault : E) : Type 0 where
+  pub value : A
+  pub rest : List ℕ
+  pub first : r ≡ Got value rest
+  pub then : f value rest ≡ Bad fault
+
+bind_bad : {A B E : Type 0} (r : Reading A E) (f : A → List ℕ → Reading B E) (fault : E) → (r >>= f) ≡ Bad fault
+    → (r ≡ Bad fault) ⊎ StopsAt r f fault
+bind_bad (Got x rest) f fault e = inr (record { value = x; rest = rest; first = refl; then = e })
+bind_bad More f fault e = absurd (cc)
+bind_bad (Bad g) f fault e =
+    let same : g ≡ fault = cc in
+    inl (ap (λ z. Bad z) same)
+
+field_never_bad : {E : Type 0} (n : ℕ) (bytes : List ℕ) (fault : E) → field n bytes ≡ Bad fault → ⊥
+unfolding field
+field_never_bad n bytes fault e = elim (true_or_false (nat_lt (length bytes) n)) [
+  | inl short ↦ (let e' = rw short at e in cc)
+  | inr long ↦ (let e' = rw long at e in cc)
+]
+
+guard_bad : {A E : Type 0} (b : Bool) (fault : E) (r : Reading A E) → guard b fault r ≡ Bad fault → (b ≡ false) ⊎ ((b ≡ true) × (r ≡ Bad fault))
+guard_bad true fault r e = inr (refl, e)
+guard_bad false fault r e = inl refl
+
+got_never_bad : {A E : Type 0} (x : A) (rest : List ℕ) (fault : E) → Got x rest ≡ Bad fault → ⊥
+got_never_bad x rest fault e = cc
+
+-- ---- subrectangles
+
+record Leaves (f : Format) (colored : Bool) (w h : ℕ) (bytes : List ℕ) : Type 0 where
+  pub field : List ℕ
+  pub more : List ℕ
+  pub outside : Subrectangle
+  pub bytes_are : bytes ≡ field ++ more
+  pub is : AreBytesOf f colored outside field
+  pub leaves : LiesWithin w h outside → ⊥
+
+subrectangle_bad : (f : Format) (colored : Bool) (w h : ℕ) (bytes : List ℕ) → subrectangle_at f colored w h bytes ≡ Bad Refused → Leaves f colored w h bytes
+unfolding subrectangle_at
+subrectangle_bad f colored w h bytes e =
+    elim (bind_bad (field (subrectangle_bytes f colored) bytes) (λ whole after. guard (is_inside w h (subrectangle_of f colored whole)) Refused (Got (subrectangle_of f colored whole) after)) Refused e) [
+      | inl bad ↦ absurd (field_never_bad (subrectangle_bytes f colored) bytes Refused bad)
+      | inr b ↦
+          let k = field_front (subrectangle_bytes f colored) bytes b.value b.rest (field_got (subrectangle_bytes f colored) bytes b.value b.rest b.first) in
+          let s = subrectangle_of f colored b.value in
+          elim (guard_bad (is_inside w h s) Refused (Got s b.rest) b.then) [
+            | inl out ↦ record {
+              field = b.value;
+              more = b.rest;
+              outside = s;
+              bytes_are = k.0;
+              is = bytes_of_field f colored b.value k.1;
+              leaves = λ within. let clash = inside_is w h s within in absurd (cc);
+            }
+            | inr got ↦ absurd (got_never_bad _ _ _ got.1)
+          ]
+    ]
+
+record OneLeaves (f : Format) (colored : Bool) (w h count : ℕ) (bytes : List ℕ) : Type 0 where
+  pub earlier : List Subrectangle
+  pub body : List ℕ
+  pub last : List ℕ
+  pub bytes_are : bytes ≡ body ++ last
+  pub body_is : AreSubrectangles f colored w h earlier body
+  pub one_of_them : length earlier < count
+  pub outside : Leaves f colored w h last
+
+subrectangles_bad : (f : Format) (colored : Bool) (w h count : ℕ) (bytes : List ℕ) → subrectangles_at f colored w h count bytes ≡ Bad Refused
+    → OneLeaves f colored w h count bytes
+unfolding subrectangles_at
+subrectangles_bad f colored w h zero bytes e = absurd (got_never_bad _ _ _ e)
+subrectangles_bad f colored w h (suc count) bytes e =
+    elim (bind_bad (subrectangle_at f colored w h bytes) (λ first after. subrectangles_at f colored w h count after >>= λ others end. Got (first ∷ others) end) Refused e) [
+      | inl bad ↦ record { earlier = []; body = []; last = bytes; bytes_are = refl; body_is = refl; one_of_them = omega arith; outside = subrectangle_bad f colored w h bytes bad }
+      | inr b ↦
+          let r = subrectangle_read f colored w h bytes b.value b.rest b.first in
+          elim (bind_bad (subrectangles_at f colored w h count b.rest) (λ others end. Got (b.value ∷ others) end) Refused b.then) [
+            | inl bad ↦
+                let others = subrectangles_bad f colored w h count b.rest bad in
+                let less = others.one_of_them in
+                record {
+                  earlier = b.value ∷ others.earlier;
+                  body = r.first ++ others.body;
+                  last = others.last;
+                  bytes_are = r.bytes_are ∙ ap (λ z. r.first ++ z) others.bytes_are ∙ sym (append_assoc r.first others.body others.last);
+                  body_is = (r.first, others.body, refl, r.is, r.within, others.body_is);
+                  one_of_them = omega arith;
+                  outside = others.outside;
+                }
+            | inr d ↦ absurd (got_never_bad _ _ _ d.then)
+          ]
+    ]
+
+-- ---- a tile
+
+raw_never_bad : (f : Format) (w h : ℕ) (bytes : List ℕ) → raw_at f w h bytes ≡ Bad Refused → ⊥
+unfolding raw_at
+raw_never_bad f w h bytes e =
+    let n = w * h * pixel_bytes f in
+    elim (bind_bad (field n bytes) (λ pixels after. Got (Raw (colors_of f (w * h) pixels)) after) Refused e) [
+      | inl bad ↦ field_never_bad n bytes Refused bad
+      | inr b ↦ got_never_bad _ _ _ b.then
+    ]
+
+parts_bad : (f : Format) (w h byte : ℕ) (before : List Tile) (bytes : List ℕ) → (mask_of byte).raw ≡ false → IsAllowed before byte (mask_of byte)
+    → parts_at f (mask_of byte) w h bytes ≡ Bad Refused → HasOutside f w h before (byte ∷ bytes)
+unfolding parts_at
+parts_bad f w h byte before bytes raw allowed e =
+    let m = mask_of byte in
+    elim (bind_bad (field (head_bytes f m) bytes) (λ head rest. subrectangles_at f m.colored w h (count_in f m head) rest >>= λ parts after. Got (Parts (background_in f m head) (foreground_in f m head) parts) after) Refused e) [
+      | inl bad ↦ absurd (field_never_bad (head_bytes f m) bytes Refused bad)
+      | inr b ↦
+          let k = field_front (head_bytes f m) bytes b.value b.rest (field_got (head_bytes f m) bytes b.value b.rest b.first) in
+          elim (bind_bad (subrectangles_at f m.colored w h (count_in f m b.value) b.rest) (λ parts after. Got (Parts (background_in f m b.value) (foreground_in f m b.value) parts) after) Refused b.then) [
+            | inl bad ↦
+                let one = subrectangles_bad f m.colored w h (count_in f m b.value) b.rest bad in
+                record {
+                  byte = byte;
+                  head = b.value;
+                  background = background_in f m b.value;
+                  foreground = foreground_in f m b.value;
+                  count = count_in f m b.value;
+                  earlier = one.earlier;
+                  body = one.body;
+                  outside = one.outside.outside;
+                  field = one.outside.field;
+                  more = one.outside.more;
+                  bytes_are = ap (λ z. byte ∷ z) (k.0 ∙ ap (λ z. b.value ++ z) (one.bytes_are ∙ ap (λ z. one.body ++ z) one.outside.bytes_are));
+                  not_raw = raw;
+                  allowed = allowed;
+                  head_is = head_is f m b.value k.1;
+                  body_is = one.body_is;
+                  one_of_them = one.one_of_them;
+                  field_is = one.outside.is;
+                  leaves = one.outside.leaves;
+                }
+            | inr d ↦ absurd (got_never_bad _ _ _ d.then)
+          ]
+    ]
+
+body_bad : (f : Format) (w h byte : ℕ) (before : List Tile) (bytes : List ℕ) → is_allowed (names_of before) byte (mask_of byte) ≡ true
+    → body_at f (mask_of byte) w h bytes ≡ Bad Refused → HasOutside f w h before (byte ∷ bytes)
+unfolding body_at
+body_bad f w h byte before bytes allowed e = elim (true_or_false (mask_of byte).raw) [
+  | inl raw ↦ absurd (raw_never_bad f w h bytes (sym (ap (λ b. cond b (raw_at f w h bytes) (parts_at f (mask_of byte) w h bytes)) raw) ∙ e))
+  | inr raw ↦
+      parts_bad f w h byte before bytes raw (allowed_is before byte (mask_of byte) raw allowed)
+      (sym (ap (λ b. cond b (raw_at f w h bytes) (parts_at f (mask_of byte) w h bytes)) raw) ∙ e)
+]
+
+tile_bad : (f : Format) (w h : ℕ) (before : List Tile) (bytes : List ℕ) → tile_at f (names_of before) w h bytes ≡ Bad Refused
+    → HasForbidden before bytes ⊎ HasOutside f w h before bytes
+unfolding tile_at
+tile_bad f w h before bytes e =
+    let named = names_of before in
+    elim (bind_bad (field 1 bytes) (λ mask after. guard (is_allowed named (slice_index mask 0) (mask_of (slice_index mask 0))) Refused (body_at f (mask_of (slice_index mask 0)) w h after)) Refused e) [
+      | inl bad ↦ absurd (field_never_bad 1 bytes Refused bad)
+      | inr b ↦
+          let byte = slice_index b.value 0 in
+          let k = field_front 1 bytes b.value b.rest (field_got 1 bytes b.value b.rest b.first) in
+          let all : bytes ≡ byte ∷ b.rest = k.0 ∙ ap (λ z. z ++ b.rest) (one_byte b.value k.1) in
+          elim (guard_bad (is_allowed named byte (mask_of byte)) Refused (body_at f (mask_of byte) w h b.rest) b.then) [
+            | inl forbidden ↦
+                let raw = refused_is_not_raw named byte (mask_of byte) forbidden in
+                inl (record {
+                  byte = byte;
+                  more = b.rest;
+                  bytes_are = all;
+                  not_raw = raw;
+                  forbidden = λ allowed. let clash = allowed_again before byte (mask_of byte) raw allowed in absurd (cc);
+                })
+            | inr g ↦ inr (subst (λ z. HasOutside f w h before z) (sym all) (body_bad f w h byte before b.rest g.0 g.1))
+          ]
+    ]
+
+tile_refused : (f : Format) (w h : ℕ) (before : List Tile) (bytes : List ℕ) → HasForbidden before bytes ⊎ HasOutside f w h before bytes
+    → tile_at f (names_of before) w h bytes ≡ Bad Refused
+unfolding body_at parts_at
+tile_refused f w h before bytes (inl is) =
+    ap (tile_at f (names_of before) w h) is.bytes_are
+    ∙ mask_first f (names_of before) w h is.byte is.more
+    ∙ rw (forbidden_again before is.byte (mask_of is.byte) is.not_raw is.forbidden) refl
+tile_refused f w h before bytes (inr is) =
+    let m = mask_of is.byte in
+    let head = head_again f m is.background is.foreground is.count is.head is.head_is in
+    let rest = is.head ++ (is.body ++ (is.field ++ is.more)) in
+    ap (tile_at f (names_of before) w h) is.bytes_are
+    ∙ mask_first f (names_of before) w h is.byte rest
+    ∙ ap (λ b. guard b Refused (body_at f m w h rest)) (allowed_again before is.byte m is.not_raw is.allowed)
+    ∙ ap (λ b. cond b (raw_at f w h rest) (parts_at f m w h rest)) is.not_raw
+    ∙ rw (
+      field-whole {E = Fault} (head_bytes f m) is.head (is.body ++ (is.field ++ is.more)) head.whole,
+      head.count_is,
+      subrectangles_refused f m.colored w h is.earlier is.count is.body is.outside is.field is.more is.body_is is.one_of_them is.field_is is.leaves,
+    ) refl
+
+-- ---- a rectangle
+
+record OneRefused (f : Format) (w h more : ℕ) (before : List Tile) (bytes : List ℕ) : Type 0 where
+  pub tiles : List Tile
+  pub body : List ℕ
+  pub rest : List ℕ
+  pub bytes_are : bytes ≡ body ++ rest
+  pub one_of_them : length tiles < more
+  pub body_is : AreTiles f w h before tiles body
+  pub next : HasForbidden (onto tiles before) rest
+      ⊎ HasOutside f (tile_width w (length before + length tiles)) (tile_height w h (length before + length tiles)) (onto tiles before) rest
+
+tiles_bad : (f : Format) (w h more : ℕ) (before : List Tile) (bytes : List ℕ) → length before + more ≡ tile_count w h
+    → tiles_at f w h (names_of before) more bytes ≡ Bad Refused → OneRefused f w h more before bytes
+unfolding tiles_at
+tiles_bad f w h zero before bytes number e = absurd (got_never_bad _ _ _ e)
+tiles_bad f w h (suc more) before bytes number e =
+    let named = names_of before in
+    let n = tile_count w h - suc more in
+    let n_is : n ≡ length before = omega (arith, number) in
+    elim (bind_bad (tile_at f named (tile_width w n) (tile_height w h n) bytes) (λ t after. tiles_at f w h (named_with named t) more after >>= λ others end. Got (t ∷ others) end) Refused e) [
+      | inl bad ↦
+          let here : n ≡ length before + 0 = omega (arith, number) in
+          record {
+            tiles = [];
+            body = [];
+            rest = bytes;
+            bytes_are = refl;
+            one_of_them = omega arith;
+            body_is = refl;
+            next = subst (λ (k : ℕ). HasForbidden before bytes ⊎ HasOutside f (tile_width w k) (tile_height w h k) before bytes) here
+                (tile_bad f (tile_width w n) (tile_height w h n) before bytes bad);
+          }
+      | inr b ↦
+          let first = ap (λ (k : ℕ). tile_at f named (tile_width w k) (tile_height w h k) bytes) (sym n_is) ∙ b.first in
+          let r = tile_read f (tile_width w (length before)) (tile_height w h (length before)) before bytes b.value b.rest first in
+          elim (bind_bad (tiles_at f w h (named_with named b.value) more b.rest) (λ others end. Got (b.value ∷ others) end) Refused b.then) [
+            | inl bad ↦
+                let second = ap (λ (k : Named). tiles_at f w h k more b.rest) (sym (names_more before b.value)) ∙ bad in
+                let others = tiles_bad f w h more (b.value ∷ before) b.rest (omega (arith, number)) second in
+                let less = others.one_of_them in
+                let here : suc (length before) + length others.tiles ≡ length before + suc (length others.tiles) = omega arith in
+                record {
+                  tiles = b.value ∷ others.tiles;
+                  body = r.first ++ others.body;
+                  rest = others.rest;
+                  bytes_are = r.bytes_are ∙ ap (λ z. r.first ++ z) others.bytes_are ∙ sym (append_assoc r.first others.body others.rest);
+                  one_of_them = omega arith;
+                  body_is = (r.first, others.body, refl, r.is, others.body_is);
+                  next = subst (λ (k : ℕ). HasForbidden (onto others.tiles (b.value ∷ before)) others.rest
+                      ⊎ HasOutside f (tile_width w k) (tile_height w h k) (onto others.tiles (b.value ∷ before)) others.rest) here others.next;
+                }
+            | inr d ↦ absurd (got_never_bad _ _ _ d.then)
+          ]
+    ]
+
+tiles_refused : (f : Format) (w h more : ℕ) (before tiles : List Tile) (body rest : List ℕ) → length before + more ≡ tile_count w h → length tiles < more
+    → AreTiles f w h before tiles body
+    → HasForbidden (onto tiles before) rest ⊎ HasOutside f (tile_width w (length before + length tiles)) (tile_height w h (length before + length tiles)) (onto tiles before) rest
+    → tiles_at f w h (names_of before) more (body ++ rest) ≡ Bad Refused
+unfolding tiles_at
+tiles_refused f w h zero before tiles body rest number less are next = absurd (omega arith)
+tiles_refused f w h (suc more) before [] body rest number less none next =
+    let here : length before + 0 ≡ tile_count w h - suc more = omega (arith, number) in
+    rw (
+      none,
+      tile_refused f (tile_width w (tile_count w h - suc more)) (tile_height w h (tile_count w h - suc more)) before rest
+          (subst (λ (k : ℕ). HasForbidden before rest ⊎ HasOutside f (tile_width w k) (tile_height w h k) before rest) here next),
+    ) refl
+tiles_refused f w h (suc more) before (t ∷ tiles) body rest number less are next =
+    let n_is : tile_count w h - suc more ≡ length before = omega (arith, number) in
+    let all : body ++ rest ≡ are.0 ++ (are.1 ++ rest) = ap (λ z. z ++ rest) are.2 ∙ append_assoc are.0 are.1 rest in
+    let here : length before + suc (length tiles) ≡ suc (length before) + length tiles = omega arith in
+    rw (
+      all,
+      n_is,
+      tile_again f (tile_width w (length before)) (tile_height w h (length before)) before t are.0 (are.1 ++ rest) are.3,
+      names_more before t,
+      tiles_refused f w h more (t ∷ before) tiles are.1 rest (omega (arith, number)) (omega arith) are.4
+          (subst (λ (k : ℕ). HasForbidden (onto tiles (t ∷ before)) rest
+          ⊎ HasOutside f (tile_width w k) (tile_height w h k) (onto tiles (t ∷ before)) rest) here next),
+    ) refl
+
+refused_read : (f : Format) (w h : ℕ) (bytes : List ℕ) → data_at f w h bytes ≡ Bad Refused → IsRefused f w h bytes
+unfolding data_at
+refused_read f w h bytes e =
+    let one = tiles_bad f w h (tile_count w h) [] bytes (omega arith) e in
+    let here : 0 + length one.tiles ≡ length one.tiles = omega arith in
+    record {
+      tiles = one.tiles;
+      body = one.body;
+      rest = one.rest;
+      bytes_are = one.bytes_are;
+      one_of_them = one.one_of_them;
+      body_is = one.body_is;
+      next = subst (λ (k : ℕ). HasForbidden (onto one.tiles []) one.rest ⊎ HasOutside f (tile_width w k) (tile_height w h k) (onto one.tiles []) one.rest) here one.next;
+    }
+
+refused_again : (f : Format) (w h : ℕ) (bytes : List ℕ) → IsRefused f w h bytes → data_at f w h bytes ≡ Bad Refused
+unfolding data_at
+refused_again f w h bytes is =
+    let here : length is.tiles ≡ 0 + length is.tiles = omega arith in
+    ap (λ z. tiles_at f w h (names_of []) (tile_count w h) z) is.bytes_are
+    ∙ tiles_refused f w h (tile_count w h) [] is.tiles is.body is.rest (omega arith) is.one_of_them is.body_is
+    (subst (λ (k : ℕ). HasForbidden (onto is.tiles []) is.rest ⊎ HasOutside f (tile_width w k) (tile_height w h k) (onto is.tiles []) is.rest) here is.next)
+
+-- ---- measuring
+
+one_fault : (fault : Fault) → fault ≡ Refused
+one_fault Refused = refl
+
+measured_bad : {A : Type 0} (size : ℕ) (r : Reading A Fault) → measured size r ≡ Err answers.Bad → r ≡ Bad Refused
+measured_bad size (Got x rest) e = absurd (cc)
+measured_bad size More e = absurd (cc)
+measured_bad size (Bad fault) e = ap (λ z. Bad z) (one_fault fault)
+
+record Measured {A : Type 0} (size n : ℕ) (r : Reading A Fault) : Type 0 where
+  pub value : A
+  pub rest : List ℕ
+  pub is : r ≡ Got value rest
+  pub length_is : n ≡ size - length rest
+
+measured_ok : {A : Type 0} (size n : ℕ) (r : Reading A Fault) → measured size r ≡ Ok n → Measured size n r
+measured_ok size n (Got x rest) e =
+    let is : n ≡ size - length rest = cc in
+    record { value = x; rest = rest; is = refl; length_is = is }
+measured_ok size n More e = absurd (cc)
+measured_ok size n (Bad fault) e = absurd (cc)
+
+-- what has a length is data of that length
+pub measured_is_data : (f : Format) (w h n : ℕ) (bytes : List ℕ) → measured (length bytes) (data_at f w h bytes) ≡ Ok n
+    → (n ≤ length bytes) × AreData f w h (take n bytes)
+measured_is_data f w h n bytes e =
+    let m = measured_ok (length bytes) n (data_at f w h bytes) e in
+    let d = data_read f w h bytes m.value m.rest m.is in
+    let size : length bytes ≡ length d.front + length m.rest = ap length d.bytes_are ∙ length-append d.front m.rest in
+    let n_is : length d.front ≡ n = omega (arith, size, m.length_is) in
+    let front : take n bytes ≡ d.front = ap (take n) d.bytes_are ∙ take_at d.front m.rest n n_is in
+    (omega (arith, size, n_is), (m.value, subst (λ z. IsData f w h z m.value) (sym front) d.is))
+
+-- and data have their length
+pub data_are_measured : (f : Format) (w h : ℕ) (bytes front more : List ℕ) → bytes ≡ front ++ more → AreData f w h front
+    → measured (length bytes) (data_at f w h bytes) ≡ Ok (length front)
+data_are_measured f w h bytes front more is known =
+    let size : length bytes ≡ length front + length more = ap length is ∙ length-append front more in
+    let n : length bytes - length more ≡ length front = omega (arith, size) in
+    ap (measured (length bytes)) (ap (data_at f w h) is ∙ data_again f w h front more known.0 known.1)
+    ∙ ap (λ z. Ok z) n
+
+pub measured_is_refused : (f : Format) (w h : ℕ) (bytes : List ℕ) → measured (length bytes) (data_at f w h bytes) ≡ Err answers.Bad → IsRefused f w h bytes
+measured_is_refused f w h bytes e = refused_read f w h bytes (measured_bad (length bytes) (data_at f w h bytes) e)
+
+pub refused_is_measured : (f : Format) (w h : ℕ) (bytes : List ℕ) → IsRefused f w h bytes → measured (length bytes) (data_at f w h bytes) ≡ Err answers.Bad
+refused_is_measured f w h bytes is = ap (measured (length bytes)) (refused_again f w h bytes is)
+
+-- the same of whatever was answered
+pub if_measured : (f : Format) (w h : ℕ) (bytes : List ℕ) (r : Result ℕ Measure) → r ≡ measured (length bytes) (data_at f w h bytes)
+    → IfOk r (λ n. (n ≤ length bytes) × AreData f w h (take n bytes))
+if_measured f w h bytes (Ok n) e = measured_is_data f w h n bytes (sym e)
+if_measured f w h bytes (Err fault) e = tt

@@ -1,0 +1,6 @@
+use Rattle.std.proofs.Common.{◌≡◌, ℕ, ◌+◌, ◌<◌}
+use Rattle.hextile.specs.Encoded.{nth}
+use Rattle.hextile.proofs.cover.run_length.Given as goal
+
+abbrev pub invariant-loop-k : goal.invariant-loop-k
+invariant-loop-k l = (i : ℕ) → i < l.k → nth l.colors (l.start + i) ≡ l.color

@@ -1,0 +1,6 @@
+use Rattle.hextile.specs.Encoded.{Appends}
+use Rattle.hextile.proofs.EncodedTiles.{Written}
+use Rattle.hextile.proofs.encoding.append_tiles.Given as goal
+
+abbrev pub invariant-loop-number : goal.invariant-loop-number
+invariant-loop-number l = Appends (Written l.format l.w l.h l.colors l.number l.known) l.fn.bytes.items l.bytes.items

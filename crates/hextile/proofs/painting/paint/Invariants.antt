@@ -1,0 +1,15 @@
+use Rattle.std.proofs.Common.{◌≡◌, List}
+use Rattle.hextile.specs.Grammar.{Tile}
+use Rattle.hextile.specs.Data.{IsData}
+use Rattle.hextile.proofs.PaintedTiles.{TilesProgress}
+use Rattle.hextile.proofs.painting.paint.Given as goal
+
+-- the tiles before the bytes that are left are painted
+abbrev pub invariant-loop-number : goal.invariant-loop-number
+invariant-loop-number g l = record {
+  width : g.C.Canvas.width l.canvas ≡ g.C.Canvas.width l.fn.canvas;
+  height : g.C.Canvas.height l.canvas ≡ g.C.Canvas.height l.fn.canvas;
+  painted : (tiles : List Tile) → IsData l.format l.w l.h l.bytes tiles
+      → TilesProgress l.format l.x l.y l.w l.h tiles l.number l.rest l.colors
+      (g.C.Canvas.width l.fn.canvas) (g.C.Canvas.height l.fn.canvas) (g.C.Canvas.picture l.fn.canvas) (g.C.Canvas.picture l.canvas);
+}

@@ -1,0 +1,16 @@
+use Rattle.hextile.proofs.Written.{head_appended, count_there, count_away}
+use Rattle.hextile.proofs.writing.append_head.Goals as goal
+
+pub returns-in_ok-push-clause-ok : goal.returns-in_ok-push-clause-ok
+returns-in_ok-push-clause-ok c =
+    let mask = c.args.mask in
+    head_appended c.args.format.now mask c.args.background c.args.foreground c.args.count _ _ _ _
+    c.in_ok-append_pixel_if.ensures.ok c.in_ok-append_pixel_if-2.ensures.ok
+    (count_there mask.subrectangles c.args.count _ _ c.if-mask.true c.in_ok-push.ensures.items)
+
+pub returns-else-mask-clause-ok : goal.returns-else-mask-clause-ok
+returns-else-mask-clause-ok c =
+    let mask = c.args.mask in
+    head_appended c.args.format.now mask c.args.background c.args.foreground c.args.count _ _ _ _
+    c.in_ok-append_pixel_if.ensures.ok c.in_ok-append_pixel_if-2.ensures.ok
+    (count_away mask.subrectangles c.args.count _ c.if-mask.false)

@@ -1,0 +1,20 @@
+use Rattle.std.proofs.Common.{List, map, subst}
+use Rattle.std.proofs.lemmas.List.{take_all}
+use Rattle.hextile.specs.declared.cover.Part.{Part}
+use Rattle.hextile.specs.Data.{AreSubrectangles}
+use Rattle.hextile.specs.Encoded.{drawn, Appends}
+use Rattle.hextile.proofs.Written.{parts_more, grows_more}
+use Rattle.hextile.proofs.writing.append_parts.Goals as goal
+
+pub loop-part-preserved : goal.loop-part-preserved
+loop-part-preserved c = record {
+  grows = grows_more _ _ _ c.loop-part.invariant.grows c.append_part.ensures.grows;
+  are = λ w h are.
+      parts_more c.args.format.now c.args.colored w h c.args.parts.now c.loop-part.part-index _ c.args.bytes.now.items c.loop-part.bytes.items c.append_part.new.bytes.items
+      c.loop-part-test.true (are c.loop-part.part-index _ c.loop-part-test.true) (c.loop-part.invariant.are w h are) c.in_ok-append_part.ensures.ok;
+}
+
+pub returns-clause-ok : goal.returns-clause-ok
+returns-clause-ok c = λ w h are.
+    subst (λ (ps : List Part). Appends (AreSubrectangles c.args.format.now c.args.colored w h (map (drawn c.args.colored) ps)) c.args.bytes.now.items c.loop-part.bytes.items)
+    (take_all c.loop-part.part-index c.args.parts.now c.loop-part-test.false) (c.loop-part.invariant.are w h are)

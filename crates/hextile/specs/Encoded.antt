@@ -1,0 +1,125 @@
+-- What an encoder makes of colours by rows: tiles of parts of one colour each over a background, or of
+-- pixels.
+use Rattle.std.specs.Prelude.{◌≡◌, ℕ, ◌+◌, ◌*◌, ◌/◌, ◌%◌, ◌<◌, ◌≤◌, List, [], ◌∷◌, ◌++◌, length, reverse, map, All, slice_index_or, Option, Some, None, Bool, true, false, if◌then◌else◌}
+use Rattle.pixel_format.specs.declared.Color.{Color}
+use Rattle.pixel_format.specs.Format.{Format}
+use Rattle.pixel_format.specs.Pixel.{IsWithin}
+use Rattle.pixel_format.specs.Canvas.{Picture, covers, Agree}
+use Rattle.hextile.specs.declared.fields.Subrectangle.{Subrectangle}
+use Rattle.hextile.specs.declared.cover.Part.{Part}
+use Rattle.hextile.specs.declared.fields.Mask.{Mask}
+use Rattle.hextile.specs.declared.writing.Known.{Known}
+use Rattle.hextile.specs.Grammar.{Tile, mask_of}
+use Rattle.hextile.specs.Data.{background_of, foreground_of, AreSubrectangles, IsHead, IsTile, IsData}
+use Rattle.hextile.specs.Picture.{black, latest_picture, picture_of}
+
+-- the colour at an index
+abbrev pub nth : List Color → ℕ → Color
+nth colors i = slice_index_or colors i black
+
+-- the picture that colours by rows are, for rows of w places
+abbrev pub rows_of : List Color → ℕ → Picture
+rows_of colors w column row = nth colors (row * w + column)
+
+-- bytes are data of a rectangle whose picture is the colours, at every place
+pub record Shows (f : Format) (w h : ℕ) (colors : List Color) (bytes : List ℕ) : Type 0 where
+  pub tiles : List Tile
+  pub is : IsData f w h bytes tiles
+  pub picture : Agree w h (picture_of w tiles) (rows_of colors w)
+
+-- ---- how the encoder goes on
+
+-- the first so many colours of a tile of width tw are those of the rectangle, whose rows have w places
+abbrev pub AreTileColors : List Color → ℕ → ℕ → ℕ → ℕ → List Color → ℕ → Type 0
+AreTileColors colors w left top tw tile count = (k : ℕ) → k < count → nth tile k ≡ nth colors ((top + k / tw) * w + (left + k % tw))
+
+-- a part lies within a tile of w by h, all of whose places that it covers have its colour, which keeps to
+-- the format's maxima
+pub record IsPart (f : Format) (w h : ℕ) (s : Part) : Type 0 where
+  pub columns : s.x + s.w ≤ w
+  pub rows : s.y + s.h ≤ h
+  pub across : 0 < s.w
+  pub down : 0 < s.h
+  pub color : IsWithin f s.color
+
+pub record IsUniform (colors : List Color) (w : ℕ) (s : Part) : Type 0 where
+  pub same : (a b : ℕ) → a < s.w → b < s.h → rows_of colors w (s.x + a) (s.y + b) ≡ s.color
+
+-- the picture of parts over a background; the latest stands first
+abbrev pub part_picture : Color → List Part → Picture
+part_picture background [] column row = background
+part_picture background (s ∷ others) column row =
+    if covers s.x s.y s.w s.h column row then s.color else part_picture background others column row
+
+-- parts that show the colours of a tile over a background
+pub record IsCover (f : Format) (w h : ℕ) (colors : List Color) (background : Color) (parts : List Part) : Type 0 where
+  pub parts_are : All (IsPart f w h) parts
+  pub picture : Agree w h (part_picture background (reverse parts)) (rows_of colors w)
+
+-- What is shown after some places: the picture of the parts, and the colours of those places.
+pub record ShownUpto (f : Format) (w h : ℕ) (colors : List Color) (background : Color) (parts : List Part) (shown : List Color) (k : ℕ) : Type 0 where
+  pub parts_are : All (IsPart f w h) parts
+  pub picture : (i : ℕ) → i < length colors → nth shown i ≡ part_picture background (reverse parts) (i % w) (i / w)
+  pub right : (i : ℕ) → i < k → nth shown i ≡ nth colors i
+
+-- a part as a subrectangle that has a colour of its own, or the foreground's
+abbrev pub drawn : Bool → Part → Subrectangle
+drawn colored s = record { x = s.x; y = s.y; w = s.w; h = s.h; color = if colored then Some s.color else None }
+
+-- a value that is there or not
+abbrev pub shown_if : Bool → Color → Option Color
+shown_if there color = if there then Some color else None
+
+-- what is known is what tiles named, the latest of which stands first
+pub record IsKnown (before : List Tile) (known : Known) : Type 0 where
+  pub background : (color : Color) → known.background ≡ Some color → background_of before ≡ Some color
+  pub foreground : (color : Color) → known.foreground ≡ Some color → foreground_of before ≡ Some color
+
+-- bytes are a tile behind others, that shows the colours
+pub record ShowsTile (f : Format) (w h : ℕ) (colors : List Color) (before : List Tile) (known : Known) (bytes : List ℕ) : Type 0 where
+  pub tile : Tile
+  pub is : IsTile f w h before tile bytes
+  pub known_is : IsKnown (tile ∷ before) known
+  pub picture : Agree w h (latest_picture w (tile ∷ before)) (rows_of colors w)
+
+-- ---- what is appended
+
+-- bytes of which this holds stand behind the old ones
+pub record Appends (P : List ℕ → Type 0) (old new : List ℕ) : Type 0 where
+  pub bytes : List ℕ
+  pub is : new ≡ old ++ bytes
+  pub are : P bytes
+
+-- some bytes
+abbrev pub Grows : List ℕ → List ℕ → Type 0
+Grows = Appends (λ _. Unit {0})
+
+-- ---- a tile of parts
+
+-- A mask for so many parts over a background, where `ink` is the one colour that they have, if they have
+-- one. Only what is known isn't named.
+pub record IsMaskFor (known : Known) (background : Color) (ink : Option Color) (count : ℕ) (m : Mask) : Type 0 where
+  pub raw : m.raw ≡ false
+  pub back : m.background ≡ false → known.background ≡ Some background
+  pub named : m.foreground ≡ true → (color : Color) × (ink ≡ Some color)
+  pub front : (color : Color) → ink ≡ Some color → m.foreground ≡ false → known.foreground ≡ Some color
+  pub some : m.subrectangles ≡ false → count ≡ 0
+  pub colored : m.colored ≡ true → ink ≡ None
+  pub plain : m.colored ≡ false → m.subrectangles ≡ true → (color : Color) × (ink ≡ Some color)
+
+-- what is known behind a tile of parts
+abbrev pub known_behind : Known → Color → Option Color → Bool → Known
+known_behind known background ink true = record { background = None; foreground = None }
+known_behind known background (Some color) false = record { background = Some background; foreground = Some color }
+known_behind known background None false = record { background = Some background; foreground = known.foreground }
+
+-- bytes of a mask, its fields and parts
+pub record IsWritten (f : Format) (w h : ℕ) (m : Mask) (background foreground : Color) (parts : List Part) (bytes : List ℕ) : Type 0 where
+  pub byte : ℕ
+  pub head : List ℕ
+  pub body : List ℕ
+  pub bytes_are : bytes ≡ byte ∷ (head ++ body)
+  pub mask_is : mask_of byte ≡ m
+  pub known : byte < 32
+  pub head_is : IsHead f m (shown_if m.background background) (shown_if m.foreground foreground) (if m.subrectangles then length parts else 0) head
+  pub body_is : AreSubrectangles f m.colored w h (map (drawn m.colored) parts) body

@@ -1,0 +1,205 @@
+//! Judging data field by field, as they come.
+
+ghost use Rattle.std.specs.Prelude.{◌≡◌, ◌<◌, ◌≤◌, ◌||◌, true};
+
+use crate::fault::Measure;
+use crate::fields::{
+    Mask, Named, lies_inside, may_stand, pixel_size, read_count, read_mask, read_subrectangle,
+};
+use crate::position::{Position, TileHead, count_tiles};
+use pixel_format::PixelFormat;
+
+/// Which field of a rectangle's data comes next: what stands for the part that is judged. Data that come
+/// in pieces are judged by taking [`wants`](Measuring::wants) bytes for each [`step`](Measuring::step),
+/// from [`start`](Measuring::start) on, and no byte twice.
+#[derive(Clone, Copy, Debug, PartialEq, Eq)]
+pub enum Measuring {
+    /// A tile's mask.
+    Mask(Position),
+    /// The pixels of a raw tile.
+    Pixels(Position),
+    /// The colours that a tile names, and the number of its subrectangles.
+    Head(TileHead),
+    /// A subrectangle of a tile, which `others` follow.
+    Subrectangle {
+        tile: Position,
+        colored: bool,
+        others: u8,
+    },
+}
+
+ghost use Rattle.std.specs.Prelude.{◌↔◌, ℕ, ◌+◌, ◌++◌, List, length, take, IfOk, IfErr, Ok, Err};
+ghost use Rattle.pixel_format.specs.Reading.{Bad};
+ghost use Rattle.pixel_format.specs.Format.{Format};
+ghost use Rattle.hextile.specs.Grammar.{Refused, mask_of, head_bytes, tiles_at, data_at};
+ghost use Rattle.hextile.specs.Data.{AreData, IsRefused};
+ghost use Rattle.hextile.specs.Measuring.{named_by, behind, body_left, parts_left, go_on, resume, wants_of, judged, measured};
+
+// The field behind a tile: the next one's mask.
+fn next_tile(tile: Position) -> Option<Measuring>
+    ensures { (format : Format) → (more : List ℕ) → go_on format result more ≡ behind format tile more }
+{
+    if tile.more == 0 {
+        return None;
+    }
+    Some(Measuring::Mask(Position {
+        w: tile.w,
+        h: tile.h,
+        more: tile.more - 1,
+        named: tile.named,
+    }))
+}
+
+// The field of the next of so many subrectangles of a tile.
+fn next_part(tile: Position, colored: bool, count: u8) -> Option<Measuring>
+    ensures { (format : Format) → (more : List ℕ) → go_on format result more ≡ parts_left format tile colored count more }
+{
+    if count == 0 {
+        return next_tile(tile);
+    }
+    Some(Measuring::Subrectangle {
+        tile,
+        colored,
+        others: count - 1,
+    })
+}
+
+// The tile, once it has named the colours of its mask.
+fn naming(tile: Position, mask: Mask) -> Position
+    ensures { result ≡ record tile { named = named_by tile.named mask } }
+{
+    Position {
+        w: tile.w,
+        h: tile.h,
+        more: tile.more,
+        named: Named {
+            background: tile.named.background || mask.background,
+            foreground: tile.named.foreground || mask.foreground,
+        },
+    }
+}
+
+// The field behind a tile's mask, which may stand there.
+fn next_field(tile: Position, mask: Mask) -> Option<Measuring>
+    ensures { (format : Format) → (more : List ℕ) → go_on format result more ≡ body_left format tile mask more }
+{
+    if mask.raw {
+        return Some(Measuring::Pixels(tile));
+    }
+    let tile = naming(tile, mask);
+    if mask.background || mask.foreground || mask.subrectangles {
+        return Some(Measuring::Head(TileHead { tile, mask }));
+    }
+    next_tile(tile)
+}
+
+impl Measuring {
+    /// The field with which the data of a rectangle of w by h begin, `None` where it has no places and
+    /// so no data.
+    pub fn start(w: u16, h: u16) -> Option<Measuring>
+        ensures { (format : Format) → (more : List ℕ) → go_on format result more ≡ judged (data_at format w h more) }
+    {
+        if w == 0 || h == 0 {
+            return None;
+        }
+        Some(Measuring::Mask(Position {
+            w,
+            h,
+            more: count_tiles(w, h) - 1,
+            named: Named {
+                background: false,
+                foreground: false,
+            },
+        }))
+    }
+
+    /// How many bytes the field has: at most 1,024.
+    pub fn wants(self, format: &PixelFormat) -> usize
+        ensures value { result ≡ wants_of format.now self }
+        ensures some { 0 < result }
+        ensures most { result ≤ 1024 }
+    {
+        match self {
+            Measuring::Mask(_) => 1,
+            Measuring::Pixels(tile) => {
+                let area = tile.area();
+                area.w as usize * area.h as usize * format.bytes()
+            }
+            Measuring::Head(head) => {
+                pixel_size(format, head.mask.background)
+                    + pixel_size(format, head.mask.foreground)
+                    + head.mask.subrectangles as usize
+            }
+            Measuring::Subrectangle { colored, .. } => pixel_size(format, colored) + 2,
+        }
+    }
+
+    /// Judges the field, which is whole. Answers the next one, `None` where the data end, and
+    /// `Measure::Bad` at a mask that may not stand there and at a subrectangle that leaves its tile.
+    pub fn step(self, format: &PixelFormat, field: &[u8]) -> Result<Option<Measuring>, Measure>
+        requires { length field.now ≡ wants_of format.now self }
+        ensures goes { IfOk result (λ next. (more : List ℕ)
+            → resume format.now self (field.now ++ more) ≡ go_on format.now next more) }
+        ensures refused { IfErr result (λ _. (more : List ℕ)
+            → resume format.now self (field.now ++ more) ≡ Bad Refused) }
+        ensures only { IfErr result (λ fault. fault ≡ Measure.Bad) }
+    {
+        match self {
+            Measuring::Mask(tile) => {
+                let mask = read_mask(field[0]);
+                if !may_stand(tile.named, field[0], mask) {
+                    return Err(Measure::Bad);
+                }
+                Ok(next_field(tile, mask))
+            }
+            Measuring::Pixels(tile) => Ok(next_tile(tile)),
+            Measuring::Head(head) => {
+                let count = read_count(format, head.mask, field);
+                Ok(next_part(head.tile, head.mask.colored, count))
+            }
+            Measuring::Subrectangle {
+                tile,
+                colored,
+                others,
+            } => {
+                let area = tile.area();
+                let part = read_subrectangle(format, colored, field);
+                if !lies_inside(part, area.w, area.h) {
+                    return Err(Measure::Bad);
+                }
+                Ok(next_part(tile, colored, others))
+            }
+        }
+    }
+}
+
+// The same as `measure`, in the words of the grammar.
+fn measure_by_fields(format: &PixelFormat, w: u16, h: u16, bytes: &[u8]) -> Result<usize, Measure>
+    ensures { result ≡ measured (length bytes.now) (data_at format.now w h bytes.now) }
+{
+    let mut rest = bytes;
+    let mut next = Measuring::start(w, h);
+    while let Some(stage) = next {
+        let wants = stage.wants(format);
+        if rest.len() < wants {
+            return Err(Measure::NeedMore);
+        }
+        next = stage.step(format, &rest[..wants])?;
+        rest = &rest[wants..];
+    }
+    Ok(bytes.len() - rest.len())
+}
+
+/// The length of the data of a rectangle of w by h that begin the bytes (RFC 6143, section 7.7.4); of a
+/// rectangle of no area it is 0. `Measure::Bad` comes at the byte of the first mask that may not stand
+/// there, or at the last byte of the first subrectangle that leaves its tile, whichever comes first, and
+/// `Measure::NeedMore` for all other bytes that no data begin. It takes no memory.
+pub fn measure(format: &PixelFormat, w: u16, h: u16, bytes: &[u8]) -> Result<usize, Measure>
+    ensures value { result ≡ measured (length bytes.now) (data_at format.now w h bytes.now) }
+    ensures ok { IfOk result (λ n. (n ≤ length bytes.now) × AreData format.now w h (take n bytes.now)) }
+    ensures whole { (front more : List ℕ) → bytes.now ≡ front ++ more → AreData format.now w h front
+        → result ≡ Ok (length front) }
+    ensures bad { (result ≡ Err Measure.Bad) ↔ IsRefused format.now w h bytes.now }
+{
+    measure_by_fields(format, w, h, bytes)
+}

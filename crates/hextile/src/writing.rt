@@ -1,0 +1,177 @@
+//! Writing the data of a tile.
+
+ghost use Rattle.std.specs.Prelude.{◌≡◌, ℕ, ◌+◌, ◌*◌, ◌<◌, ◌≤◌, length, map, All, OnOk, if◌then◌else◌};
+ghost use Rattle.pixel_format.specs.Pixel.{IsWithin};
+ghost use Rattle.hextile.specs.Grammar.{mask_of};
+ghost use Rattle.hextile.specs.Data.{IsPixel, IsPixelIf, ArePixels, AreBytesOf, AreSubrectangles, IsHead, AreRaw};
+ghost use Rattle.hextile.specs.Encoded.{shown_if, drawn, IsPart, IsWritten, Appends, Grows};
+
+use crate::cover::Part;
+use crate::fields::Mask;
+use pixel_format::{Color, NoMemory, PixelFormat};
+
+/// The colours that the tiles behind a tile need not name again.
+#[derive(Clone, Copy)]
+pub(crate) struct Known {
+    pub background: Option<Color>,
+    pub foreground: Option<Color>,
+}
+
+// The byte of a mask.
+fn byte_of(mask: Mask) -> u8
+    ensures mask { mask_of result ≡ mask }
+    ensures known { result < 32 }
+{
+    mask.raw as u8
+        + 2 * mask.background as u8
+        + 4 * mask.foreground as u8
+        + 8 * mask.subrectangles as u8
+        + 16 * mask.colored as u8
+}
+
+// Appends the pixel of a colour.
+fn append_pixel(format: &PixelFormat, color: Color, bytes: &mut Vec<u8>) -> Result<(), NoMemory>
+    requires { IsWithin format.now color }
+    ensures ok { OnOk result (Appends (IsPixel format.now color) bytes.old.items bytes.new.items) }
+    ensures grows { Grows bytes.old.items bytes.new.items }
+{
+    let mut pixel = [0; 4];
+    let size = format.bytes();
+    format.put(color, &mut pixel[..size]);
+    bytes.extend_from_slice(&pixel[..size])
+}
+
+// Appends the pixel of a colour, if it is to be there.
+fn append_pixel_if(
+    format: &PixelFormat,
+    there: bool,
+    color: Color,
+    bytes: &mut Vec<u8>,
+) -> Result<(), NoMemory>
+    requires { IsWithin format.now color }
+    ensures ok { OnOk result (Appends (IsPixelIf format.now there (shown_if there color)) bytes.old.items bytes.new.items) }
+    ensures grows { Grows bytes.old.items bytes.new.items }
+{
+    if there {
+        return append_pixel(format, color, bytes);
+    }
+    Ok(())
+}
+
+/// Appends what stands between a mask and the subrectangles. Want of memory may leave some of the bytes.
+fn append_head(
+    format: &PixelFormat,
+    mask: Mask,
+    background: Color,
+    foreground: Color,
+    count: u8,
+    bytes: &mut Vec<u8>,
+) -> Result<(), NoMemory>
+    requires background { IsWithin format.now background }
+    requires foreground { IsWithin format.now foreground }
+    ensures ok { OnOk result (Appends (IsHead format.now mask (shown_if mask.background background) (shown_if mask.foreground foreground)
+        (if mask.subrectangles then count else 0)) bytes.old.items bytes.new.items) }
+    ensures grows { Grows bytes.old.items bytes.new.items }
+{
+    append_pixel_if(format, mask.background, background, bytes)?;
+    append_pixel_if(format, mask.foreground, foreground, bytes)?;
+    if mask.subrectangles {
+        bytes.push(count)?;
+    }
+    Ok(())
+}
+
+// Appends a part as a subrectangle.
+fn append_part(
+    format: &PixelFormat,
+    colored: bool,
+    part: Part,
+    bytes: &mut Vec<u8>,
+) -> Result<(), NoMemory>
+    requires { IsPart format.now 16 16 part }
+    ensures ok { OnOk result (Appends (AreBytesOf format.now colored (drawn colored part)) bytes.old.items bytes.new.items) }
+    ensures grows { Grows bytes.old.items bytes.new.items }
+{
+    append_pixel_if(format, colored, part.color, bytes)?;
+    bytes.extend_from_slice(&[part.x * 16 + part.y, (part.w - 1) * 16 + (part.h - 1)])
+}
+
+// Appends parts as subrectangles.
+fn append_parts(
+    format: &PixelFormat,
+    colored: bool,
+    parts: &[Part],
+    bytes: &mut Vec<u8>,
+) -> Result<(), NoMemory>
+    requires { All (IsPart format.now 16 16) parts.now }
+    ensures ok { OnOk result ((w h : ℕ) → All (IsPart format.now w h) parts.now
+        → Appends (AreSubrectangles format.now colored w h (map (drawn colored) parts.now)) bytes.old.items bytes.new.items) }
+    ensures grows { Grows bytes.old.items bytes.new.items }
+{
+    for part in parts {
+        append_part(format, colored, *part, bytes)?;
+    }
+    Ok(())
+}
+
+// Appends pixels.
+fn append_pixels(
+    format: &PixelFormat,
+    colors: &[Color],
+    bytes: &mut Vec<u8>,
+) -> Result<(), NoMemory>
+    requires { All (IsWithin format.now) colors.now }
+    ensures ok { OnOk result (Appends (ArePixels format.now colors.now) bytes.old.items bytes.new.items) }
+    ensures grows { Grows bytes.old.items bytes.new.items }
+{
+    for color in colors {
+        append_pixel(format, *color, bytes)?;
+    }
+    Ok(())
+}
+
+/// Appends a tile of parts over a background. Want of memory may leave some of the bytes.
+pub(crate) fn append_parts_tile(
+    format: &PixelFormat,
+    mask: Mask,
+    background: Color,
+    foreground: Color,
+    parts: &[Part],
+    bytes: &mut Vec<u8>,
+) -> Result<(), NoMemory>
+    requires background { IsWithin format.now background }
+    requires foreground { IsWithin format.now foreground }
+    requires parts { All (IsPart format.now 16 16) parts.now }
+    requires count { length parts.now < 256 }
+    ensures ok { OnOk result ((w h : ℕ) → All (IsPart format.now w h) parts.now
+        → Appends (IsWritten format.now w h mask background foreground parts.now) bytes.old.items bytes.new.items) }
+    ensures grows { Grows bytes.old.items bytes.new.items }
+{
+    bytes.push(byte_of(mask))?;
+    append_head(
+        format,
+        mask,
+        background,
+        foreground,
+        parts.len() as u8,
+        bytes,
+    )?;
+    append_parts(format, mask.colored, parts, bytes)?;
+    Ok(())
+}
+
+/// Appends a raw tile. Want of memory may leave some of the bytes.
+pub(crate) fn append_raw_tile(
+    format: &PixelFormat,
+    colors: &[Color],
+    bytes: &mut Vec<u8>,
+) -> Result<(), NoMemory>
+    requires { All (IsWithin format.now) colors.now }
+    ensures ok { OnOk result ((w h : ℕ) → length colors.now ≡ w * h
+        → Appends (AreRaw format.now w h colors.now) bytes.old.items bytes.new.items) }
+    ensures grows { Grows bytes.old.items bytes.new.items }
+{
+    bytes.push(1)?;
+    append_pixels(format, colors, bytes)?;
+    Ok(())
+}
