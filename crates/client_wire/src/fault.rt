@@ -23,6 +23,15 @@ pub enum WireFault {
     /// An update of more than 67,108,864 bytes.
     #[error("an update that is too long")]
     TooLong,
+    /// A subrectangle of an RRE rectangle leaves the rectangle.
+    #[error("RRE data that are refused")]
+    BadRre,
+    /// In a Hextile rectangle, a tile's mask may not stand there, or a subrectangle leaves its tile.
+    #[error("Hextile data that are refused")]
+    BadHextile,
+    /// The area from which a CopyRect rectangle is copied leaves the screen.
+    #[error("a rectangle copied from outside the screen")]
+    SourceOutside,
     /// A pixel format is refused, for this reason.
     #[error("a pixel format that is refused: {0}")]
     BadFormat(FormatFault),
@@ -32,8 +41,8 @@ pub enum WireFault {
 }
 
 impl WireFault {
-    /// The fault's number, by which it is printed: 1 to 4, 8 for a pixel format, and 9 for want of
-    /// memory.
+    /// The fault's number, by which it is printed: 1 to 7 in the order above, 8 for a pixel format, and 9
+    /// for want of memory.
     pub fn number(&self) -> u8
         ensures { result ≡ wire_number self.now }
     {
@@ -42,6 +51,9 @@ impl WireFault {
             WireFault::OutsideScreen => 2,
             WireFault::Encoding(_) => 3,
             WireFault::TooLong => 4,
+            WireFault::BadRre => 5,
+            WireFault::BadHextile => 6,
+            WireFault::SourceOutside => 7,
             WireFault::BadFormat(_) => 8,
             WireFault::NoMemory => 9,
         }

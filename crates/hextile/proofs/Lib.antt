@@ -11,3 +11,4 @@ pub mod Covered
 pub mod Written
 pub mod EncodedTile
 pub mod EncodedTiles
+pub mod Held

@@ -300,7 +300,7 @@ tiles_refused f w h (suc more) before (t ∷ tiles) body rest number less are ne
           ⊎ HasOutside f (tile_width w k) (tile_height w h k) (onto tiles (t ∷ before)) rest) here next),
     ) refl
 
-refused_read : (f : Format) (w h : ℕ) (bytes : List ℕ) → data_at f w h bytes ≡ Bad Refused → IsRefused f w h bytes
+pub refused_read : (f : Format) (w h : ℕ) (bytes : List ℕ) → data_at f w h bytes ≡ Bad Refused → IsRefused f w h bytes
 unfolding data_at
 refused_read f w h bytes e =
     let one = tiles_bad f w h (tile_count w h) [] bytes (omega arith) e in
@@ -315,7 +315,7 @@ refused_read f w h bytes e =
       next = subst (λ (k : ℕ). HasForbidden (onto one.tiles []) one.rest ⊎ HasOutside f (tile_width w k) (tile_height w h k) (onto one.tiles []) one.rest) here one.next;
     }
 
-refused_again : (f : Format) (w h : ℕ) (bytes : List ℕ) → IsRefused f w h bytes → data_at f w h bytes ≡ Bad Refused
+pub refused_again : (f : Format) (w h : ℕ) (bytes : List ℕ) → IsRefused f w h bytes → data_at f w h bytes ≡ Bad Refused
 unfolding data_at
 refused_again f w h bytes is =
     let here : length is.tiles ≡ 0 + length is.tiles = omega arith in

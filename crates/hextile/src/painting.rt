@@ -2,6 +2,7 @@
 
 ghost use Rattle.std.specs.Prelude.{◌≡◌, ℕ, List, ◌<◌, ◌≤◌, ◌+◌, ◌*◌, ◌^◌, length, reverse, unwrap_or};
 ghost use Rattle.pixel_format.specs.Format.{pixel_bytes};
+ghost use Rattle.pixel_format.specs.Pixel.{pixel_color};
 ghost use Rattle.pixel_format.specs.Canvas.{Agree};
 ghost use Rattle.pixel_format.specs.Reading.{Got};
 ghost use Rattle.hextile.specs.declared.fields.Subrectangle.{Subrectangle};
@@ -60,6 +61,7 @@ fn name_colors(format: &PixelFormat, mask: Mask, head: &[u8], colors: TileColors
 // Paints pixels by rows into a tile's area of the canvas.
 fn paint_pixels<C: Canvas>(format: &PixelFormat, area: TileArea, pixels: &[u8], canvas: &mut C)
     requires size { length pixels.now ≡ area.w * area.h * pixel_bytes format.now }
+    requires held { (pixel : List ℕ) → C.holds (pixel_color format.now pixel) }
     requires columns { area.x + area.w ≤ C.width canvas.old }
     requires rows { area.y + area.h ≤ C.height canvas.old }
     requires last_column { area.x + area.w < 2 ^ 16 }
@@ -89,6 +91,8 @@ fn paint_parts<'a, 'b, 'c, C: Canvas>(
     canvas: &'c mut C,
 ) -> &'a [u8]
     requires begin { BeginsWithParts format.now colored area.w area.h count bytes.now }
+    requires held { (pixel : List ℕ) → C.holds (pixel_color format.now pixel) }
+    requires foreground { C.holds foreground }
     requires columns { area.x + area.w ≤ C.width canvas.old }
     requires rows { area.y + area.h ≤ C.height canvas.old }
     requires last_column { area.x + area.w < 2 ^ 16 }
@@ -123,12 +127,17 @@ fn paint_tile<'a, 'b, 'c, 'd, C: Canvas>(
     canvas: &'c mut C,
 ) -> &'a [u8]
     requires begin { BeginsWithTile format.now area.w area.h bytes.now }
+    requires held { (pixel : List ℕ) → C.holds (pixel_color format.now pixel) }
+    requires background { C.holds colors.old.background }
+    requires foreground { C.holds colors.old.foreground }
     requires columns { area.x + area.w ≤ C.width canvas.old }
     requires rows { area.y + area.h ≤ C.height canvas.old }
     requires last_column { area.x + area.w < 2 ^ 16 }
     requires last_row { area.y + area.h < 2 ^ 16 }
     ensures width { C.width canvas.new ≡ C.width canvas.old }
     ensures height { C.height canvas.new ≡ C.height canvas.old }
+    ensures background { C.holds colors.new.background }
+    ensures foreground { C.holds colors.new.foreground }
     ensures rest { (named : Named) → (tile : Tile) → (rest : List ℕ)
         → tile_at format.now named area.w area.h bytes.now ≡ Got tile rest → result.now ≡ rest }
     ensures colors { (named : Named) → (tile : Tile) → (rest : List ℕ)
@@ -169,7 +178,7 @@ fn paint_tile<'a, 'b, 'c, 'd, C: Canvas>(
 
 /// Paints a rectangle of w by h whose upper left corner is the place (x, y) of the canvas, from its
 /// data: the bytes that [`measure`](crate::measure) takes whole (RFC 6143, section 7.7.4). The other
-/// places stay as they were. It takes no memory.
+/// places stay as they were. The canvas can have the colours of the format's pixels. It takes no memory.
 pub fn paint<C: Canvas>(
     format: &PixelFormat,
     x: u16,
@@ -184,6 +193,7 @@ pub fn paint<C: Canvas>(
     requires rows { y + h ≤ C.height canvas.old }
     requires last_column { x + w < 2 ^ 16 }
     requires last_row { y + h < 2 ^ 16 }
+    requires held { (pixel : List ℕ) → C.holds (pixel_color format.now pixel) }
     ensures width { C.width canvas.new ≡ C.width canvas.old }
     ensures height { C.height canvas.new ≡ C.height canvas.old }
     ensures painted { (tiles : List Tile) → IsData format.now w h bytes.now tiles

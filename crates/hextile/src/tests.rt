@@ -32,6 +32,8 @@ impl Canvas for Sheet {
 
     ghost height = { λ _. 48 };
 
+    ghost holds = { λ _. Unit {0} };
+
     ghost picture = { λ s column row. slice_index_or s.colors (128 * row + column) (record { r = 0; g = 0; b = 0 }) };
 
     // Plainly: each place is looked at.

@@ -1,4 +1,4 @@
-pub mod Order
 pub mod Places
+pub mod Order
 pub mod Rows
 pub mod Screens

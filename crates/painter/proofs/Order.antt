@@ -1,14 +1,21 @@
 -- Rectangles and messages, one after the other.
-use Rattle.std.proofs.Common.{◌≡◌, ℕ, ◌+◌, ◌<◌, List, [], ◌∷◌, ◌++◌, length, take, get_or, cond, refl, ap, ◌∙◌}
+use Rattle.std.proofs.Common.{◌≡◌, ℕ, ◌+◌, ◌-◌, ◌<◌, List, [], ◌∷◌, ◌++◌, length, take, get_or, inl, inr, refl, ap, ◌∙◌, arith}
+use Rattle.std.specs.List.{AllByRecursion}
+use Rattle.std.proofs.lemmas.Bool.{cases_Bool}
 use Rattle.std.specs.Prelude.{slice_range}
 use Rattle.std.proofs.lemmas.List.{take_more}
 use Rattle.pixel_format.specs.declared.Color.{Color}
 use Rattle.client_wire.specs.declared.message.Area.{Area}
 use Rattle.rfb_wire.specs.declared.message.Rectangle.{Rectangle}
-use Rattle.rfb_wire.specs.declared.message.Encoding.{Encoding}
-use Rattle.rfb_wire.specs.declared.message.Encoding.TheVariants as encodings
-use Rattle.rfb_wire.specs.Host.{Host}
-use Rattle.painter.specs.Picture.{Picture, is_in, raw_picture, picture_of, painted_rectangle, painted_rectangles, painted_message, painted_over}
+use Rattle.pixel_format.specs.Format.{host_format}
+use Rattle.pixel_format.specs.Canvas.{Picture, Agree}
+use Rattle.rect_data.specs.declared.encoding.Encoding.{Encoding}
+use Rattle.rect_data.specs.declared.encoding.Encoding.TheVariants as encodings
+use Rattle.rect_data.specs.Grammar.{source_of}
+use Rattle.rect_data.specs.Data.{AreData}
+use Rattle.rfb_wire.specs.Host.{Host, IsPlaced}
+use Rattle.painter.specs.Picture.{is_in, copied_picture, picture_of, painted_data, painted_rectangle, painted_rectangles, painted_message, painted_over}
+use Rattle.painter.proofs.Places.{IsIn, in_is}
 
 pub no_rectangles : (bytes : List ℕ) (before : Picture) → painted_rectangles bytes [] before ≡ before
 unfolding painted_rectangles
@@ -21,9 +28,6 @@ unfolding painted_rectangles
 one_more bytes [] r before = refl
 one_more bytes (first ∷ rectangles) r before = one_more bytes rectangles r (painted_rectangle bytes first before)
 
-raw_only : (encoding : Encoding) (area : Area) (bytes : List ℕ) (before : Picture) → picture_of encoding area bytes before ≡ raw_picture area bytes
-raw_only encodings.Raw area bytes before = refl
-
 -- what stands past the last rectangle
 abbrev pub no_rectangle : Rectangle
 no_rectangle = record { area = record { x = 0; y = 0; w = 0; h = 0 }; encoding = encodings.Raw; start = 0; end = 0 }
@@ -35,35 +39,39 @@ last_painted bytes rectangles i before lt =
     ap (λ (rs : List Rectangle). painted_rectangles bytes rs before) (take_more rectangles i no_rectangle lt)
     ∙ one_more bytes (take i rectangles) (get_or rectangles i no_rectangle) before
 
--- a Raw rectangle at a place
-pub raw_painted : (bytes : List ℕ) (r : Rectangle) (before : Picture) (x y : ℕ)
-    → painted_rectangle bytes r before x y ≡ cond (is_in r.area x y) (raw_picture r.area (slice_range bytes r.start r.end) x y) (before x y)
-unfolding painted_rectangle
-raw_painted bytes r before x y =
-    ap (λ (p : Picture). cond (is_in r.area x y) (p x y) (before x y)) (raw_only r.encoding r.area (slice_range bytes r.start r.end) before)
-
 -- ---- screens
 
--- two pictures agree on the places of a screen
-abbrev pub Agree : ℕ → ℕ → Picture → Picture → Type 0
-Agree width height p q = (x y : ℕ) → x < width → y < height → p x y ≡ q x y
+-- the picture of data depends on the places of the screen alone; those of a CopyRect are the source's
+shown_same : (width height : ℕ) (encoding : Encoding) (area : Area) (bytes : List ℕ) (p q : Picture) → AreData host_format width height encoding area bytes → Agree width height p q
+    → (x y : ℕ) → IsIn area x y → picture_of encoding area bytes p x y ≡ picture_of encoding area bytes q x y
+unfolding copied_picture source_of
+shown_same width height encodings.Raw area bytes p q is same x y place = refl
+shown_same width height encodings.CopyRect area bytes p q is same x y place =
+    let left = place.left in
+    let right = place.right in
+    let top = place.top in
+    let bottom = place.bottom in
+    let source = source_of area bytes in
+    same (source.x + (x - area.x)) (source.y + (y - area.y)) (omega (arith, is.within.columns)) (omega (arith, is.within.rows))
+shown_same width height encodings.Rre area bytes p q is same x y place = refl
+shown_same width height encodings.Hextile area bytes p q is same x y place = refl
 
-same_shown : (encoding : Encoding) (area : Area) (bytes : List ℕ) (p q : Picture) (x y : ℕ) → picture_of encoding area bytes p x y ≡ picture_of encoding area bytes q x y
-same_shown encodings.Raw area bytes p q x y = refl
-
-agree_rectangle : (width height : ℕ) (bytes : List ℕ) (r : Rectangle) (p q : Picture) → Agree width height p q → Agree width height (painted_rectangle bytes r p) (painted_rectangle bytes r q)
-unfolding painted_rectangle
-agree_rectangle width height bytes r p q same x y across down =
-    ap (λ (c : Color). cond (is_in r.area x y) c (p x y)) (same_shown r.encoding r.area (slice_range bytes r.start r.end) p q x y)
-    ∙ ap (cond (is_in r.area x y) (picture_of r.encoding r.area (slice_range bytes r.start r.end) q x y)) (same x y across down)
+pub agree_data : (width height : ℕ) (encoding : Encoding) (area : Area) (bytes : List ℕ) (p q : Picture) → AreData host_format width height encoding area bytes → Agree width height p q
+    → Agree width height (painted_data encoding area bytes p) (painted_data encoding area bytes q)
+unfolding painted_data
+agree_data width height encoding area bytes p q is same x y across down = elim (cases_Bool (is_in area x y)) [
+  | inl here ↦ rw here (shown_same width height encoding area bytes p q is same x y (in_is area x y here))
+  | inr away ↦ rw away (same x y across down)
+]
 
 -- what rectangles leave depends on the places of the screen alone
-pub agree_rectangles : (width height : ℕ) (bytes : List ℕ) (rectangles : List Rectangle) (p q : Picture) → Agree width height p q
-    → Agree width height (painted_rectangles bytes rectangles p) (painted_rectangles bytes rectangles q)
+pub agree_rectangles : (m : Host) (rectangles : List Rectangle) (p q : Picture) → AllByRecursion (IsPlaced m) rectangles → Agree m.width m.height p q
+    → Agree m.width m.height (painted_rectangles m.bytes rectangles p) (painted_rectangles m.bytes rectangles q)
 unfolding painted_rectangles
-agree_rectangles width height bytes [] p q same = same
-agree_rectangles width height bytes (r ∷ rectangles) p q same =
-    agree_rectangles width height bytes rectangles (painted_rectangle bytes r p) (painted_rectangle bytes r q) (agree_rectangle width height bytes r p q same)
+agree_rectangles m [] p q placed same = same
+agree_rectangles m (r ∷ rectangles) p q placed same =
+    agree_rectangles m rectangles (painted_rectangle m.bytes r p) (painted_rectangle m.bytes r q) placed.1
+    (agree_data m.width m.height r.encoding r.area (slice_range m.bytes r.start r.end) p q placed.0.content same)
 
 -- the last of some messages is painted over what the others left
 pub one_message_more : (messages : List Host) (message : Host) (before : Picture) → painted_over before (messages ++ message ∷ []) ≡ painted_message message (painted_over before messages)

@@ -1,59 +1,55 @@
--- Painting a Raw rectangle row by row.
+-- Painting an area row by row.
 use Rattle.std.proofs.Common.{◌≡◌, ℕ, ◌+◌, ◌-◌, ◌*◌, ◌<◌, ◌≤◌, Bool, true, cond, List, length, take, drop, inl, inr, sym, ap, ◌∙◌, arith}
-use Rattle.std.proofs.lemmas.Bool.{cases_Bool, cases_lt, cases_order}
+use Rattle.std.specs.List.{CopiedTo, SameBelow, SameFrom}
+use Rattle.std.proofs.lemmas.Bool.{cases_Bool, cases_lt, cases_order, false_from_ne_true}
 use Rattle.std.proofs.lemmas.List.{drop-drop, drop-take, take-take, length-take, length-drop}
 use Rattle.std.proofs.Math.Nat.{mul-le-mul_left}
 use borrow.Rule.Slice.PartMut.{put_mid}
+use Rattle.pixel_format.specs.declared.Color.{Color}
+use Rattle.pixel_format.specs.Canvas.{Picture}
 use Rattle.pixel_format.specs.Pixel.{host_color}
 use Rattle.client_wire.specs.declared.message.Area.{Area}
 use Rattle.painter.specs.declared.pixel.Pixel.{Pixel}
-use Rattle.painter.specs.Picture.{is_in, raw_picture, pixel_at}
+use Rattle.painter.specs.Picture.{is_in, raw_picture, copied_picture, pixel_at}
 use Rattle.painter.specs.Pixels.{black_pixel, color_of, pixel_color_at, color_in}
 use Rattle.painter.proofs.Places.{IsIn, in_is, is_in_true, same_in, below_part, in_part, above_part, row_before}
 
 -- the first rows of an area
-abbrev rows_of : Area → ℕ → Area
+abbrev pub rows_of : Area → ℕ → Area
 rows_of area rows = record area { h = rows }
 
+-- the rows of an area from this one on
+abbrev pub rows_from : Area → ℕ → Area
+rows_from area row = record area { y = area.y + row; h = area.h - row }
+
 -- one row of an area
-abbrev row_of : Area → ℕ → Area
+abbrev pub row_of : Area → ℕ → Area
 row_of area row = record area { y = area.y + row; h = 1 }
 
--- a pixel of a part of the data is one of the data
-pixel_of_part : (bytes : List ℕ) (from count n : ℕ) → n < count → pixel_at (take (4 * count) (drop (4 * from) bytes)) n ≡ pixel_at bytes (from + n)
-pixel_of_part bytes from count n lt =
-    let split : 4 * count ≡ 4 * n + (4 * count - 4 * n) = omega arith in
-    ap (λ (m : ℕ). take 4 (drop (4 * n) (take m (drop (4 * from) bytes)))) split
-    ∙ ap (take 4) (drop-take (4 * n) (4 * count - 4 * n) (drop (4 * from) bytes))
-    ∙ take-take 4 (4 * count - 4 * n) (drop (4 * n) (drop (4 * from) bytes)) (omega arith)
-    ∙ ap (take 4) (drop-drop (4 * n) (4 * from) bytes)
-    ∙ ap (λ (m : ℕ). take 4 (drop m bytes)) (omega arith)
+-- where a row of an area begins
+abbrev pub row_start : ℕ → Area → ℕ → ℕ
+row_start width area row = (area.y + row) * width + area.x
 
--- what is known once a row was written
-pub record WritesRow (pixels line : List Pixel) (width : ℕ) (area : Area) (bytes : List ℕ) (row : ℕ) : Type 0 where
+-- One row was written: its places have the picture's colours, and the others are as they were.
+pub record WritesRow (old new : List Pixel) (width : ℕ) (area : Area) (picture : Picture) (row : ℕ) : Type 0 where
   pub columns : area.x + area.w ≤ width
-  pub fits : (area.y + row) * width + area.x + area.w ≤ length pixels
-  pub len : length line ≡ area.w
-  pub colors : (k : ℕ) → k < area.w → pixel_color_at line k ≡ host_color (pixel_at (take (4 * area.w) (drop (4 * (row * area.w)) bytes)) k)
+  pub here : (k : ℕ) → k < area.w → pixel_color_at new (row_start width area row + k) ≡ picture (area.x + k) (area.y + row)
+  pub before : (i : ℕ) → i < row_start width area row → pixel_color_at new i ≡ pixel_color_at old i
+  pub behind : (i : ℕ) → row_start width area row + area.w ≤ i → pixel_color_at new i ≡ pixel_color_at old i
 
-abbrev after_row : List Pixel → List Pixel → ℕ → Area → ℕ → List Pixel
-after_row pixels line width area row = put_mid ((area.y + row) * width + area.x) area.w pixels line
-
--- a place of the row has its pixel
-in_row : (pixels line : List Pixel) (width : ℕ) (area : Area) (bytes : List ℕ) (row x y : ℕ) → WritesRow pixels line width area bytes row → IsIn (row_of area row) x y
-    → color_in (after_row pixels line width area row) width x y ≡ raw_picture area bytes x y
-unfolding raw_picture
-in_row pixels line width area bytes row x y w place =
+-- a place of the row has the picture's colour
+in_row : (old new : List Pixel) (width : ℕ) (area : Area) (picture : Picture) (row x y : ℕ) → WritesRow old new width area picture row → IsIn (row_of area row) x y
+    → color_in new width x y ≡ picture x y
+in_row old new width area picture row x y w place =
     let left = place.left in
     let right = place.right in
     let same : y ≡ area.y + row = omega (arith, place.top, place.bottom) in
-    let at : y * width + x ≡ ((area.y + row) * width + area.x) + (x - area.x) = ap (λ (r : ℕ). r * width + x) same ∙ omega arith in
-    let height : y - area.y ≡ row = omega arith in
-    ap (λ (i : ℕ). pixel_color_at (after_row pixels line width area row) i) at
-    ∙ ap color_of (in_part ((area.y + row) * width + area.x) area.w pixels line (x - area.x) black_pixel (omega (arith, w.fits)) (omega (arith, w.len)))
-    ∙ w.colors (x - area.x) (omega arith)
-    ∙ ap host_color (pixel_of_part bytes (row * area.w) area.w (x - area.x) (omega arith))
-    ∙ ap (λ (r : ℕ). host_color (pixel_at bytes (r * area.w + (x - area.x)))) (sym height)
+    let at : y * width + x ≡ row_start width area row + (x - area.x) = ap (λ (r : ℕ). r * width + x) same ∙ omega arith in
+    let column : area.x + (x - area.x) ≡ x = omega arith in
+    ap (λ (i : ℕ). pixel_color_at new i) at
+    ∙ w.here (x - area.x) (omega arith)
+    ∙ ap (λ (i : ℕ). picture i (area.y + row)) column
+    ∙ ap (λ (i : ℕ). picture x i) (sym same)
 
 -- what stands behind the row's first place and not in the row stands behind it
 past_row : (width : ℕ) (area : Area) (row x y : ℕ) → area.x + area.w ≤ width → (IsIn (row_of area row) x y → ⊥) → x < width → (area.y + row) * width + area.x ≤ y * width + x
@@ -71,44 +67,129 @@ past_row width area row x y columns off across after =
     ]
 
 -- another place is as it was
-off_row : (pixels line : List Pixel) (width : ℕ) (area : Area) (bytes : List ℕ) (row x y : ℕ) → WritesRow pixels line width area bytes row → x < width → (IsIn (row_of area row) x y → ⊥)
-    → color_in (after_row pixels line width area row) width x y ≡ color_in pixels width x y
-off_row pixels line width area bytes row x y w across off =
-    elim (cases_lt (y * width + x) ((area.y + row) * width + area.x)) [
-      | inl before ↦ ap color_of (below_part _ _ pixels line (y * width + x) black_pixel (omega (arith, w.fits)) before)
-      | inr after ↦ ap color_of (above_part ((area.y + row) * width + area.x) area.w pixels line (y * width + x) black_pixel (omega (arith, w.fits)) w.len (past_row width area row x y w.columns off across after))
+off_row : (old new : List Pixel) (width : ℕ) (area : Area) (picture : Picture) (row x y : ℕ) → WritesRow old new width area picture row → x < width → (IsIn (row_of area row) x y → ⊥)
+    → color_in new width x y ≡ color_in old width x y
+off_row old new width area picture row x y w across off =
+    elim (cases_lt (y * width + x) (row_start width area row)) [
+      | inl before ↦ w.before (y * width + x) before
+      | inr after ↦ w.behind (y * width + x) (past_row width area row x y w.columns off across after)
     ]
 
--- One row more: the rows so far are painted as a rectangle of that height would be.
-pub row_painted : (old pixels line : List Pixel) (width : ℕ) (area : Area) (bytes : List ℕ) (row x y : ℕ) → WritesRow pixels line width area bytes row → x < width
-    → color_in pixels width x y ≡ cond (is_in (rows_of area row) x y) (raw_picture area bytes x y) (color_in old width x y)
-    → color_in (after_row pixels line width area row) width x y ≡ cond (is_in (rows_of area (row + 1)) x y) (raw_picture area bytes x y) (color_in old width x y)
-row_painted old pixels line width area bytes row x y w across so_far =
+-- One row more: where an area and the row make up another, and the one is painted, then so is the other.
+row_joined : (old new : List Pixel) (width : ℕ) (area done more : Area) (picture : Picture) (color : Color) (row x y : ℕ) → WritesRow old new width area picture row → x < width
+    → (IsIn (row_of area row) x y → IsIn more x y) → (IsIn done x y → IsIn more x y) → (IsIn more x y → (IsIn (row_of area row) x y → ⊥) → IsIn done x y)
+    → color_in old width x y ≡ cond (is_in done x y) (picture x y) color → color_in new width x y ≡ cond (is_in more x y) (picture x y) color
+row_joined old new width area done more picture color row x y w across row_in done_in from so_far =
     elim (cases_Bool (is_in (row_of area row) x y)) [
       | inl here ↦
           let place = in_is (row_of area row) x y here in
-          let left = place.left in
-          let right = place.right in
-          let top = place.top in
-          let bottom = place.bottom in
-          let painted : is_in (rows_of area (row + 1)) x y ≡ true = is_in_true (rows_of area (row + 1)) x y (record { left = left; right = right; top = omega arith; bottom = omega arith }) in
-          in_row pixels line width area bytes row x y w place ∙ sym (ap (λ (b : Bool). cond b (raw_picture area bytes x y) (color_in old width x y)) painted)
+          let painted : is_in more x y ≡ true = is_in_true more x y (row_in place) in
+          in_row old new width area picture row x y w place ∙ sym (ap (λ (b : Bool). cond b (picture x y) color) painted)
       | inr away ↦
           let off : IsIn (row_of area row) x y → ⊥ = λ place. let clash = is_in_true (row_of area row) x y place in absurd cc in
-          let same : is_in (rows_of area row) x y ≡ is_in (rows_of area (row + 1)) x y =
-          same_in (rows_of area row) (rows_of area (row + 1)) x y
-          (λ place. let lower = place.bottom in record { left = place.left; right = place.right; top = place.top; bottom = omega arith })
-          (λ place. let lower = place.bottom in record {
-            left = place.left;
-            right = place.right;
-            top = place.top;
-            bottom = elim (cases_lt y (area.y + row)) [
-              | inl above ↦ above
-              | inr level ↦ absurd (off (record { left = place.left; right = place.right; top = level; bottom = omega arith }))
-            ];
-          }) in
-          off_row pixels line width area bytes row x y w across off ∙ so_far ∙ ap (λ (b : Bool). cond b (raw_picture area bytes x y) (color_in old width x y)) same
+          let same : is_in done x y ≡ is_in more x y = same_in done more x y done_in (λ place. from place off) in
+          off_row old new width area picture row x y w across off ∙ so_far ∙ ap (λ (b : Bool). cond b (picture x y) color) same
     ]
+
+-- the first rows, and the next one
+pub row_below : (old new : List Pixel) (width : ℕ) (area : Area) (picture : Picture) (color : Color) (row x y : ℕ) → WritesRow old new width area picture row → x < width
+    → color_in old width x y ≡ cond (is_in (rows_of area row) x y) (picture x y) color → color_in new width x y ≡ cond (is_in (rows_of area (row + 1)) x y) (picture x y) color
+row_below old new width area picture color row x y w across so_far =
+    row_joined old new width area (rows_of area row) (rows_of area (row + 1)) picture color row x y w across
+    (λ place. let top = place.top in let bottom = place.bottom in record { left = place.left; right = place.right; top = omega arith; bottom = omega arith })
+    (λ place. let lower = place.bottom in record { left = place.left; right = place.right; top = place.top; bottom = omega arith })
+    (λ place off. let lower = place.bottom in record {
+      left = place.left;
+      right = place.right;
+      top = place.top;
+      bottom = elim (cases_lt y (area.y + row)) [
+        | inl above ↦ above
+        | inr level ↦ absurd (off (record { left = place.left; right = place.right; top = level; bottom = omega arith }))
+      ];
+    }) so_far
+
+-- the last rows, and the one before them
+pub row_above : (old new : List Pixel) (width : ℕ) (area : Area) (picture : Picture) (color : Color) (row x y : ℕ) → WritesRow old new width area picture row → x < width → row < area.h
+    → color_in old width x y ≡ cond (is_in (rows_from area (row + 1)) x y) (picture x y) color → color_in new width x y ≡ cond (is_in (rows_from area row) x y) (picture x y) color
+row_above old new width area picture color row x y w across within so_far =
+    row_joined old new width area (rows_from area (row + 1)) (rows_from area row) picture color row x y w across
+    (λ place. let top = place.top in let bottom = place.bottom in record { left = place.left; right = place.right; top = omega arith; bottom = omega arith })
+    (λ place. let top = place.top in let bottom = place.bottom in record { left = place.left; right = place.right; top = omega arith; bottom = omega arith })
+    (λ place off. let lower = place.bottom in record {
+      left = place.left;
+      right = place.right;
+      top = elim (cases_lt y (area.y + row + 1)) [
+        | inl level ↦ absurd (off (record { left = place.left; right = place.right; top = place.top; bottom = omega (arith, level) }))
+        | inr under ↦ omega (arith, under)
+      ];
+      bottom = omega arith;
+    }) so_far
+
+-- ---- what writes a row
+
+-- a pixel of a part of the data is one of the data
+pixel_of_part : (bytes : List ℕ) (from count n : ℕ) → n < count → pixel_at (take (4 * count) (drop (4 * from) bytes)) n ≡ pixel_at bytes (from + n)
+pixel_of_part bytes from count n lt =
+    let split : 4 * count ≡ 4 * n + (4 * count - 4 * n) = omega arith in
+    ap (λ (m : ℕ). take 4 (drop (4 * n) (take m (drop (4 * from) bytes)))) split
+    ∙ ap (take 4) (drop-take (4 * n) (4 * count - 4 * n) (drop (4 * from) bytes))
+    ∙ take-take 4 (4 * count - 4 * n) (drop (4 * n) (drop (4 * from) bytes)) (omega arith)
+    ∙ ap (take 4) (drop-drop (4 * n) (4 * from) bytes)
+    ∙ ap (λ (m : ℕ). take 4 (drop m bytes)) (omega arith)
+
+-- a line put in the place of the row
+pub line_put : (pixels line : List Pixel) (width : ℕ) (area : Area) (picture : Picture) (row : ℕ) → area.x + area.w ≤ width → row_start width area row + area.w ≤ length pixels → length line ≡ area.w
+    → ((k : ℕ) → k < area.w → pixel_color_at line k ≡ picture (area.x + k) (area.y + row))
+    → WritesRow pixels (put_mid (row_start width area row) area.w pixels line) width area picture row
+line_put pixels line width area picture row columns fits len colors = record {
+  columns = columns;
+  here = λ k lt. ap color_of (in_part (row_start width area row) area.w pixels line k black_pixel (omega (arith, fits)) (omega (arith, len))) ∙ colors k lt;
+  before = λ i lt. ap color_of (below_part (row_start width area row) area.w pixels line i black_pixel (omega (arith, fits)) lt);
+  behind = λ i le. ap color_of (above_part (row_start width area row) area.w pixels line i black_pixel (omega (arith, fits)) len le);
+}
+
+-- the places of a row of pixels
+pub raw_row : (area : Area) (bytes : List ℕ) (row k : ℕ) → k < area.w
+    → host_color (pixel_at (take (4 * area.w) (drop (4 * (row * area.w)) bytes)) k) ≡ raw_picture area bytes (area.x + k) (area.y + row)
+unfolding raw_picture
+raw_row area bytes row k lt =
+    let column : area.x + k - area.x ≡ k = omega arith in
+    let height : area.y + row - area.y ≡ row = omega arith in
+    ap host_color (pixel_of_part bytes (row * area.w) area.w k lt)
+    ∙ sym (ap (λ (c : ℕ). host_color (pixel_at bytes ((area.y + row - area.y) * area.w + c))) column ∙ ap (λ (r : ℕ). host_color (pixel_at bytes (r * area.w + k))) height)
+
+-- what stands at a row of the source, where it isn't painted over yet
+source_left : (pixels : List Pixel) (width : ℕ) (source area done : Area) (before : Picture) (row k : ℕ) → source.x + k < width → (IsIn done (source.x + k) (source.y + row) → ⊥)
+    → ((x y : ℕ) → x < width → color_in pixels width x y ≡ cond (is_in done x y) (copied_picture source area before x y) (before x y))
+    → pixel_color_at pixels (row_start width source row + k) ≡ copied_picture source area before (area.x + k) (area.y + row)
+unfolding copied_picture
+source_left pixels width source area done before row k across off so_far =
+    let at : row_start width source row + k ≡ (source.y + row) * width + (source.x + k) = omega arith in
+    let column : area.x + k - area.x ≡ k = omega arith in
+    let height : area.y + row - area.y ≡ row = omega arith in
+    let away = false_from_ne_true (is_in done (source.x + k) (source.y + row)) (λ e. off (in_is done (source.x + k) (source.y + row) e)) in
+    ap (λ (i : ℕ). pixel_color_at pixels i) at
+    ∙ so_far (source.x + k) (source.y + row) across
+    ∙ ap (λ (b : Bool). cond b (copied_picture source area before (source.x + k) (source.y + row)) (before (source.x + k) (source.y + row))) away
+    ∙ sym (ap (λ (c : ℕ). before (source.x + c) (source.y + (area.y + row - area.y))) column ∙ ap (λ (r : ℕ). before (source.x + k) (source.y + r)) height)
+
+-- a row that is copied
+pub row_copied : (pixels new : List Pixel) (width : ℕ) (source area done : Area) (before : Picture) (row : ℕ) → area.x + area.w ≤ width → source.x + area.w ≤ width
+    → ((k : ℕ) → IsIn done (source.x + k) (source.y + row) → ⊥)
+    → ((x y : ℕ) → x < width → color_in pixels width x y ≡ cond (is_in done x y) (copied_picture source area before x y) (before x y))
+    → CopiedTo pixels new (row_start width source row) (row_start width area row) area.w
+    → SameBelow pixels new (row_start width area row) → SameFrom pixels new (row_start width area row + area.w)
+    → WritesRow pixels new width area (copied_picture source area before) row
+row_copied pixels new width source area done before row columns source_columns off so_far copied below above = record {
+  columns = columns;
+  here = λ k lt.
+      let there : row_start width source row + (row_start width area row + k - row_start width area row) ≡ row_start width source row + k = omega arith in
+      ap color_of (copied (row_start width area row + k) black_pixel (omega arith) (omega (arith, lt)))
+      ∙ ap (λ (i : ℕ). pixel_color_at pixels i) there
+      ∙ source_left pixels width source area done before row k (omega (arith, source_columns, lt)) (off k) so_far;
+  before = λ i lt. ap color_of (below i black_pixel lt);
+  behind = λ i le. ap color_of (above i black_pixel le);
+}
 
 -- the length of a range
 pub range_len : (start n : ℕ) → start + n - start ≡ n

@@ -2,7 +2,8 @@
 use Rattle.std.specs.Prelude.{◌≡◌, ℕ, ◌+◌, ◌*◌, ◌<◌, List, slice_index_or}
 use Rattle.pixel_format.specs.declared.Color.{Color}
 use Rattle.rfb_wire.specs.Host.{Host}
-use Rattle.painter.specs.Picture.{Picture, black, painted}
+use Rattle.pixel_format.specs.Canvas.{Picture}
+use Rattle.painter.specs.Picture.{black, painted}
 
 -- its size, and the colours of its places by rows, from the top and the left
 pub record Framebuffer : Type 0 where

@@ -2,11 +2,9 @@
 #![tactic(auto)]
 
 mod pixel;
-mod plain;
 mod rectangle;
 mod screen;
 
-pub use plain::color_after;
 pub use screen::Screen;
 
 #[cfg(test)]

@@ -1,7 +1,7 @@
 //! Pixels as a screen keeps them.
 
 ghost use Rattle.std.specs.Prelude.{◌≡◌, ◌<◌, ◌*◌, ℕ, length};
-ghost use Rattle.pixel_format.specs.Pixel.{host_color};
+ghost use Rattle.pixel_format.specs.Pixel.{host_color, IsScreenColor};
 ghost use Rattle.painter.specs.Pixels.{color_of, pixel_color_at};
 ghost use Rattle.painter.specs.Picture.{pixel_at};
 
@@ -19,7 +19,8 @@ pub(crate) const BLACK: Pixel = Pixel { r: 0, g: 0, b: 0 };
 
 // The colour of a pixel.
 pub(crate) fn color_of_pixel(pixel: Pixel) -> Color
-    ensures { result ≡ color_of pixel }
+    ensures value { result ≡ color_of pixel }
+    ensures screen { IsScreenColor result }
 {
     Color {
         r: u16::from(pixel.r),
@@ -48,5 +49,26 @@ pub(crate) fn paint_row(row: &mut [Pixel], bytes: &[u8])
 {
     for (k, pixel) in row.iter_mut().enumerate() {
         *pixel = host_pixel_of(&bytes[4 * k..4 * k + 4]);
+    }
+}
+
+/// Gives a row of places one colour.
+pub(crate) fn fill_row(row: &mut [Pixel], pixel: Pixel)
+    ensures { (k : ℕ) → k < length row.old → pixel_color_at row.new k ≡ color_of pixel }
+{
+    for place in row.iter_mut() {
+        *place = pixel;
+    }
+}
+
+/// The pixel of a colour of a screen.
+pub(crate) fn pixel_of_color(color: Color) -> Pixel
+    requires { IsScreenColor color }
+    ensures { color_of result ≡ color }
+{
+    Pixel {
+        r: color.r as u8,
+        g: color.g as u8,
+        b: color.b as u8,
     }
 }

@@ -1,14 +1,14 @@
-//! Painting rectangles over places that are kept by rows.
+//! Painting areas of places that are kept by rows.
 
-ghost use Rattle.std.specs.Prelude.{◌≡◌, ◌+◌, ◌*◌, ◌<◌, ◌≤◌, ℕ, length, if◌then◌else◌};
-ghost use Rattle.painter.specs.Pixels.{color_in};
-ghost use Rattle.painter.specs.Picture.{is_in, raw_picture, painted_message};
+ghost use Rattle.std.specs.Prelude.{◌≡◌, ◌+◌, ◌-◌, ◌*◌, ◌<◌, ◌≤◌, ℕ, length, if◌then◌else◌};
+ghost use Rattle.painter.specs.Pixels.{color_in, color_of};
+ghost use Rattle.painter.specs.Picture.{is_in, raw_picture, copied_picture};
 
-use crate::pixel::{Pixel, paint_row};
-use rfb_wire::{Area, Encoding, HostMessage};
+use crate::pixel::{Pixel, fill_row, paint_row};
+use rfb_wire::Area;
 
-// Paints a Raw rectangle (RFC 6143, section 7.7.1), row by row.
-fn paint_raw(pixels: &mut [Pixel], width: u16, area: Area, bytes: &[u8])
+/// Paints a Raw rectangle (RFC 6143, section 7.7.1), row by row.
+pub(crate) fn paint_raw(pixels: &mut [Pixel], width: u16, area: Area, bytes: &[u8])
     requires columns { area.x + area.w ≤ width }
     requires rows { (area.y + area.h) * width ≤ length pixels.old }
     requires size { length bytes.now ≡ 4 * (area.w * area.h) }
@@ -24,19 +24,74 @@ fn paint_raw(pixels: &mut [Pixel], width: u16, area: Area, bytes: &[u8])
     }
 }
 
-/// Paints the rectangles of a message in their order, over places that are kept by rows.
-pub(crate) fn paint_message(pixels: &mut [Pixel], message: &HostMessage)
-    requires { length pixels.old ≡ message.now.height * message.now.width }
-    ensures { (x y : ℕ) → x < message.now.width → color_in pixels.new message.now.width x y
-        ≡ painted_message message.now (color_in pixels.old message.now.width) x y }
+/// Gives the places of an area one colour.
+pub(crate) fn fill_area(pixels: &mut [Pixel], width: u16, area: Area, pixel: Pixel)
+    requires columns { area.x + area.w ≤ width }
+    requires rows { (area.y + area.h) * width ≤ length pixels.old }
+    ensures { (x y : ℕ) → x < width → color_in pixels.new width x y
+        ≡ (if is_in area x y then color_of pixel else color_in pixels.old width x y) }
 {
-    let (width, _) = message.size();
-    let bytes = message.bytes();
-    let rectangles = message.rectangles();
-    for rectangle in rectangles {
-        let data = &bytes[rectangle.start..rectangle.end];
-        match rectangle.encoding {
-            Encoding::Raw => paint_raw(pixels, width, rectangle.area, data),
-        }
+    let (width, w) = (usize::from(width), usize::from(area.w));
+    let (left, top) = (usize::from(area.x), usize::from(area.y));
+    for row in 0..usize::from(area.h) {
+        let start = (top + row) * width + left;
+        fill_row(&mut pixels[start..start + w], pixel);
+    }
+}
+
+// Copies an area to one that stands no lower, from the top row to the bottom.
+fn copy_up(pixels: &mut [Pixel], width: u16, source: Area, area: Area)
+    requires columns { area.x + area.w ≤ width }
+    requires rows { (area.y + area.h) * width ≤ length pixels.old }
+    requires source_columns { source.x + area.w ≤ width }
+    requires source_rows { (source.y + area.h) * width ≤ length pixels.old }
+    requires above { area.y ≤ source.y }
+    ensures { (x y : ℕ) → x < width → color_in pixels.new width x y
+        ≡ (if is_in area x y then copied_picture source area (color_in pixels.old width) x y else color_in pixels.old width x y) }
+{
+    let (width, w) = (usize::from(width), usize::from(area.w));
+    let (left, top) = (usize::from(area.x), usize::from(area.y));
+    let (from_left, from_top) = (usize::from(source.x), usize::from(source.y));
+    for row in 0..usize::from(area.h) {
+        let start = (from_top + row) * width + from_left;
+        pixels.copy_within(start..start + w, (top + row) * width + left);
+    }
+}
+
+// Copies an area to one that stands lower, from the bottom row to the top.
+fn copy_down(pixels: &mut [Pixel], width: u16, source: Area, area: Area)
+    requires columns { area.x + area.w ≤ width }
+    requires rows { (area.y + area.h) * width ≤ length pixels.old }
+    requires source_columns { source.x + area.w ≤ width }
+    requires source_rows { (source.y + area.h) * width ≤ length pixels.old }
+    requires below { source.y < area.y }
+    ensures { (x y : ℕ) → x < width → color_in pixels.new width x y
+        ≡ (if is_in area x y then copied_picture source area (color_in pixels.old width) x y else color_in pixels.old width x y) }
+{
+    let (width, w) = (usize::from(width), usize::from(area.w));
+    let (left, top) = (usize::from(area.x), usize::from(area.y));
+    let (from_left, from_top) = (usize::from(source.x), usize::from(source.y));
+    let mut row = usize::from(area.h);
+    while row > 0 {
+        row -= 1;
+        let start = (from_top + row) * width + from_left;
+        pixels.copy_within(start..start + w, (top + row) * width + left);
+    }
+}
+
+/// Copies an area of the same size to this one, as if it were read as a whole before anything is written (RFC
+/// 6143, section 7.7.2).
+pub(crate) fn copy_area(pixels: &mut [Pixel], width: u16, source: Area, area: Area)
+    requires columns { area.x + area.w ≤ width }
+    requires rows { (area.y + area.h) * width ≤ length pixels.old }
+    requires source_columns { source.x + area.w ≤ width }
+    requires source_rows { (source.y + area.h) * width ≤ length pixels.old }
+    ensures { (x y : ℕ) → x < width → color_in pixels.new width x y
+        ≡ (if is_in area x y then copied_picture source area (color_in pixels.old width) x y else color_in pixels.old width x y) }
+{
+    if area.y <= source.y {
+        copy_up(pixels, width, source, area);
+    } else {
+        copy_down(pixels, width, source, area);
     }
 }

@@ -1,14 +1,18 @@
 //! Screens.
 
-ghost use Rattle.std.specs.Prelude.{◌≡◌, ◌<◌, ℕ, ◌++◌, ◌∷◌, [], IfOk, List};
+ghost use Rattle.std.specs.Prelude.{◌≡◌, ◌<◌, ◌≤◌, ◌+◌, ℕ, ◌++◌, ◌∷◌, [], IfOk, List};
 ghost use Rattle.rfb_wire.specs.Host.{Host};
+ghost use Rattle.pixel_format.specs.Pixel.{IsScreenColor};
 ghost use Rattle.painter.specs.Framebuffer.{Framebuffer, color_at, SameSize, Has, Shows};
-ghost use Rattle.painter.specs.Picture.{black, painted_message};
+ghost use Rattle.painter.specs.Picture.{black, painted_data, painted_message};
+ghost use Rattle.pixel_format.specs.Format.{host_format};
+ghost use Rattle.rect_data.specs.Data.{AreData};
 
-use crate::pixel::{BLACK, Pixel, color_of_pixel};
-use crate::rectangle::paint_message;
-use pixel_format::{Color, NoMemory};
-use rfb_wire::HostMessage;
+use crate::pixel::{BLACK, Pixel, color_of_pixel, pixel_of_color};
+use crate::rectangle::{copy_area, fill_area, paint_raw};
+use pixel_format::{Canvas, Color, NoMemory, PixelFormat};
+use rect_data::source_at;
+use rfb_wire::{Area, Encoding, HostMessage};
 use std::alloc::Global;
 use std::marker::Model;
 
@@ -57,17 +61,40 @@ impl Screen {
         (self.width, self.height)
     }
 
-    /// The colour at a place: column x of row y, counted from 0 at the left and the top.
+    /// The colour at a place: column x of row y, counted from 0 at the left and the top. Its channels are at
+    /// most 255.
     pub fn color(&self, x: u16, y: u16) -> Color
         requires column { x < self.now.width }
         requires row { y < self.now.height }
-        ensures { result ≡ color_at self.now x y }
+        ensures value { result ≡ color_at self.now x y }
+        ensures screen { IsScreenColor result }
     {
         let place = usize::from(y) * usize::from(self.width) + usize::from(x);
         color_of_pixel(self.pixels[place])
     }
 
-    /// Paints a message of this size: its rectangles in their order (RFC 6143, section 7.7).
+    // Paints a rectangle of this area from its data.
+    fn paint_data(&mut self, encoding: Encoding, area: Area, bytes: &[u8])
+        requires content { AreData host_format self.old.width self.old.height encoding area bytes.now }
+        requires columns { area.x + area.w ≤ self.old.width }
+        requires rows { area.y + area.h ≤ self.old.height }
+        ensures size { SameSize self.old self.new }
+        ensures painted { Has self.new (painted_data encoding area bytes.now (color_at self.old)) }
+    {
+        let host = PixelFormat::host();
+        let width = self.width;
+        match encoding {
+            Encoding::Raw => paint_raw(&mut self.pixels, width, area, bytes),
+            Encoding::CopyRect => {
+                copy_area(&mut self.pixels, width, source_at(area, bytes), area);
+            }
+            Encoding::Rre => rre::paint(&host, area.x, area.y, area.w, area.h, bytes, self),
+            Encoding::Hextile => hextile::paint(&host, area.x, area.y, area.w, area.h, bytes, self),
+        }
+    }
+
+    /// Paints a message of this size: its rectangles in their order, each over what the ones before it left
+    /// (RFC 6143, section 7.7). It takes no memory.
     pub fn paint(&mut self, message: &HostMessage)
         requires width { message.now.width ≡ self.old.width }
         requires height { message.now.height ≡ self.old.height }
@@ -75,6 +102,32 @@ impl Screen {
         ensures painted { Has self.new (painted_message message.now (color_at self.old)) }
         ensures shows { (messages : List Host) → Shows self.old messages → Shows self.new (messages ++ message.now ∷ []) }
     {
-        paint_message(&mut self.pixels, message);
+        let bytes = message.bytes();
+        for rectangle in message.rectangles() {
+            let data = &bytes[rectangle.start..rectangle.end];
+            self.paint_data(rectangle.encoding, rectangle.area, data);
+        }
+    }
+}
+
+impl Canvas for Screen {
+    ghost use Rattle.pixel_format.specs.Pixel.{IsScreenColor};
+    ghost use Rattle.painter.specs.Framebuffer.{color_at};
+
+    ghost width = { λ s. s.width };
+
+    ghost height = { λ s. s.height };
+
+    ghost holds = { IsScreenColor };
+
+    ghost picture = { color_at };
+
+    fn fill(&mut self, x: u16, y: u16, w: u16, h: u16, color: Color) {
+        fill_area(
+            &mut self.pixels,
+            self.width,
+            Area { x, y, w, h },
+            pixel_of_color(color),
+        );
     }
 }

@@ -1,16 +1,19 @@
 -- What the grammar says of bytes whose first field is known.
-use Rattle.std.proofs.Common.{◌≡◌, ℕ, suc, ◌+◌, ◌*◌, true, false, List, [], ◌∷◌, ◌++◌, nat_eq, refl, ◌∙◌, append_assoc}
-use Rattle.std.proofs.lemmas.List.{append-nil}
+use Rattle.std.proofs.Common.{◌≡◌, ℕ, suc, ◌+◌, ◌-◌, true, false, List, [], ◌∷◌, ◌++◌, length, length-append, drop, refl, sym, ap, ◌∙◌, append_assoc, arith}
+use Rattle.std.proofs.lemmas.List.{append-nil, drop_at}
 use Rattle.pixel_format.specs.Reading.{Reading, Got, More, Bad, ◌>>=◌, field, guard}
 use Rattle.client_wire.specs.declared.message.Area.{Area}
 use Rattle.rfb_wire.specs.declared.message.Rectangle.{Rectangle}
-use Rattle.rfb_wire.specs.declared.message.Encoding.TheVariants as encodings
+use Rattle.pixel_format.specs.Format.{host_format}
+use Rattle.rect_data.specs.declared.encoding.Encoding.{Encoding}
+use Rattle.rect_data.specs.Grammar.{encoding_of, is_inside, data_at, measured}
+use Rattle.rect_data.proofs.Content.{data_read}
 use Rattle.client_wire.specs.declared.fault.WireFault.{WireFault}
 use Rattle.client_wire.specs.declared.fault.WireFault.TheVariants as faults
 use Rattle.client_wire.specs.Number.{signed, u16_at}
-use Rattle.rfb_wire.specs.Grammar.{area_of, encoding_number, is_inside, raw_at, data_at, rectangle_at, rectangles_at, update_at, Recorded}
+use Rattle.rfb_wire.specs.Grammar.{area_of, encoding_number, content_at, encoded_at, rectangle_at, rectangles_at, update_at, Recorded}
 use Rattle.rfb_wire.specs.Plain.{Says}
-use Rattle.rfb_wire.proofs.Turns.{unless_memory_map}
+use Rattle.client_wire.proofs.Fronts.{unless_memory_map}
 use Rattle.std.proofs.Common.{Option, Some, None, Result, Ok, Err}
 
 pub header_short : (width height at : ℕ) (bytes : List ℕ) → field {E = WireFault} 12 bytes ≡ More → rectangle_at width height at bytes ≡ More
@@ -18,7 +21,8 @@ unfolding rectangle_at
 header_short width height at bytes e = rw e refl
 
 header_read : (width height at : ℕ) (bytes header rest : List ℕ) → field {E = WireFault} 12 bytes ≡ Got header rest
-    → rectangle_at width height at bytes ≡ guard (is_inside width height (area_of header)) faults.OutsideScreen (data_at (encoding_number header) (area_of header) (at + 12) rest)
+    → rectangle_at width height at bytes ≡ guard (is_inside width height (area_of header)) faults.OutsideScreen
+    (encoded_at width height (encoding_number header) (encoding_of (encoding_number header)) (area_of header) (at + 12) rest)
 unfolding rectangle_at
 header_read width height at bytes header rest e = rw e refl
 
@@ -27,26 +31,43 @@ pub outside : (width height at : ℕ) (bytes header rest : List ℕ) → field {
 outside width height at bytes header rest e out = header_read width height at bytes header rest e ∙ rw out refl
 
 pub unknown : (width height at : ℕ) (bytes header rest : List ℕ) → field {E = WireFault} 12 bytes ≡ Got header rest → is_inside width height (area_of header) ≡ true
-    → nat_eq (encoding_number header) 0 ≡ false → rectangle_at width height at bytes ≡ Bad (faults.Encoding (signed (encoding_number header)))
-unfolding data_at
+    → encoding_of (encoding_number header) ≡ None → rectangle_at width height at bytes ≡ Bad (faults.Encoding (signed (encoding_number header)))
 unknown width height at bytes header rest e inside other = header_read width height at bytes header rest e ∙ rw (inside, other) refl
 
-raw_of : (width height at : ℕ) (bytes header rest : List ℕ) (area : Area) → field {E = WireFault} 12 bytes ≡ Got header rest → is_inside width height (area_of header) ≡ true
-    → nat_eq (encoding_number header) 0 ≡ true → area ≡ area_of header → rectangle_at width height at bytes ≡ raw_at area (at + 12) rest
-unfolding data_at
-raw_of width height at bytes header rest area e inside raw is = header_read width height at bytes header rest e ∙ rw (inside, raw, is) refl
+-- a rectangle whose header is read, by its data
+content_of : (width height at : ℕ) (bytes header rest : List ℕ) (encoding : Encoding) → field {E = WireFault} 12 bytes ≡ Got header rest
+    → is_inside width height (area_of header) ≡ true → encoding_of (encoding_number header) ≡ Some encoding
+    → rectangle_at width height at bytes ≡ content_at width height encoding (area_of header) (at + 12) rest
+content_of width height at bytes header rest encoding e inside is = header_read width height at bytes header rest e ∙ rw (inside, is) refl
 
-pub data_short : (width height at : ℕ) (bytes header rest : List ℕ) (area : Area) → field {E = WireFault} 12 bytes ≡ Got header rest → is_inside width height (area_of header) ≡ true
-    → nat_eq (encoding_number header) 0 ≡ true → area ≡ area_of header → field {E = WireFault} (4 * (area.w * area.h)) rest ≡ More
-    → rectangle_at width height at bytes ≡ More
-unfolding raw_at
-data_short width height at bytes header rest area e inside raw is short = raw_of width height at bytes header rest area e inside raw is ∙ rw short refl
+-- what is said of the data is said of the rectangle
+abbrev pub rectangle_by : Area → Encoding → ℕ → Result (Option ℕ) WireFault → List ℕ → Reading Rectangle WireFault
+rectangle_by area encoding at (Ok (Some n)) rest = Got (record { area = area; encoding = encoding; start = at; end = at + n }) (drop n rest)
+rectangle_by area encoding at (Ok None) rest = More
+rectangle_by area encoding at (Err f) rest = Bad f
 
-pub data_whole : (width height at : ℕ) (bytes header rest pixels behind : List ℕ) (area : Area) → field {E = WireFault} 12 bytes ≡ Got header rest → is_inside width height (area_of header) ≡ true
-    → nat_eq (encoding_number header) 0 ≡ true → area ≡ area_of header → field {E = WireFault} (4 * (area.w * area.h)) rest ≡ Got pixels behind
-    → rectangle_at width height at bytes ≡ Got (record { area = area; encoding = encodings.Raw; start = at + 12; end = at + 12 + 4 * (area.w * area.h) }) behind
-unfolding raw_at
-data_whole width height at bytes header rest pixels behind area e inside raw is whole = raw_of width height at bytes header rest area e inside raw is ∙ rw whole refl
+by_reading : (width height at : ℕ) (area : Area) (encoding : Encoding) (rest : List ℕ) (r : Reading Unit WireFault)
+    → data_at host_format width height encoding area rest ≡ r
+    → content_at width height encoding area at rest ≡ rectangle_by area encoding at (measured (length rest) r) rest
+unfolding content_at
+by_reading width height at area encoding rest (Got x after) e =
+    let d = data_read host_format width height encoding area rest after x e in
+    let size : length rest ≡ length d.front + length after = ap length d.bytes_are ∙ length-append d.front after in
+    let n : length rest - length after ≡ length d.front = omega (arith, size) in
+    let behind : drop (length rest - length after) rest ≡ after = ap (λ k. drop k rest) n ∙ ap (drop (length d.front)) d.bytes_are ∙ drop_at d.front after (length d.front) refl in
+    let end : (at + length rest) - length after ≡ at + (length rest - length after) = omega (arith, size) in
+    rw (e, behind) (ap (λ z. Got (record { area = area; encoding = encoding; start = at; end = z }) after) end)
+by_reading width height at area encoding rest More e = rw e refl
+by_reading width height at area encoding rest (Bad f) e = rw e refl
+
+pub rectangle_measured : (width height at : ℕ) (bytes header rest : List ℕ) (encoding : Encoding) (m : Result (Option ℕ) WireFault) → field {E = WireFault} 12 bytes ≡ Got header rest
+    → is_inside width height (area_of header) ≡ true → encoding_of (encoding_number header) ≡ Some encoding
+    → m ≡ measured (length rest) (data_at host_format width height encoding (area_of header) rest)
+    → rectangle_at width height at bytes ≡ rectangle_by (area_of header) encoding (at + 12) m rest
+rectangle_measured width height at bytes header rest encoding m e inside is by =
+    content_of width height at bytes header rest encoding e inside is
+    ∙ by_reading width height (at + 12) (area_of header) encoding rest (data_at host_format width height encoding (area_of header) rest) refl
+    ∙ ap (λ z. rectangle_by (area_of header) encoding (at + 12) z rest) (sym by)
 
 -- rectangles behind those which are found
 pub others_behind : ℕ → ℕ → ℕ → ℕ → List Rectangle → List ℕ → Reading (List Rectangle) WireFault

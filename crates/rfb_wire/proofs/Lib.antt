@@ -1,10 +1,10 @@
-pub mod Placed
 pub mod Resume
 pub mod Local
 pub mod Turns
 pub mod Streams
 pub mod Whole
 pub mod Messages
+pub mod Placed
 pub mod Over
 pub mod Others
 pub mod FromFront

@@ -1,39 +1,50 @@
 -- What bytes say they say whatever follows them: each part of the grammar is local.
-use Rattle.std.proofs.Common.{ℕ, zero, suc, ◌+◌, ◌*◌, List, ◌∷◌, ◌++◌, nat_eq, slice_index, refl}
+use Rattle.std.proofs.Common.{◌≡◌, ℕ, zero, suc, ◌+◌, ◌-◌, ◌*◌, List, ◌∷◌, ◌++◌, length, length-append, nat_eq, slice_index, Option, Some, None, refl, ap, arith}
 use Rattle.std.proofs.Common.{inl, inr}
 use Rattle.std.specs.Prelude.{nat_lt, [], if◌then◌else◌}
 use Rattle.pixel_format.specs.Reading.{Reading, Got, ◌>>=◌, field, guard, within, Extends, IsLocal}
 use Rattle.pixel_format.proofs.Readings.{field_local, bind_local, guard_local, within_local, true_or_false}
 use Rattle.client_wire.specs.declared.message.Area.{Area}
 use Rattle.rfb_wire.specs.declared.message.Rectangle.{Rectangle}
-use Rattle.rfb_wire.specs.declared.message.Encoding.TheVariants as encodings
+use Rattle.pixel_format.specs.Format.{host_format}
+use Rattle.rect_data.specs.declared.encoding.Encoding.{Encoding}
+use Rattle.rect_data.specs.Grammar.{encoding_of, is_inside, data_at}
+use Rattle.rect_data.proofs.Local.{data_local}
 use Rattle.client_wire.specs.declared.fault.WireFault.{WireFault}
 use Rattle.client_wire.specs.declared.fault.WireFault.TheVariants as faults
 use Rattle.client_wire.specs.Number.{u16_at, u32_at}
-use Rattle.rfb_wire.specs.Grammar.{area_of, encoding_number, is_inside, raw_at, data_at, rectangle_at, rectangles_at, update_at, message_at, other_at, color_map_at, text_at, text_data_at, read_over, text_limit, Message, Recorded, ReadOver}
+use Rattle.rfb_wire.specs.Grammar.{area_of, encoding_number, content_at, encoded_at, rectangle_at, rectangles_at, update_at, message_at, other_at, color_map_at, text_at, text_data_at, read_over, text_limit, Message, Recorded, ReadOver}
 
-raw_local : (area : Area) (at : ℕ) → IsLocal (raw_at area at)
-unfolding raw_at
-raw_local area at bytes more =
-    let n : ℕ = 4 * (area.w * area.h) in
-    let f : List ℕ → List ℕ → Reading Rectangle WireFault = λ pixels rest. Got (record { area = area; encoding = encodings.Raw; start = at; end = at + n }) rest in
-    bind_local (field n bytes) (field n (bytes ++ more)) more f f (field_local WireFault n bytes more) (λ x rest. refl)
+-- the end of what is read is the same
+same_end : (area : Area) (encoding : Encoding) (at : ℕ) (bytes rest more : List ℕ)
+    → Extends {A = Rectangle} {E = WireFault} (Got (record { area = area; encoding = encoding; start = at; end = (at + length bytes) - length rest }) rest) more
+    (Got (record { area = area; encoding = encoding; start = at; end = (at + length (bytes ++ more)) - length (rest ++ more) }) (rest ++ more))
+same_end area encoding at bytes rest more =
+    let both : (at + length (bytes ++ more)) - length (rest ++ more) ≡ (at + length bytes) - length rest =
+    rw (length-append bytes more, length-append rest more) (omega arith) in
+    ap (λ e. Got (record { area = area; encoding = encoding; start = at; end = e }) (rest ++ more)) both
 
-data_local : (number : ℕ) (area : Area) (at : ℕ) → IsLocal (data_at number area at)
-unfolding data_at
-data_local number area at bytes more = elim (true_or_false (nat_eq number 0)) [
-  | inl t ↦ rw t (raw_local area at bytes more)
-  | inr t ↦ rw t refl
-]
+content_local : (width height : ℕ) (encoding : Encoding) (area : Area) (at : ℕ) → IsLocal (content_at width height encoding area at)
+unfolding content_at
+content_local width height encoding area at bytes more =
+    let f : Unit {0} → List ℕ → Reading Rectangle WireFault = λ content rest. Got (record { area = area; encoding = encoding; start = at; end = (at + length bytes) - length rest }) rest in
+    let g : Unit {0} → List ℕ → Reading Rectangle WireFault = λ content rest. Got (record { area = area; encoding = encoding; start = at; end = (at + length (bytes ++ more)) - length rest }) rest in
+    bind_local (data_at host_format width height encoding area bytes) (data_at host_format width height encoding area (bytes ++ more)) more f g
+    (data_local host_format width height encoding area bytes more) (λ content rest. same_end area encoding at bytes rest more)
+
+encoded_local : (width height number : ℕ) (encoding : Option Encoding) (area : Area) (at : ℕ) → IsLocal (encoded_at width height number encoding area at)
+encoded_local width height number (Some encoding) area at bytes more = content_local width height encoding area at bytes more
+encoded_local width height number None area at bytes more = refl
 
 rectangle_local : (width height at : ℕ) → IsLocal (rectangle_at width height at)
 unfolding rectangle_at
 rectangle_local width height at bytes more =
-    let f : List ℕ → List ℕ → Reading Rectangle WireFault = λ head rest. guard (is_inside width height (area_of head)) faults.OutsideScreen (data_at (encoding_number head) (area_of head) (at + 12) rest) in
+    let f : List ℕ → List ℕ → Reading Rectangle WireFault = λ head rest. guard (is_inside width height (area_of head)) faults.OutsideScreen (encoded_at width height (encoding_number head) (encoding_of (encoding_number head)) (area_of head) (at + 12) rest) in
     bind_local (field 12 bytes) (field 12 (bytes ++ more)) more f f (field_local WireFault 12 bytes more)
     (λ head rest. guard_local (is_inside width height (area_of head)) faults.OutsideScreen
-    (data_at (encoding_number head) (area_of head) (at + 12) rest) (data_at (encoding_number head) (area_of head) (at + 12) (rest ++ more)) more
-    (data_local (encoding_number head) (area_of head) (at + 12) rest more))
+    (encoded_at width height (encoding_number head) (encoding_of (encoding_number head)) (area_of head) (at + 12) rest)
+    (encoded_at width height (encoding_number head) (encoding_of (encoding_number head)) (area_of head) (at + 12) (rest ++ more)) more
+    (encoded_local width height (encoding_number head) (encoding_of (encoding_number head)) (area_of head) (at + 12) rest more))
 
 rectangles_local : (width height count at : ℕ) → IsLocal (rectangles_at width height count at)
 unfolding rectangles_at

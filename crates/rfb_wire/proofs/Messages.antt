@@ -1,47 +1,60 @@
 -- What the grammar reads is a message, and each message is what it reads.
-use Rattle.std.proofs.Common.{◌≡◌, ℕ, zero, suc, ◌+◌, ◌*◌, ◌≤◌, ◌⊎◌, length-append, inl, inr, true, false, List, [], ◌∷◌, ◌++◌, ◌-◌, length, take, drop, nat_eq, slice_index, refl, sym, ap, ◌∙◌, subst, arith, append_assoc, eqb-true, eq-eqb}
+use Rattle.std.proofs.Common.{◌≡◌, ℕ, zero, suc, ◌+◌, ◌*◌, ◌≤◌, ◌⊎◌, length-append, inl, inr, true, false, List, [], ◌∷◌, ◌++◌, ◌-◌, length, take, drop, nat_eq, slice_index, Option, Some, None, refl, sym, ap, ◌∙◌, subst, arith, append_assoc, eqb-true, eq-eqb}
 use Rattle.std.specs.Prelude.{if◌then◌else◌}
-use Rattle.std.proofs.lemmas.Bool.{le-leb}
 use Rattle.std.proofs.lemmas.List.{length-drop, take_all, append-nil}
 use Rattle.pixel_format.specs.Reading.{Got, ◌>>=◌, field, guard, within}
 use Rattle.pixel_format.proofs.Readings.{bind_got, guard_got, field_got, field-whole, within_got, within-short, true_or_false}
 use Rattle.client_wire.specs.declared.message.Area.{Area}
 use Rattle.rfb_wire.specs.declared.message.Rectangle.{Rectangle}
-use Rattle.rfb_wire.specs.declared.message.Encoding.{Encoding}
-use Rattle.rfb_wire.specs.declared.message.Encoding.TheVariants as encodings
+use Rattle.pixel_format.specs.Format.{host_format}
+use Rattle.rect_data.specs.declared.encoding.Encoding.{Encoding}
+use Rattle.rect_data.specs.Grammar.{encoding_of, is_inside, data_at}
+use Rattle.rect_data.specs.Data.{number_of, AreData}
+use Rattle.rect_data.proofs.Content.{inside_within, within_inside, number_again, encoding_number_is, data_read, data_again}
 use Rattle.client_wire.specs.declared.fault.WireFault.{WireFault}
 use Rattle.client_wire.specs.declared.fault.WireFault.TheVariants as faults
 use Rattle.client_wire.specs.Number.{u16_at}
-use Rattle.rfb_wire.specs.Grammar.{area_of, encoding_number, is_inside, raw_at, data_at, rectangle_at, rectangles_at, update_at, message_at, other_at, Recorded}
-use Rattle.rfb_wire.specs.Message.{number_of, AreData, IsRectangle, AreRectangles, IsUpdate, IsMessage}
+use Rattle.rfb_wire.specs.Grammar.{area_of, encoding_number, content_at, encoded_at, rectangle_at, rectangles_at, update_at, message_at, other_at, Recorded}
+use Rattle.rfb_wire.specs.Message.{IsRectangle, AreRectangles, IsUpdate, IsMessage}
 use Rattle.rfb_wire.proofs.Others.{field_front, TextRead, other_read, other_of_bell, other_of_text, text_again}
-use Rattle.rfb_wire.proofs.Placed.{inside_width, inside_height}
 
--- Raw data that are read
-record RawRead (area : Area) (at : ℕ) (bytes : List ℕ) (r : Rectangle) (rest : List ℕ) : Type 0 where
+-- data that are read, and the rectangle that they end
+record ContentRead (width height : ℕ) (encoding : Encoding) (area : Area) (at : ℕ) (bytes : List ℕ) (r : Rectangle) (rest : List ℕ) : Type 0 where
   pub content : List ℕ
   pub bytes_are : bytes ≡ content ++ rest
-  pub content_is : length content ≡ 4 * (area.w * area.h)
-  pub is : r ≡ record { area = area; encoding = encodings.Raw; start = at; end = at + 4 * (area.w * area.h) }
+  pub content_is : AreData host_format width height encoding area content
+  pub is : r ≡ record { area = area; encoding = encoding; start = at; end = at + length content }
 
-raw_read : (area : Area) (at : ℕ) (bytes : List ℕ) (r : Rectangle) (rest : List ℕ) → raw_at area at bytes ≡ Got r rest → RawRead area at bytes r rest
-unfolding raw_at
-raw_read area at bytes r rest e =
-    let n : ℕ = 4 * (area.w * area.h) in
-    let b = bind_got (field n bytes) (λ pixels after. Got (record { area = area; encoding = encodings.Raw; start = at; end = at + n }) after) r rest e in
-    let f = field_front n bytes b.value b.rest (field_got n bytes b.value b.rest b.first) in
+content_read : (width height : ℕ) (encoding : Encoding) (area : Area) (at : ℕ) (bytes : List ℕ) (r : Rectangle) (rest : List ℕ)
+    → content_at width height encoding area at bytes ≡ Got r rest → ContentRead width height encoding area at bytes r rest
+unfolding content_at
+content_read width height encoding area at bytes r rest e =
+    let b = bind_got (data_at host_format width height encoding area bytes)
+    (λ content after. Got (record { area = area; encoding = encoding; start = at; end = (at + length bytes) - length after }) after) r rest e in
+    let d = data_read host_format width height encoding area bytes b.rest b.value b.first in
     let last = b.then in
-    let is : r ≡ record { area = area; encoding = encodings.Raw; start = at; end = at + n } = cc in
-    let rest_is : rest ≡ b.rest = cc in
-    record { content = b.value; bytes_are = f.0 ∙ ap (λ z. b.value ++ z) (sym rest_is); content_is = f.1; is = is }
+    let is : record { area = area; encoding = encoding; start = at; end = (at + length bytes) - length b.rest } ≡ r = cc in
+    let rest_is : b.rest ≡ rest = cc in
+    let size : length bytes ≡ length d.front + length b.rest = ap length d.bytes_are ∙ length-append d.front b.rest in
+    let end : (at + length bytes) - length b.rest ≡ at + length d.front = omega (arith, size) in
+    record {
+      content = d.front;
+      bytes_are = d.bytes_are ∙ ap (λ z. d.front ++ z) rest_is;
+      content_is = d.is;
+      is = sym is ∙ ap (λ z. record { area = area; encoding = encoding; start = at; end = z }) end;
+    }
 
-data_read : (number : ℕ) (area : Area) (at : ℕ) (bytes : List ℕ) (r : Rectangle) (rest : List ℕ) → data_at number area at bytes ≡ Got r rest
-    → (number ≡ 0) × RawRead area at bytes r rest
-unfolding data_at
-data_read number area at bytes r rest e = elim (true_or_false (nat_eq number 0)) [
-  | inl t ↦ (let e' = rw t at e in (eqb-true number 0 t, raw_read area at bytes r rest e'))
-  | inr t ↦ (let e' = rw t at e in absurd (cc))
-]
+-- the encoding of a number that is read
+record EncodedRead (width height number : ℕ) (area : Area) (at : ℕ) (bytes : List ℕ) (r : Rectangle) (rest : List ℕ) : Type 0 where
+  pub encoding : Encoding
+  pub number_is : number_of encoding ≡ number
+  pub read : ContentRead width height encoding area at bytes r rest
+
+encoded_read : (width height number : ℕ) (encoding : Option Encoding) (area : Area) (at : ℕ) (bytes : List ℕ) (r : Rectangle) (rest : List ℕ)
+    → encoding_of number ≡ encoding → encoded_at width height number encoding area at bytes ≡ Got r rest → EncodedRead width height number area at bytes r rest
+encoded_read width height number (Some encoding) area at bytes r rest is e =
+    record { encoding = encoding; number_is = encoding_number_is number encoding is; read = content_read width height encoding area at bytes r rest e }
+encoded_read width height number None area at bytes r rest is e = absurd (cc)
 
 -- a rectangle that is read, and the bytes that it takes
 record RectangleRead (width height at : ℕ) (bytes : List ℕ) (r : Rectangle) (rest : List ℕ) : Type 0 where
@@ -53,31 +66,31 @@ rectangle_read : (width height at : ℕ) (bytes : List ℕ) (r : Rectangle) (res
     → RectangleRead width height at bytes r rest
 unfolding rectangle_at
 rectangle_read width height at bytes r rest e =
-    let b = bind_got (field 12 bytes) (λ head after. guard (is_inside width height (area_of head)) faults.OutsideScreen (data_at (encoding_number head) (area_of head) (at + 12) after)) r rest e in
+    let b = bind_got (field 12 bytes) (λ head after. guard (is_inside width height (area_of head)) faults.OutsideScreen (encoded_at width height (encoding_number head) (encoding_of (encoding_number head)) (area_of head) (at + 12) after)) r rest e in
     let f = field_front 12 bytes b.value b.rest (field_got 12 bytes b.value b.rest b.first) in
     let area = area_of b.value in
-    let g = guard_got (is_inside width height area) faults.OutsideScreen (data_at (encoding_number b.value) area (at + 12) b.rest) r rest b.then in
-    let d = data_read (encoding_number b.value) area (at + 12) b.rest r rest g.1 in
-    let raw = d.1 in
-    let area_width : area.x + area.w ≤ width = inside_width width height area g.0 in
-    let area_height : area.y + area.h ≤ height = inside_height width height area g.0 in
-    let whole : IsRectangle width height at (record { area = area; encoding = encodings.Raw; start = at + 12; end = at + 12 + 4 * (area.w * area.h) }) (b.value ++ raw.content) = record {
+    let number = encoding_number b.value in
+    let g = guard_got (is_inside width height area) faults.OutsideScreen (encoded_at width height number (encoding_of number) area (at + 12) b.rest) r rest b.then in
+    let d = encoded_read width height number (encoding_of number) area (at + 12) b.rest r rest refl g.1 in
+    let c = d.read in
+    let within = inside_within width height area g.0 in
+    let whole : IsRectangle width height at (record { area = area; encoding = d.encoding; start = at + 12; end = at + 12 + length c.content }) (b.value ++ c.content) = record {
       header = b.value;
-      content = raw.content;
+      content = c.content;
       bytes_are = refl;
       header_length = f.1;
       area_is = refl;
-      encoding_is = sym d.0;
-      within_width = area_width;
-      within_height = area_height;
-      content_is = raw.content_is;
+      encoding_is = d.number_is;
+      within_width = within.columns;
+      within_height = within.rows;
+      content_is = c.content_is;
       start_is = refl;
-      end_is = ap (λ z. at + 12 + z) (sym raw.content_is);
+      end_is = refl;
     } in
     record {
-      first = b.value ++ raw.content;
-      bytes_are = f.0 ∙ ap (λ z. b.value ++ z) raw.bytes_are ∙ sym (append_assoc b.value raw.content rest);
-      is = subst (λ (z : Rectangle). IsRectangle width height at z (b.value ++ raw.content)) (sym raw.is) whole;
+      first = b.value ++ c.content;
+      bytes_are = f.0 ∙ ap (λ z. b.value ++ z) c.bytes_are ∙ sym (append_assoc b.value c.content rest);
+      is = subst (λ (z : Rectangle). IsRectangle width height at z (b.value ++ c.content)) (sym c.is) whole;
     }
 
 record RectanglesRead (width height count at : ℕ) (bytes : List ℕ) (rs : List Rectangle) (rest : List ℕ) : Type 0 where
@@ -201,55 +214,43 @@ read_is_message limit width height bytes rs e =
           other_message limit width height (slice_index b.value 0) bytes b.rest rs bytes_are (other_read (slice_index b.value 0) b.rest rs [] e'))
     ]
 
--- an area within the screen
-inside_is : (width height : ℕ) (a : Area) → a.x + a.w ≤ width → a.y + a.h ≤ height → is_inside width height a ≡ true
-unfolding is_inside
-inside_is width height a x y = rw (le-leb (a.x + a.w) width x, le-leb (a.y + a.h) height y) refl
-
--- what is known of each encoding: Raw alone is read
-raw_length : (e : Encoding) (a : Area) (content : List ℕ) → AreData e a content → length content ≡ 4 * (a.w * a.h)
-raw_length encodings.Raw a content is = is
-
-raw_number : (e : Encoding) → number_of e ≡ 0
-raw_number encodings.Raw = refl
-
-raw_alone : (e : Encoding) → encodings.Raw ≡ e
-raw_alone encodings.Raw = refl
-
 same_rectangle : (r : Rectangle) (area : Area) (encoding : Encoding) (start end : ℕ) → area ≡ r.area → encoding ≡ r.encoding → start ≡ r.start → end ≡ r.end
     → record { area = area; encoding = encoding; start = start; end = end } ≡ r
 same_rectangle r area encoding start end a e s f =
     let same : record { area = area; encoding = encoding; start = start; end = end } ≡ record { area = r.area; encoding = r.encoding; start = r.start; end = r.end } = rw (a, e, s, f) refl in
     same
 
--- Raw data are read
-raw_again : (area : Area) (at : ℕ) (content more : List ℕ) → length content ≡ 4 * (area.w * area.h)
-    → raw_at area at (content ++ more) ≡ Got (record { area = area; encoding = encodings.Raw; start = at; end = at + 4 * (area.w * area.h) }) more
-unfolding raw_at
-raw_again area at content more whole = rw (field-whole {E = WireFault} (4 * (area.w * area.h)) content more whole) refl
+-- data are read
+content_again : (width height : ℕ) (encoding : Encoding) (area : Area) (at : ℕ) (content more : List ℕ) → AreData host_format width height encoding area content
+    → content_at width height encoding area at (content ++ more) ≡ Got (record { area = area; encoding = encoding; start = at; end = at + length content }) more
+unfolding content_at
+content_again width height encoding area at content more is =
+    let end : (at + length (content ++ more)) - length more ≡ at + length content = rw (length-append content more) (omega arith) in
+    rw (data_again host_format width height encoding area content more is) (ap (λ e. Got (record { area = area; encoding = encoding; start = at; end = e }) more) end)
 
 -- a header and data are read
-header_again : (width height at : ℕ) (header content more : List ℕ) (r : Rectangle) → length header ≡ 12 → is_inside width height (area_of header) ≡ true
-    → nat_eq (encoding_number header) 0 ≡ true → raw_at (area_of header) (at + 12) (content ++ more) ≡ Got r more
+header_again : (width height at : ℕ) (header content more : List ℕ) (encoding : Encoding) (r : Rectangle) → length header ≡ 12 → is_inside width height (area_of header) ≡ true
+    → encoding_of (encoding_number header) ≡ Some encoding → content_at width height encoding (area_of header) (at + 12) (content ++ more) ≡ Got r more
     → rectangle_at width height at (header ++ (content ++ more)) ≡ Got r more
-unfolding rectangle_at data_at
-header_again width height at header content more r whole inside raw e =
-    rw (field-whole {E = WireFault} 12 header (content ++ more) whole, inside, raw) e
+unfolding rectangle_at
+header_again width height at header content more encoding r whole inside is e =
+    rw (field-whole {E = WireFault} 12 header (content ++ more) whole, inside, is) e
 
 -- a rectangle is read
 rectangle_again : (width height at : ℕ) (r : Rectangle) (first more : List ℕ) → IsRectangle width height at r first
     → rectangle_at width height at (first ++ more) ≡ Got r more
 rectangle_again width height at r first more is =
     let area = area_of is.header in
-    let content : length is.content ≡ 4 * (area.w * area.h) = subst (λ (a : Area). length is.content ≡ 4 * (a.w * a.h)) is.area_is (raw_length r.encoding r.area is.content is.content_is) in
-    let number : nat_eq (encoding_number is.header) 0 ≡ true = eq-eqb (encoding_number is.header) 0 (sym is.encoding_is ∙ raw_number r.encoding) in
-    let inside : is_inside width height area ≡ true = subst (λ (a : Area). is_inside width height a ≡ true) is.area_is (inside_is width height r.area is.within_width is.within_height) in
-    let end : at + 12 + 4 * (area.w * area.h) ≡ r.end = sym (is.end_is ∙ ap (λ z. r.start + z) content ∙ ap (λ z. z + 4 * (area.w * area.h)) is.start_is) in
-    let same = same_rectangle r area encodings.Raw (at + 12) (at + 12 + 4 * (area.w * area.h)) (sym is.area_is) (raw_alone r.encoding) (sym is.start_is) end in
-    let read = raw_again area (at + 12) is.content more content ∙ ap (λ (z : Rectangle). Got z more) same in
+    let content : AreData host_format width height r.encoding area is.content = subst (λ (a : Area). AreData host_format width height r.encoding a is.content) is.area_is is.content_is in
+    let number : encoding_of (encoding_number is.header) ≡ Some r.encoding = ap encoding_of (sym is.encoding_is) ∙ number_again r.encoding in
+    let inside : is_inside width height area ≡ true =
+    subst (λ (a : Area). is_inside width height a ≡ true) is.area_is (within_inside width height r.area (record { columns = is.within_width; rows = is.within_height })) in
+    let end : at + 12 + length is.content ≡ r.end = sym (is.end_is ∙ ap (λ z. z + length is.content) is.start_is) in
+    let same = same_rectangle r area r.encoding (at + 12) (at + 12 + length is.content) (sym is.area_is) refl (sym is.start_is) end in
+    let read = content_again width height r.encoding area (at + 12) is.content more content ∙ ap (λ (z : Rectangle). Got z more) same in
     ap (λ z. rectangle_at width height at (z ++ more)) is.bytes_are
     ∙ ap (rectangle_at width height at) (append_assoc is.header is.content more)
-    ∙ header_again width height at is.header is.content more r is.header_length inside number read
+    ∙ header_again width height at is.header is.content more r.encoding r is.header_length inside number read
 
 rectangles_again : (width height at : ℕ) (rs : List Rectangle) (body more : List ℕ) → AreRectangles width height at rs body
     → rectangles_at width height (length rs) at (body ++ more) ≡ Got rs more

@@ -1,17 +1,22 @@
 -- What follows from a whole field: one equation for each stage.
-use Rattle.std.proofs.Common.{◌≡◌, ℕ, ◌+◌, ◌*◌, true, false, List, [], ◌∷◌, ◌++◌, length, nat_eq, slice_index, refl, ap, ◌∙◌, append_assoc}
+use Rattle.std.proofs.Common.{◌≡◌, ℕ, ◌+◌, ◌-◌, ◌*◌, true, false, List, [], ◌∷◌, ◌++◌, length, length-append, nat_eq, slice_index, Option, Some, None, refl, ap, ◌∙◌, append_assoc, arith}
 use Rattle.std.specs.Prelude.{nat_lt, if◌then◌else◌}
 use Rattle.pixel_format.specs.Reading.{Reading, Got, More, Bad, ◌>>=◌, field, guard}
 use Rattle.pixel_format.proofs.Readings.{field-whole}
 use Rattle.client_wire.specs.declared.message.Area.{Area}
 use Rattle.rfb_wire.specs.declared.message.Rectangle.{Rectangle}
-use Rattle.rfb_wire.specs.declared.message.Encoding.TheVariants as encodings
+use Rattle.pixel_format.specs.Format.{host_format}
+use Rattle.rect_data.specs.declared.encoding.Encoding.{Encoding}
+use Rattle.rect_data.specs.declared.judging.Judging.{Judging}
+use Rattle.rect_data.specs.Grammar.{encoding_of, is_inside, data_at}
+use Rattle.rect_data.specs.Judging as judging
+use Rattle.rfb_wire.specs.declared.progress.Begun.{Begun}
 use Rattle.client_wire.specs.declared.fault.WireFault.{WireFault}
 use Rattle.client_wire.specs.declared.fault.WireFault.TheVariants as faults
 use Rattle.rfb_wire.specs.declared.progress.Stage.TheVariants as stages
 use Rattle.client_wire.specs.Number.{signed, u16_at, u32_at}
-use Rattle.rfb_wire.specs.Grammar.{area_of, encoding_number, is_inside, raw_at, data_at, rectangle_at, rectangles_at, update_at, Message, Recorded, ReadOver, other_at, color_map_at, text_at, text_data_at, read_over, text_limit}
-use Rattle.rfb_wire.specs.Progress.{unlimited_at, behind, others_at, resume}
+use Rattle.rfb_wire.specs.Grammar.{area_of, encoding_number, content_at, encoded_at, rectangle_at, rectangles_at, update_at, Message, Recorded, ReadOver, other_at, color_map_at, text_at, text_data_at, read_over, text_limit}
+use Rattle.rfb_wire.specs.Progress.{unlimited_at, behind, others_at, ended, behind_data, resume}
 
 pub behind_nil : (r : Reading Message WireFault) → behind [] r ≡ r
 behind_nil (Got (Recorded rs) rest) = refl
@@ -70,12 +75,21 @@ pub head_of_update : (width height : ℕ) (f more : List ℕ) → length f ≡ 3
 unfolding resume
 head_of_update width height f more whole = rw (field-whole {E = WireFault} 3 f more whole) refl
 
-pub data_of_raw : (width height at : ℕ) (area : Area) (others : ℕ) (content more : List ℕ) → length content ≡ 4 * (area.w * area.h)
-    → resume width height (stages.RawData at area others) (content ++ more)
-    ≡ behind (record { area = area; encoding = encodings.Raw; start = at; end = at + 4 * (area.w * area.h) } ∷ []) (others_at width height others (at + 4 * (area.w * area.h)) more)
-unfolding resume raw_at
-data_of_raw width height at area others content more whole =
-    rw (field-whole {E = WireFault} (4 * (area.w * area.h)) content more whole) refl
+-- behind data that end here, the others
+pub data_end : (width height at others : ℕ) (begun : Begun) (more : List ℕ)
+    → behind_data width height begun others (at + length more) (Got tt more) ≡ behind (ended begun at ∷ []) (others_at width height others at more)
+data_end width height at others begun more =
+    let end : (at + length more) - length more ≡ at = omega arith in
+    rw end refl
+
+-- a whole field of data, and what follows from it
+pub data_whole : (width height at others : ℕ) (begun : Begun) (next : Judging) (f more : List ℕ) (r : Reading Unit WireFault)
+    → judging.resume host_format width height next (f ++ more) ≡ r
+    → resume width height (stages.Data at begun next others) (f ++ more) ≡ behind_data width height begun others ((at + length f) + length more) r
+unfolding resume
+data_whole width height at others begun next f more r e =
+    let reach : at + length (f ++ more) ≡ (at + length f) + length more = rw (length-append f more) (omega arith) in
+    rw (e, reach) refl
 
 -- a rectangle in front of others
 others_behind : (r : Rectangle) (q : Reading (List Rectangle) WireFault)
@@ -95,13 +109,15 @@ first_and_others width height others (Bad f) = refl
 -- behind its header, a rectangle is its data
 header_whole : (width height at others : ℕ) (f more : List ℕ) → length f ≡ 12
     → resume width height (stages.RectangleHead at others) (f ++ more)
-    ≡ (guard (is_inside width height (area_of f)) faults.OutsideScreen (data_at (encoding_number f) (area_of f) (at + 12) more)
+    ≡ (guard (is_inside width height (area_of f)) faults.OutsideScreen
+    (encoded_at width height (encoding_number f) (encoding_of (encoding_number f)) (area_of f) (at + 12) more)
     >>= λ r rest. behind (r ∷ []) (others_at width height others r.end rest))
 unfolding resume others_at rectangles_at rectangle_at
 header_whole width height at others f more whole =
     first_and_others width height others (rectangle_at width height at (f ++ more))
     ∙ ap (λ (q : Reading Rectangle WireFault). q >>= λ r rest. behind (r ∷ []) (others_at width height others r.end rest))
-    (ap (λ (q : Reading (List ℕ) WireFault). q >>= λ head rest. guard (is_inside width height (area_of head)) faults.OutsideScreen (data_at (encoding_number head) (area_of head) (at + 12) rest))
+    (ap (λ (q : Reading (List ℕ) WireFault). q >>= λ head rest. guard (is_inside width height (area_of head)) faults.OutsideScreen
+    (encoded_at width height (encoding_number head) (encoding_of (encoding_number head)) (area_of head) (at + 12) rest))
     (field-whole {E = WireFault} 12 f more whole))
 
 pub header_outside : (width height at others : ℕ) (f more : List ℕ) → length f ≡ 12 → is_inside width height (area_of f) ≡ false
@@ -110,15 +126,27 @@ header_outside width height at others f more whole outside =
     header_whole width height at others f more whole ∙ rw outside refl
 
 pub header_unknown : (width height at others : ℕ) (f more : List ℕ) → length f ≡ 12 → is_inside width height (area_of f) ≡ true
-    → nat_eq (encoding_number f) 0 ≡ false
+    → encoding_of (encoding_number f) ≡ None
     → resume width height (stages.RectangleHead at others) (f ++ more) ≡ Bad (faults.Encoding (signed (encoding_number f)))
-unfolding data_at
 header_unknown width height at others f more whole inside unknown =
     header_whole width height at others f more whole ∙ rw (inside, unknown) refl
 
-pub header_of_raw : (width height at others : ℕ) (f more : List ℕ) → length f ≡ 12 → is_inside width height (area_of f) ≡ true
-    → nat_eq (encoding_number f) 0 ≡ true
-    → resume width height (stages.RectangleHead at others) (f ++ more) ≡ resume width height (stages.RawData (at + 12) (area_of f) others) more
-unfolding data_at resume
-header_of_raw width height at others f more whole inside raw =
-    header_whole width height at others f more whole ∙ rw (inside, raw) refl
+-- the rectangle whose data begin behind its header
+abbrev pub begun_at : ℕ → Area → Encoding → Begun
+begun_at start area encoding = record { start = start; area = area; encoding = encoding }
+
+content_data : (width height at others : ℕ) (area : Area) (encoding : Encoding) (more : List ℕ) (r : Reading Unit WireFault)
+    → ((r >>= λ content rest. Got (record { area = area; encoding = encoding; start = at; end = (at + length more) - length rest }) rest)
+    >>= λ r rest. behind (r ∷ []) (others_at width height others r.end rest)) ≡ behind_data width height (begun_at at area encoding) others (at + length more) r
+content_data width height at others area encoding more (Got x rest) = refl
+content_data width height at others area encoding more More = refl
+content_data width height at others area encoding more (Bad f) = refl
+
+pub header_of_data : (width height at others : ℕ) (f more : List ℕ) (encoding : Encoding) → length f ≡ 12 → is_inside width height (area_of f) ≡ true
+    → encoding_of (encoding_number f) ≡ Some encoding
+    → resume width height (stages.RectangleHead at others) (f ++ more)
+    ≡ behind_data width height (begun_at (at + 12) (area_of f) encoding) others ((at + 12) + length more) (data_at host_format width height encoding (area_of f) more)
+unfolding content_at
+header_of_data width height at others f more encoding whole inside is =
+    header_whole width height at others f more whole ∙ rw (inside, is)
+    (content_data width height (at + 12) others (area_of f) encoding more (data_at host_format width height encoding (area_of f) more))

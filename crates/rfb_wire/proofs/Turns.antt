@@ -2,6 +2,8 @@
 use Rattle.std.proofs.Common.{◌≡◌, ℕ, ◌+◌, ◌*◌, ◌<◌, ◌≤◌, List, [], ◌∷◌, ◌++◌, length, take, drop, nat_eq, slice_index, refl, sym, ap, ◌∙◌, ◌⊎◌, inl, inr, arith, append_assoc, length-append}
 use Rattle.std.specs.Prelude.{if◌then◌else◌}
 use Rattle.std.proofs.lemmas.List.{append-nil, drop_all, drop-append-le, take_at, take-append-drop, length-drop}
+use Rattle.pixel_format.specs.Format.{host_format}
+use Rattle.rect_data.proofs.Steps.{field_waits as data_waits}
 use Rattle.rfb_wire.specs.Host.{host_of, IsRecorded}
 use Rattle.pixel_format.specs.Reading.{Reading, Got, More, Bad, ◌>>=◌, field, within}
 use Rattle.pixel_format.proofs.Readings.{field-whole, field-short, within-short, within-long}
@@ -10,7 +12,7 @@ use Rattle.client_wire.specs.declared.fault.WireFault.{WireFault}
 use Rattle.client_wire.specs.declared.fault.WireFault.TheVariants as faults
 use Rattle.rfb_wire.specs.declared.progress.Stage.{Stage}
 use Rattle.rfb_wire.specs.declared.progress.Stage.TheVariants as stages
-use Rattle.rfb_wire.specs.Grammar.{update_at, message_at, other_at, color_map_at, text_at, text_data_at, read_over, Message, Recorded, raw_at, rectangle_at, rectangles_at}
+use Rattle.rfb_wire.specs.Grammar.{update_at, message_at, other_at, color_map_at, text_at, text_data_at, read_over, Message, Recorded, rectangle_at, rectangles_at}
 use Rattle.rfb_wire.specs.Progress.{wants_of, start_of, unlimited_at, behind, others_at, resume, go_on, step_on, Linked, IsInField, IsOfKind, IsOfUpdate}
 use Rattle.rfb_wire.specs.declared.progress.Progress.{Progress}
 use Rattle.rfb_wire.specs.declared.progress.Next.{Next}
@@ -18,6 +20,7 @@ use Rattle.rfb_wire.specs.declared.progress.Next.TheVariants as nexts
 use Rattle.rfb_wire.specs.declared.progress.Step.{Step}
 use Rattle.client_wire.specs.Fault.{UnlessMemory}
 use Rattle.std.specs.Option.{option_to_list}
+use Rattle.client_wire.proofs.Fronts.{unless_memory_map}
 use Rattle.rfb_wire.proofs.Resume.{behind_nil, behind_behind, behind_over}
 use Rattle.rfb_wire.proofs.Local.{message_local}
 
@@ -53,14 +56,14 @@ message-long limit width height kept more (rest, is) at waits one =
 
 -- a field that isn't whole
 resume-short : (width height : ℕ) (stage : Stage) (bytes : List ℕ) → length bytes < wants_of stage → resume width height stage bytes ≡ More
-unfolding resume unlimited_at others_at rectangles_at rectangle_at raw_at color_map_at text_at text_data_at
+unfolding resume unlimited_at others_at rectangles_at rectangle_at color_map_at text_at text_data_at
 resume-short width height stages.Type bytes short = rw (field-short {E = WireFault} 1 bytes short) refl
 resume-short width height stages.UpdateHead bytes short = rw (field-short {E = WireFault} 3 bytes short) refl
 resume-short width height stages.ColorMapHead bytes short = rw (field-short {E = WireFault} 5 bytes short) refl
 resume-short width height stages.TextHead bytes short = rw (field-short {E = WireFault} 7 bytes short) refl
 resume-short width height (stages.TextData n) bytes short = rw (field-short {E = WireFault} n bytes short) refl
 resume-short width height (stages.RectangleHead at others) bytes short = rw (field-short {E = WireFault} 12 bytes short) refl
-resume-short width height (stages.RawData at area others) bytes short = rw (field-short {E = WireFault} (4 * (area.w * area.h)) bytes short) refl
+resume-short width height (stages.Data at begun next others) bytes short = rw (data_waits host_format width height next bytes short) refl
 
 -- where the field isn't whole, the message waits
 pub linked_waits : (limit width height : ℕ) (bytes : List ℕ) (rectangles : List Rectangle) (stage : Stage) → Linked limit width height bytes rectangles stage
@@ -82,7 +85,7 @@ kind_more stages.ColorMapHead bytes more k = tt
 kind_more stages.TextHead bytes more k = tt
 kind_more (stages.TextData n) bytes more k = k
 kind_more (stages.RectangleHead at others) bytes more k = of_update_more bytes more k
-kind_more (stages.RawData at area others) bytes more k = of_update_more bytes more k
+kind_more (stages.Data at begun next others) bytes more k = of_update_more bytes more k
 
 -- more bytes of the field
 pub linked_more : (limit width height : ℕ) (bytes piece longer : List ℕ) (rectangles : List Rectangle) (stage : Stage) → Linked limit width height bytes rectangles stage
@@ -156,23 +159,6 @@ pub field_faults : (limit width height : ℕ) (bytes : List ℕ) (rectangles : L
 field_faults limit width height bytes rectangles stage f l faults =
     ap (unlimited_at width height) (sym (append-nil bytes)) ∙ l.link [] ∙ ap (behind rectangles) (faults [])
 
--- what holds of a fault holds unless memory ran out
-pub unless_memory : (f : WireFault) (P : Type 0) → P → UnlessMemory f P
-unless_memory faults.UnknownType P p = p
-unless_memory faults.OutsideScreen P p = p
-unless_memory (faults.Encoding n) P p = p
-unless_memory faults.TooLong P p = p
-unless_memory (faults.BadFormat e) P p = p
-unless_memory faults.NoMemory P p = tt
-
-pub unless_memory_map : (f : WireFault) (P Q : Type 0) → (P → Q) → UnlessMemory f P → UnlessMemory f Q
-unless_memory_map faults.UnknownType P Q m p = m p
-unless_memory_map faults.OutsideScreen P Q m p = m p
-unless_memory_map (faults.Encoding n) P Q m p = m p
-unless_memory_map faults.TooLong P Q m p = m p
-unless_memory_map (faults.BadFormat e) P Q m p = m p
-unless_memory_map faults.NoMemory P Q m p = tt
-
 -- where the message is as long as it may be, and the field isn't whole, it is an update
 long_update : (limit : ℕ) (stage : Stage) (kept : List ℕ) → 65544 ≤ limit → IsOfKind stage kept → length kept < start_of stage + wants_of stage → length kept ≡ limit → IsOfUpdate kept
 long_update limit stages.Type kept room kind few long = absurd (omega arith)
@@ -181,7 +167,7 @@ long_update limit stages.ColorMapHead kept room kind few long = absurd (omega ar
 long_update limit stages.TextHead kept room kind few long = absurd (omega arith)
 long_update limit (stages.TextData n) kept room kind few long = absurd (omega arith)
 long_update limit (stages.RectangleHead at others) kept room kind few long = kind
-long_update limit (stages.RawData at area others) kept room kind few long = kind
+long_update limit (stages.Data at begun next others) kept room kind few long = kind
 
 -- a piece of which nothing is taken
 pub turn_long : (limit width height : ℕ) (kept piece : List ℕ) (rectangles : List Rectangle) (stage : Stage) (f : WireFault) → Linked limit width height kept rectangles stage

@@ -14,7 +14,7 @@ use Rattle.client_wire.specs.declared.fault.WireFault.TheVariants as faults
 use Rattle.client_wire.proofs.Streams.{waits_begins_none, one_reading, empty_list, no_fault}
 use Rattle.rfb_wire.proofs.Local.{message_local}
 use Rattle.rfb_wire.proofs.Streams.{part_of, reads_one, message_again, same_host}
-use Rattle.rfb_wire.proofs.Turns.{unless_memory_map}
+use Rattle.client_wire.proofs.Fronts.{unless_memory_map}
 
 -- no bytes are an unfinished message
 pub message-empty : (limit width height : ℕ) → message_at limit width height [] ≡ More
@@ -135,6 +135,9 @@ memory_alone limit width height m bytes all f is same stops = alone f (fault_of 
     alone faults.OutsideScreen none = absurd none
     alone (faults.Encoding n) none = absurd none
     alone faults.TooLong none = absurd none
+    alone faults.BadRre none = absurd none
+    alone faults.BadHextile none = absurd none
+    alone faults.SourceOutside none = absurd none
     alone (faults.BadFormat e) none = absurd none
     alone faults.NoMemory none = refl
 

@@ -1,11 +1,13 @@
 -- The messages of a host (RFC 6143, sections 7.6 and 7.7), read from the front of a list of bytes.
 -- Each field is judged once it is whole, in the order of the fields: so the first fault is the one
 -- that is met.
-use Rattle.std.specs.Prelude.{ℕ, nat_lt, zero, suc, ◌+◌, ◌*◌, List, [], ◌∷◌, slice_index, Bool, ◌&&◌, nat_le, nat_eq, if◌then◌else◌}
+use Rattle.std.specs.Prelude.{ℕ, nat_lt, zero, suc, ◌+◌, ◌-◌, ◌*◌, List, [], ◌∷◌, length, slice_index, nat_eq, Option, Some, None, if◌then◌else◌}
+use Rattle.pixel_format.specs.Format.{host_format}
 use Rattle.pixel_format.specs.Reading.{Reading, Got, Bad, ◌>>=◌, field, guard, within}
 use Rattle.client_wire.specs.declared.message.Area.{Area}
 use Rattle.rfb_wire.specs.declared.message.Rectangle.{Rectangle}
-use Rattle.rfb_wire.specs.declared.message.Encoding.TheVariants as encodings
+use Rattle.rect_data.specs.declared.encoding.Encoding.{Encoding}
+use Rattle.rect_data.specs.Grammar.{encoding_of, is_inside, data_at}
 use Rattle.client_wire.specs.Number.{u16_at, u32_at, signed}
 use Rattle.client_wire.specs.declared.fault.WireFault.{WireFault}
 use Rattle.client_wire.specs.declared.fault.WireFault.TheVariants as faults
@@ -18,26 +20,21 @@ area_of f = record { x = u16_at f 0; y = u16_at f 2; w = u16_at f 4; h = u16_at 
 unfoldable pub encoding_number : List ℕ → ℕ
 encoding_number f = u32_at f 8
 
--- the area lies within the screen
-unfoldable pub is_inside : ℕ → ℕ → Area → Bool
-is_inside width height a = nat_le (a.x + a.w) width && nat_le (a.y + a.h) height
+-- the data of a rectangle of this area (section 7.7). `at` is the place of the data in the message.
+unfoldable pub content_at : ℕ → ℕ → Encoding → Area → ℕ → List ℕ → Reading Rectangle WireFault
+content_at width height encoding area at bytes = data_at host_format width height encoding area bytes >>= λ content rest.
+    Got (record { area = area; encoding = encoding; start = at; end = (at + length bytes) - length rest }) rest
 
--- Raw data: four bytes for each pixel of the area (section 7.7.1). `at` is the place of the data in
--- the message.
-unfoldable pub raw_at : Area → ℕ → List ℕ → Reading Rectangle WireFault
-raw_at area at bytes = field (4 * (area.w * area.h)) bytes >>= λ pixels rest.
-    Got (record { area = area; encoding = encodings.Raw; start = at; end = at + 4 * (area.w * area.h) }) rest
-
--- the data of a rectangle, by the number of its encoding (section 7.7)
-unfoldable pub data_at : ℕ → Area → ℕ → List ℕ → Reading Rectangle WireFault
-data_at number area at bytes = if nat_eq number 0 then raw_at area at bytes
-    else Bad (faults.Encoding (signed number))
+-- the same by the number of the encoding, if it is one of those that are read
+abbrev pub encoded_at : ℕ → ℕ → ℕ → Option Encoding → Area → ℕ → List ℕ → Reading Rectangle WireFault
+encoded_at width height number (Some encoding) area at bytes = content_at width height encoding area at bytes
+encoded_at width height number None area at bytes = Bad (faults.Encoding (signed number))
 
 -- a rectangle of an update, at its place in the message (section 7.6.1)
 unfoldable pub rectangle_at : ℕ → ℕ → ℕ → List ℕ → Reading Rectangle WireFault
 rectangle_at width height at bytes = field 12 bytes >>= λ head rest.
     guard (is_inside width height (area_of head)) faults.OutsideScreen
-    (data_at (encoding_number head) (area_of head) (at + 12) rest)
+    (encoded_at width height (encoding_number head) (encoding_of (encoding_number head)) (area_of head) (at + 12) rest)
 
 -- as many rectangles, one behind the other
 unfoldable pub rectangles_at : ℕ → ℕ → ℕ → ℕ → List ℕ → Reading (List Rectangle) WireFault

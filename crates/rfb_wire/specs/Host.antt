@@ -1,8 +1,9 @@
 -- One recorded message of a host.
-use Rattle.std.specs.Prelude.{◌≡◌, ℕ, ◌+◌, ◌*◌, ◌≤◌, List, [], length}
+use Rattle.std.specs.Prelude.{◌≡◌, ℕ, ◌+◌, ◌≤◌, List, [], length, slice_range}
+use Rattle.pixel_format.specs.Format.{host_format}
 use Rattle.pixel_format.specs.Reading.{Got}
 use Rattle.rfb_wire.specs.declared.message.Rectangle.{Rectangle}
-use Rattle.rfb_wire.specs.declared.message.Encoding.TheVariants as encodings
+use Rattle.rect_data.specs.Data.{AreData}
 use Rattle.rfb_wire.specs.Grammar.{message_at, Recorded}
 
 -- a message for a screen of this size: its bytes, and where its rectangles stand in them
@@ -21,11 +22,10 @@ host_of width height bytes rectangles =
 abbrev pub IsRecorded : ℕ → Host → Type 0
 IsRecorded limit m = message_at limit m.width m.height m.bytes ≡ Got (Recorded m.rectangles) []
 
--- A rectangle lies within the screen, and its data within the message. Raw data are four bytes for
--- each place.
+-- A rectangle lies within the screen, and its data, in the host format, within the message.
 pub record IsPlaced (m : Host) (r : Rectangle) : Type 0 where
   pub within_width : r.area.x + r.area.w ≤ m.width
   pub within_height : r.area.y + r.area.h ≤ m.height
   pub ordered : r.start ≤ r.end
   pub in_bytes : r.end ≤ length m.bytes
-  pub raw : r.encoding ≡ encodings.Raw → r.end ≡ r.start + 4 * (r.area.w * r.area.h)
+  pub content : AreData host_format m.width m.height r.encoding r.area (slice_range m.bytes r.start r.end)

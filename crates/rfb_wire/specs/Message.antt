@@ -1,20 +1,11 @@
 -- What a recorded message of a host is (RFC 6143, sections 7.6 and 7.7): a relation between the size
 -- of a screen, the message's bytes, and where its rectangles stand in them.
 use Rattle.std.specs.Prelude.{◌≡◌, ℕ, ◌+◌, ◌*◌, ◌≤◌, List, [], ◌∷◌, ◌++◌, length, max, ◌⊎◌}
-use Rattle.client_wire.specs.declared.message.Area.{Area}
+use Rattle.pixel_format.specs.Format.{host_format}
 use Rattle.rfb_wire.specs.declared.message.Rectangle.{Rectangle}
-use Rattle.rfb_wire.specs.declared.message.Encoding.{Encoding}
-use Rattle.rfb_wire.specs.declared.message.Encoding.TheVariants as encodings
+use Rattle.rect_data.specs.Data.{number_of, AreData}
 use Rattle.client_wire.specs.Number.{u32_at}
 use Rattle.rfb_wire.specs.Grammar.{area_of, encoding_number, text_limit}
-
--- the number of an encoding (section 7.7)
-abbrev pub number_of : Encoding → ℕ
-number_of encodings.Raw = 0
-
--- the data of a rectangle of this area: Raw data are four bytes for each place (section 7.7.1)
-abbrev pub AreData : Encoding → Area → List ℕ → Type 0
-AreData encodings.Raw area bytes = length bytes ≡ 4 * (area.w * area.h)
 
 -- A rectangle that begins at a place of its message: a header of 12 bytes, which names an area within
 -- the screen and an encoding, and the data (section 7.6.1).
@@ -27,7 +18,7 @@ pub record IsRectangle (width height at : ℕ) (r : Rectangle) (bytes : List ℕ
   pub encoding_is : number_of r.encoding ≡ encoding_number header
   pub within_width : r.area.x + r.area.w ≤ width
   pub within_height : r.area.y + r.area.h ≤ height
-  pub content_is : AreData r.encoding r.area content
+  pub content_is : AreData host_format width height r.encoding r.area content
   pub start_is : r.start ≡ at + 12
   pub end_is : r.end ≡ r.start + length content
 

@@ -1,10 +1,13 @@
 -- Where a reader stands in a message: which field comes next, and what the bytes from that field on
 -- say, by the grammar.
-use Rattle.std.specs.Prelude.{◌≡◌, ℕ, suc, ◌+◌, ◌*◌, ◌<◌, ◌≤◌, List, [], ◌∷◌, ◌++◌, length, drop, ◌^◌, MatchOption, slice_index, Option, Some, None, nat_eq, if◌then◌else◌}
+use Rattle.std.specs.Prelude.{◌≡◌, ℕ, suc, ◌+◌, ◌-◌, ◌<◌, ◌≤◌, List, [], ◌∷◌, ◌++◌, length, drop, ◌^◌, MatchOption, slice_index, Option, Some, None, nat_eq, if◌then◌else◌}
 use Rattle.std.specs.Option.{option_to_list}
+use Rattle.pixel_format.specs.Format.{host_format}
 use Rattle.pixel_format.specs.Reading.{Reading, Got, ◌>>=◌, field}
+use Rattle.rect_data.specs.Judging as judging
 use Rattle.rfb_wire.specs.declared.message.Rectangle.{Rectangle}
 use Rattle.client_wire.specs.declared.fault.WireFault.{WireFault}
+use Rattle.rfb_wire.specs.declared.progress.Begun.{Begun}
 use Rattle.rfb_wire.specs.declared.progress.Stage.{Stage}
 use Rattle.rfb_wire.specs.declared.progress.Stage.TheVariants as stages
 use Rattle.rfb_wire.specs.declared.progress.Next.{Next}
@@ -13,7 +16,7 @@ use Rattle.rfb_wire.specs.declared.progress.Over.{Over}
 use Rattle.rfb_wire.specs.declared.progress.Step.{Step}
 use Rattle.rfb_wire.specs.declared.progress.Progress.{Progress}
 use Rattle.client_wire.specs.Number.{u16_at}
-use Rattle.rfb_wire.specs.Grammar.{Message, Recorded, ReadOver, raw_at, rectangles_at, update_at, other_at, color_map_at, text_at, text_data_at, read_over, message_at, text_limit}
+use Rattle.rfb_wire.specs.Grammar.{Message, Recorded, ReadOver, rectangles_at, update_at, other_at, color_map_at, text_at, text_data_at, read_over, message_at, text_limit}
 
 -- how many bytes the field has
 abbrev pub wants_of : Stage → ℕ
@@ -23,7 +26,7 @@ wants_of stages.ColorMapHead = 5
 wants_of stages.TextHead = 7
 wants_of (stages.TextData n) = n
 wants_of (stages.RectangleHead at others) = 12
-wants_of (stages.RawData at area others) = 4 * (area.w * area.h)
+wants_of (stages.Data at begun next others) = judging.wants_of host_format next
 
 -- where in the message the field begins
 abbrev pub start_of : Stage → ℕ
@@ -33,7 +36,7 @@ start_of stages.ColorMapHead = 1
 start_of stages.TextHead = 1
 start_of (stages.TextData n) = 8
 start_of (stages.RectangleHead at others) = at
-start_of (stages.RawData at area others) = at
+start_of (stages.Data at begun next others) = at
 
 -- a message, its limit apart
 unfoldable pub unlimited_at : ℕ → ℕ → List ℕ → Reading Message WireFault
@@ -53,6 +56,16 @@ unfoldable pub others_at : ℕ → ℕ → ℕ → ℕ → List ℕ → Reading 
 others_at width height count at bytes =
     rectangles_at width height count at bytes >>= λ others after. Got (Recorded others) after
 
+-- the rectangle whose data end at this place
+abbrev pub ended : Begun → ℕ → Rectangle
+ended b end = record { area = b.area; encoding = b.encoding; start = b.start; end = end }
+
+-- Behind the data of a rectangle, as they are judged, others follow. All the bytes reach up to this place
+-- of the message.
+abbrev pub behind_data : ℕ → ℕ → Begun → ℕ → ℕ → Reading Unit WireFault → Reading Message WireFault
+behind_data width height b others reach r = r >>= λ content rest.
+    behind (ended b (reach - length rest) ∷ []) (others_at width height others (reach - length rest) rest)
+
 -- what the bytes from the stage's field on say
 unfoldable pub resume : ℕ → ℕ → Stage → List ℕ → Reading Message WireFault
 resume width height stages.Type bytes = unlimited_at width height bytes
@@ -61,8 +74,8 @@ resume width height stages.ColorMapHead bytes = color_map_at bytes
 resume width height stages.TextHead bytes = text_at bytes
 resume width height (stages.TextData n) bytes = text_data_at n bytes
 resume width height (stages.RectangleHead at others) bytes = others_at width height (suc others) at bytes
-resume width height (stages.RawData at area others) bytes = raw_at area at bytes >>= λ r rest.
-    behind (r ∷ []) (others_at width height others r.end rest)
+resume width height (stages.Data at begun next others) bytes =
+    behind_data width height begun others (at + length bytes) (judging.resume host_format width height next bytes)
 
 -- what the bytes behind a field say
 unfoldable pub go_on : ℕ → ℕ → Next → List ℕ → Reading Message WireFault
@@ -91,7 +104,7 @@ IsOfUpdate bytes = (rest : List ℕ) × (bytes ≡ 0 ∷ rest)
 abbrev pub IsOfKind : Stage → List ℕ → Type 0
 IsOfKind stages.UpdateHead bytes = IsOfUpdate bytes
 IsOfKind (stages.RectangleHead at others) bytes = IsOfUpdate bytes
-IsOfKind (stages.RawData at area others) bytes = IsOfUpdate bytes
+IsOfKind (stages.Data at begun next others) bytes = IsOfUpdate bytes
 IsOfKind (stages.TextData n) bytes = n ≤ text_limit
 IsOfKind stages.Type bytes = Unit {0}
 IsOfKind stages.ColorMapHead bytes = Unit {0}

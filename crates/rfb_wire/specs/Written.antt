@@ -4,7 +4,7 @@ use Rattle.std.specs.List.{flat_map}
 use Rattle.pixel_format.specs.declared.Color.{Color}
 use Rattle.client_wire.specs.declared.message.Area.{Area}
 use Rattle.rfb_wire.specs.declared.message.Rectangle.{Rectangle}
-use Rattle.rfb_wire.specs.declared.message.Encoding.TheVariants as encodings
+use Rattle.rect_data.specs.declared.encoding.Encoding.TheVariants as encodings
 
 -- a number below 65,536, the higher byte first
 abbrev pub two_bytes : ℕ → List ℕ

@@ -16,9 +16,10 @@ pub use laws::{
     a_rest_begins_none, grammar_reads_messages, no_message_begins_another, one_reading_of_a_stream,
     one_reading_of_bytes,
 };
-pub use message::{Encoding, HostMessage, Rectangle};
+pub use message::{HostMessage, Rectangle};
 pub use plain::{Front, read_message};
 pub use reader::ServerReader;
+pub use rect_data::Encoding;
 pub use write::{
     write_bell, write_color_map, write_cut_text, write_raw_update, written_bell_is_read,
     written_color_map_is_read, written_text_is_read, written_update_is_read,

@@ -6,15 +6,9 @@ use crate::fault::BytesFault;
 use crate::reader::ServerReader;
 use client_wire::{Area, WireFault};
 use pixel_format::NoMemory;
+use rect_data::Encoding;
 use std::alloc::Global;
 use std::marker::Model;
-
-/// How the pixels of a rectangle are written (RFC 6143, section 7.7).
-#[derive(Clone, Copy, Debug, PartialEq, Eq)]
-pub enum Encoding {
-    /// All pixels by rows, from the top and the left (section 7.7.1).
-    Raw,
-}
 
 /// A rectangle of an update: its area of the screen, and where in the message's bytes its data
 /// begin and end.

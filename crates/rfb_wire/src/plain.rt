@@ -7,10 +7,12 @@ ghost use Rattle.client_wire.specs.declared.fault.WireFault.{WireFault};
 ghost use Rattle.rfb_wire.specs.Grammar.{rectangle_at, rectangles_at, update_at, color_map_at, text_at, other_at, message_at, message_limit, Recorded, ReadOver};
 ghost use Rattle.rfb_wire.specs.Plain.{Says, SaysMessage, kind_of};
 
-use crate::message::{Encoding, HostMessage, Rectangle};
+use crate::message::{HostMessage, Rectangle};
 use crate::progress::MESSAGE_LIMIT;
-use crate::step::{TEXT_LIMIT, area_at, encoding_at, lies_inside};
+use crate::step::{TEXT_LIMIT, area_at, encoding_at};
 use client_wire::WireFault;
+use pixel_format::PixelFormat;
+use rect_data::{Encoding, lies_inside, measure};
 use std::alloc::Global;
 
 /// The message that bytes begin with.
@@ -55,20 +57,22 @@ fn rectangle(
         return Err(WireFault::OutsideScreen);
     }
     let number = encoding_at(header);
-    if number != 0 {
+    let Some(encoding) = Encoding::from_number(number) else {
         return Err(WireFault::Encoding(number.cast_signed()));
-    }
-    let length = 4 * (area.w as usize * area.h as usize);
-    let Some((_, behind)) = field(length, rest) else {
-        return Ok(None);
+    };
+    let start = at + 12;
+    let length = match measure(&PixelFormat::host(), width, height, encoding, area, rest) {
+        Ok(Some(length)) => length,
+        Ok(None) => return Ok(None),
+        Err(fault) => return Err(fault),
     };
     let rectangle = Rectangle {
         area,
-        encoding: Encoding::Raw,
-        start: at + 12,
-        end: at + 12 + length,
+        encoding,
+        start,
+        end: start + length,
     };
-    Ok(Some((rectangle, behind)))
+    Ok(Some((rectangle, &rest[length..])))
 }
 
 // So many rectangles behind the head of an update, and the bytes behind them.

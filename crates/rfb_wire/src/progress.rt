@@ -12,10 +12,20 @@ ghost use Rattle.rfb_wire.specs.Stream.{given};
 use crate::message::{HostMessage, Rectangle};
 use crate::step::step;
 use client_wire::{Area, WireFault};
+use pixel_format::PixelFormat;
+use rect_data::{Encoding, Judging};
 use std::alloc::Global;
 
 /// The greatest number of bytes of an update.
 pub const MESSAGE_LIMIT: usize = 67_108_864;
+
+/// A rectangle whose header is read, and where in the message its data begin.
+#[derive(Clone, Copy)]
+pub struct Begun {
+    pub start: usize,
+    pub area: Area,
+    pub encoding: Encoding,
+}
 
 /// The field of a message that comes next.
 #[derive(Clone, Copy)]
@@ -29,11 +39,21 @@ pub enum Stage {
     /// Behind the type of a cut text: padding, and the text's length.
     TextHead,
     /// A text of so many bytes.
-    TextData { length: u32 },
+    TextData {
+        length: u32,
+    },
     /// The header of a rectangle, at this place of the message, which others follow.
-    RectangleHead { at: usize, others: u16 },
-    /// The pixels of a Raw rectangle, at this place of the message, which others follow.
-    RawData { at: usize, area: Area, others: u16 },
+    RectangleHead {
+        at: usize,
+        others: u16,
+    },
+    /// A field of the data of a rectangle, at this place of the message. Other rectangles follow.
+    Data {
+        at: usize,
+        begun: Begun,
+        next: Judging,
+        others: u16,
+    },
 }
 
 /// What comes behind a whole field.
@@ -86,7 +106,7 @@ impl Stage {
             Stage::TextHead => 7,
             Stage::TextData { length } => length as usize,
             Stage::RectangleHead { .. } => 12,
-            Stage::RawData { area, .. } => 4 * (area.w as usize * area.h as usize),
+            Stage::Data { next, .. } => next.wants(&PixelFormat::host()),
         }
     }
 
@@ -99,7 +119,7 @@ impl Stage {
             Stage::UpdateHead | Stage::ColorMapHead | Stage::TextHead => 1,
             Stage::TextData { .. } => 8,
             Stage::RectangleHead { at, .. } => at,
-            Stage::RawData { at, .. } => at,
+            Stage::Data { at, .. } => at,
         }
     }
 }

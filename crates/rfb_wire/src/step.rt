@@ -2,13 +2,18 @@
 
 ghost use Rattle.std.specs.Prelude.{◌≡◌, ℕ, ◌+◌, ◌*◌, ◌<◌, ◌≤◌, List, ◌++◌, drop, slice_index, nat_lt, if◌then◌else◌, length, IfOk, IfErr};
 ghost use Rattle.pixel_format.specs.Reading.{Bad};
+ghost use Rattle.pixel_format.specs.Format.{host_format};
+ghost use Rattle.rect_data.specs.Judging.{HasBytes};
+ghost use Rattle.rect_data.specs.Judging as judging;
 ghost use Rattle.client_wire.specs.Number.{u16_at, u32_at};
-ghost use Rattle.rfb_wire.specs.Grammar.{message_limit, text_limit, read_over, text_data_at, area_of, encoding_number, is_inside};
-ghost use Rattle.rfb_wire.specs.Progress.{wants_of, start_of, NextBegins, IsOfUpdate, IsOfKind, NextIsOfKind, resume, go_on, step_on, others_at};
+ghost use Rattle.rfb_wire.specs.Grammar.{message_limit, text_limit, read_over, text_data_at, area_of, encoding_number};
+ghost use Rattle.rfb_wire.specs.Progress.{wants_of, start_of, NextBegins, IsOfUpdate, IsOfKind, NextIsOfKind, resume, go_on, step_on, others_at, behind_data};
 
-use crate::message::{Encoding, Rectangle};
-use crate::progress::{Next, Stage, Step};
+use crate::message::Rectangle;
+use crate::progress::{Begun, Next, Stage, Step};
 use client_wire::{Area, WireFault};
+use pixel_format::PixelFormat;
+use rect_data::{Encoding, Judging, lies_inside};
 
 /// The greatest number of bytes of a text that is recorded.
 pub const TEXT_LIMIT: u32 = 65_536;
@@ -35,14 +40,6 @@ pub fn encoding_at(header: &[u8]) -> u32
     ensures { result ≡ encoding_number header.now }
 {
     u32::from_be_bytes([header[8], header[9], header[10], header[11]])
-}
-
-/// Whether the area lies within a screen of this size.
-#[tactic(auto, unfolding(crate::specs::Grammar::is_inside))]
-pub fn lies_inside(area: Area, width: u16, height: u16) -> bool
-    ensures { result ≡ is_inside width height area }
-{
-    area.x as u32 + area.w as u32 <= width as u32 && area.y as u32 + area.h as u32 <= height as u32
 }
 
 // The header of the next of so many rectangles.
@@ -178,27 +175,63 @@ fn behind_update_head(field: &[u8]) -> Step
     }
 }
 
-// Behind the last byte of a Raw rectangle.
-fn behind_raw(at: usize, area: Area, others: u16, end: usize) -> Step
-    requires { end ≡ at + 4 * (area.w * area.h) }
-    ensures goes { (width height : ℕ) → (content more : List ℕ) → length content ≡ 4 * (area.w * area.h)
-        → resume width height (Stage.RawData at area others) (content ++ more) ≡ step_on width height result more }
-    ensures begins { NextBegins end result.next }
+// Behind a field of a rectangle's data: the next one, or the rectangle, whose data end here.
+fn next_data(at: usize, begun: Begun, next: Option<Judging>, others: u16) -> Step
+    requires { HasBytes host_format next }
+    ensures goes { (width height : ℕ) → (more : List ℕ)
+        → behind_data width height begun others (at + length more) (judging.go_on host_format width height next more) ≡ step_on width height result more }
+    ensures begins { NextBegins at result.next }
     ensures kind { (bytes : List ℕ) → IsOfUpdate bytes → NextIsOfKind result.next bytes }
 {
-    let rectangle = Rectangle {
-        area,
-        encoding: Encoding::Raw,
-        start: at,
-        end,
+    let Some(next) = next else {
+        let rectangle = Rectangle {
+            area: begun.area,
+            encoding: begun.encoding,
+            start: begun.start,
+            end: at,
+        };
+        return Step {
+            rectangle: Some(rectangle),
+            next: next_header(at, others),
+        };
     };
     Step {
-        rectangle: Some(rectangle),
-        next: next_header(end, others),
+        rectangle: None,
+        next: Next::Field(Stage::Data {
+            at,
+            begun,
+            next,
+            others,
+        }),
     }
 }
 
-// Behind the header of a rectangle. One of no area has no data.
+// Behind a field of a rectangle's data, which is whole.
+fn behind_content(
+    width: u16,
+    height: u16,
+    at: usize,
+    begun: Begun,
+    current: Judging,
+    others: u16,
+    field: &[u8],
+) -> Result<Step, WireFault>
+    requires whole { length field.now ≡ judging.wants_of host_format current }
+    requires short { at + length field.now ≤ message_limit }
+    ensures goes { IfOk result (λ s. (more : List ℕ)
+        → resume width height (Stage.Data at begun current others) (field.now ++ more) ≡ step_on width height s more) }
+    ensures begins { IfOk result (λ s. NextBegins (at + length field.now) s.next) }
+    ensures kind { IfOk result (λ s. (bytes : List ℕ) → IsOfUpdate bytes → NextIsOfKind s.next bytes) }
+    ensures faults { IfErr result (λ f. (more : List ℕ)
+        → resume width height (Stage.Data at begun current others) (field.now ++ more) ≡ Bad f) }
+{
+    match current.step(&PixelFormat::host(), width, height, field) {
+        Ok(next) => Ok(next_data(at + field.len(), begun, next, others)),
+        Err(fault) => Err(fault),
+    }
+}
+
+// Behind the header of a rectangle.
 fn behind_header(
     width: u16,
     height: u16,
@@ -220,20 +253,16 @@ fn behind_header(
         return Err(WireFault::OutsideScreen);
     }
     let number = encoding_at(header);
-    if number != 0 {
+    let Some(encoding) = Encoding::from_number(number) else {
         return Err(WireFault::Encoding(number.cast_signed()));
-    }
-    if area.w == 0 || area.h == 0 {
-        return Ok(behind_raw(at + 12, area, others, at + 12));
-    }
-    Ok(Step {
-        rectangle: None,
-        next: Next::Field(Stage::RawData {
-            at: at + 12,
-            area,
-            others,
-        }),
-    })
+    };
+    let begun = Begun {
+        start: at + 12,
+        area,
+        encoding,
+    };
+    let next = Judging::start(&PixelFormat::host(), encoding, area);
+    Ok(next_data(at + 12, begun, next, others))
 }
 
 /// What follows from the whole field of a stage.
@@ -253,6 +282,11 @@ pub fn step(width: u16, height: u16, stage: Stage, field: &[u8]) -> Result<Step,
         Stage::TextHead => Ok(behind_text_head(field)),
         Stage::TextData { length } => Ok(behind_text(length)),
         Stage::RectangleHead { at, others } => behind_header(width, height, at, others, field),
-        Stage::RawData { at, area, others } => Ok(behind_raw(at, area, others, at + field.len())),
+        Stage::Data {
+            at,
+            begun,
+            next,
+            others,
+        } => behind_content(width, height, at, begun, next, others, field),
     }
 }

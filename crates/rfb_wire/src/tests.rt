@@ -5,6 +5,8 @@ use pixel_format::Color;
 use std::alloc::Global;
 use std::test::Fail;
 
+mod encodings;
+
 // One red pixel at (0, 0): an update of one Raw rectangle.
 const RED: [u8; 20] = [0, 0, 0, 1, 0, 0, 0, 0, 0, 1, 0, 1, 0, 0, 0, 0, 0, 0, 255, 0];
 

@@ -4,7 +4,8 @@ ghost use Rattle.std.specs.Prelude.{◌≡◌, ◌+◌, ◌*◌, ◌<◌, ◌≤
 ghost use Rattle.pixel_format.specs.Reading.{Got};
 ghost use Rattle.pixel_format.specs.declared.Color.{Color as ColorValue};
 ghost use Rattle.client_wire.specs.declared.message.Area.{Area as AreaValue};
-ghost use Rattle.rfb_wire.specs.Grammar.{message_at, is_inside, Recorded, ReadOver, text_limit};
+ghost use Rattle.rect_data.specs.Grammar.{is_inside};
+ghost use Rattle.rfb_wire.specs.Grammar.{message_at, Recorded, ReadOver, text_limit};
 ghost use Rattle.rfb_wire.specs.Written.{raw_head, raw_update_bytes, raw_rectangle, color_map_head, color_bytes, color_map_bytes, bell_bytes, text_head, cut_text_bytes};
 
 use client_wire::Area;

@@ -1,6 +1,7 @@
 //! Painting a rectangle.
 
-ghost use Rattle.std.specs.Prelude.{◌≡◌, ℕ, ◌<◌, ◌≤◌, ◌+◌, ◌^◌};
+ghost use Rattle.std.specs.Prelude.{◌≡◌, ℕ, List, ◌<◌, ◌≤◌, ◌+◌, ◌^◌};
+ghost use Rattle.pixel_format.specs.Pixel.{pixel_color};
 ghost use Rattle.pixel_format.specs.Canvas.{Agree};
 ghost use Rattle.rre.specs.Grammar.{Content};
 ghost use Rattle.rre.specs.Data.{IsData, AreData};
@@ -11,7 +12,7 @@ use pixel_format::{Canvas, PixelFormat};
 
 /// Paints a rectangle of w by h whose upper left corner is the place (x, y) of the canvas, from its
 /// data: the bytes that [`measure`](crate::measure) takes whole (RFC 6143, section 7.7.3). The other
-/// places stay as they were. It takes no memory.
+/// places stay as they were. The canvas can have the colours of the format's pixels. It takes no memory.
 pub fn paint<C: Canvas>(
     format: &PixelFormat,
     x: u16,
@@ -26,6 +27,7 @@ pub fn paint<C: Canvas>(
     requires rows { y + h ≤ C.height canvas.old }
     requires last_column { x + w < 2 ^ 16 }
     requires last_row { y + h < 2 ^ 16 }
+    requires held { (pixel : List ℕ) → C.holds (pixel_color format.now pixel) }
     ensures width { C.width canvas.new ≡ C.width canvas.old }
     ensures height { C.height canvas.new ≡ C.height canvas.old }
     ensures painted { (content : Content) → IsData format.now w h bytes.now content

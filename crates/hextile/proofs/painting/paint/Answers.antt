@@ -1,4 +1,5 @@
-use Rattle.std.proofs.Common.{◌≡◌, ◌∙◌, ◌<◌, ℕ, subst, arith, refl}
+use Rattle.std.proofs.Common.{◌≡◌, ◌∙◌, ◌<◌, ℕ, subst, arith, refl, []}
+use Rattle.hextile.proofs.Held.{black_pixel}
 use Rattle.hextile.specs.Tiles.{tile_count}
 use Rattle.hextile.proofs.Tiling.{some_places, tile_across, tile_down}
 use Rattle.hextile.proofs.PaintedTiles.{TilesProgress, tiles_begin, next_tile, tiles_go, tiles_end}
@@ -8,6 +9,8 @@ pub loop-number-init : goal.loop-number-init
 loop-number-init g c = record {
   width = refl;
   height = refl;
+  background = subst g.C.Canvas.holds (black_pixel c.args.format.now) (c.requires.held []);
+  foreground = subst g.C.Canvas.holds (black_pixel c.args.format.now) (c.requires.held []);
   painted = λ tiles is. tiles_begin c.args.format.now c.args.x c.args.y c.args.w c.args.h tiles c.args.bytes.now
       (g.C.Canvas.width c.args.canvas.now) (g.C.Canvas.height c.args.canvas.now) (g.C.Canvas.picture c.args.canvas.now) is;
 }
@@ -125,6 +128,8 @@ loop-number-preserved g c =
     record {
       width = done.width ∙ c.loop-number.invariant.width;
       height = done.height ∙ c.loop-number.invariant.height;
+      background = done.background;
+      foreground = done.foreground;
       painted = λ tiles is.
           tiles_go c.args.format.now c.args.x c.args.y w h tiles number c.loop-number.rest.now c.paint_tile-rest.result.now c.loop-number.colors c.paint_tile-rest.new.colors
           (g.C.Canvas.width c.args.canvas.now) (g.C.Canvas.height c.args.canvas.now) (g.C.Canvas.picture c.args.canvas.now) (g.C.Canvas.picture c.loop-number.canvas)

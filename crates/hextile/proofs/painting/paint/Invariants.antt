@@ -9,6 +9,8 @@ abbrev pub invariant-loop-number : goal.invariant-loop-number
 invariant-loop-number g l = record {
   width : g.C.Canvas.width l.canvas ≡ g.C.Canvas.width l.fn.canvas;
   height : g.C.Canvas.height l.canvas ≡ g.C.Canvas.height l.fn.canvas;
+  background : g.C.Canvas.holds l.colors.background;
+  foreground : g.C.Canvas.holds l.colors.foreground;
   painted : (tiles : List Tile) → IsData l.format l.w l.h l.bytes tiles
       → TilesProgress l.format l.x l.y l.w l.h tiles l.number l.rest l.colors
       (g.C.Canvas.width l.fn.canvas) (g.C.Canvas.height l.fn.canvas) (g.C.Canvas.picture l.fn.canvas) (g.C.Canvas.picture l.canvas);

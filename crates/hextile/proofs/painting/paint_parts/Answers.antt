@@ -1,5 +1,8 @@
 use Rattle.std.proofs.Common.{◌≡◌, ◌∙◌, ◌+◌, ◌-◌, ℕ, suc, drop, refl, sym, ap, subst, arith}
-use Rattle.hextile.specs.Grammar.{subrectangle_bytes, subrectangles_at}
+use Rattle.std.specs.Prelude.{unwrap_or}
+use Rattle.hextile.specs.declared.fields.Subrectangle.{Subrectangle}
+use Rattle.hextile.specs.Grammar.{color_if, subrectangle_of, subrectangle_bytes, subrectangles_at}
+use Rattle.hextile.proofs.Held.{held_or}
 use Rattle.hextile.proofs.PaintedParts.{PartsProgress, parts_begin, parts_go, parts_end, part_taken, taken_field, any_part}
 use Rattle.hextile.proofs.painting.paint_parts.Goals as goal
 
@@ -53,6 +56,13 @@ overflow_add-y g c =
     let read = taken_field f c.args.colored c.pixel_size-size.result c.split_at.result.0.now rest c.read_subrectangle-part.result c.pixel_size-size.ensures.size c.split_at.ensures.front c.read_subrectangle-part.ensures in
     let within = t.within read in
     omega (arith, within.rows, c.requires.last_row)
+
+pub fill-requires-clause-held : goal.fill-requires-clause-held
+unfolding subrectangle_of
+fill-requires-clause-held g c =
+    let color : c.unwrap_or-color.result ≡ unwrap_or (color_if c.args.format.now c.args.colored c.split_at.result.0.now) c.args.foreground =
+    c.unwrap_or-color.ensures ∙ ap (λ (s : Subrectangle). unwrap_or s.color c.args.foreground) c.read_subrectangle-part.ensures in
+    subst g.C.Canvas.holds (sym color) (held_or g.C.Canvas.holds c.args.format.now c.args.colored c.split_at.result.0.now c.args.foreground c.requires.held c.requires.foreground)
 
 pub fill-requires-clause-columns : goal.fill-requires-clause-columns
 fill-requires-clause-columns g c =

@@ -1,7 +1,9 @@
-use Rattle.std.proofs.Common.{◌≡◌, ◌∙◌, ◌*◌, ◌-◌, length, take, drop, sym, ap, arith}
+use Rattle.std.proofs.Common.{◌≡◌, ◌∙◌, ◌*◌, ◌-◌, length, take, drop, sym, ap, subst, arith}
 use Rattle.pixel_format.specs.Format.{pixel_bytes}
 use Rattle.pixel_format.specs.Reading.{Got}
-use Rattle.hextile.specs.Grammar.{head_bytes, count_in, subrectangles_at}
+use Rattle.hextile.specs.declared.painting.TileColors.{TileColors}
+use Rattle.hextile.specs.Grammar.{pixel_if, background_in, foreground_in, head_bytes, count_in, subrectangles_at}
+use Rattle.hextile.proofs.Held.{held_or}
 use Rattle.hextile.specs.Painting.{named_in_head}
 use Rattle.hextile.proofs.PaintedTile.{tile_taken, code_body, raw_taken, parts_taken, raw_painted, parts_painted, raw_carried, parts_carried}
 use Rattle.hextile.proofs.painting.paint_tile.Goals as goal
@@ -134,3 +136,39 @@ returns-clause-painted g c = λ named tile rest e.
     parts_painted area.x area.y area.w area.h c.name_colors.result.background c.name_colors.result.foreground tile _ _ t.parts
     (g.C.Canvas.width c.args.canvas.now) (g.C.Canvas.height c.args.canvas.now) (g.C.Canvas.picture c.args.canvas.now) (g.C.Canvas.picture c.fill.new.self) (g.C.Canvas.picture c.paint_parts.new.canvas)
     t.tile_is c.fill.ensures.painted (rw (c.fill.ensures.width, c.fill.ensures.height) at painted)
+
+pub fill-requires-clause-held : goal.fill-requires-clause-held
+unfolding background_in
+fill-requires-clause-held g c =
+    let f = c.args.format.now in
+    let m = c.read_mask-mask.result in
+    let head = c.split_at-2.result.0.now in
+    subst (λ (z : TileColors). g.C.Canvas.holds z.background) (sym c.name_colors.ensures)
+    (held_or g.C.Canvas.holds f m.background head c.args.colors.now.background c.requires.held c.requires.background)
+
+pub paint_parts-requires-clause-foreground : goal.paint_parts-requires-clause-foreground
+unfolding foreground_in
+paint_parts-requires-clause-foreground g c =
+    let f = c.args.format.now in
+    let m = c.read_mask-mask.result in
+    let head = c.split_at-2.result.0.now in
+    subst (λ (z : TileColors). g.C.Canvas.holds z.foreground) (sym c.name_colors.ensures)
+    (held_or g.C.Canvas.holds f m.foreground (drop (pixel_if f m.background) head) c.args.colors.now.foreground c.requires.held c.requires.foreground)
+
+pub returns-clause-background : goal.returns-clause-background
+unfolding background_in
+returns-clause-background g c =
+    let f = c.args.format.now in
+    let m = c.read_mask-mask.result in
+    let head = c.split_at-2.result.0.now in
+    subst (λ (z : TileColors). g.C.Canvas.holds z.background) (sym c.name_colors.ensures)
+    (held_or g.C.Canvas.holds f m.background head c.args.colors.now.background c.requires.held c.requires.background)
+
+pub returns-clause-foreground : goal.returns-clause-foreground
+unfolding foreground_in
+returns-clause-foreground g c =
+    let f = c.args.format.now in
+    let m = c.read_mask-mask.result in
+    let head = c.split_at-2.result.0.now in
+    subst (λ (z : TileColors). g.C.Canvas.holds z.foreground) (sym c.name_colors.ensures)
+    (held_or g.C.Canvas.holds f m.foreground (drop (pixel_if f m.background) head) c.args.colors.now.foreground c.requires.held c.requires.foreground)

@@ -6,7 +6,7 @@ use Rattle.pixel_format.specs.Reading.{Got, Bad}
 use Rattle.pixel_format.proofs.Readings.{field_got}
 use Rattle.rfb_wire.specs.Grammar.{message_at, message_limit, other_at, Recorded, ReadOver}
 use Rattle.rfb_wire.specs.Plain.{kind_of}
-use Rattle.rfb_wire.proofs.Turns.{unless_memory_map}
+use Rattle.client_wire.proofs.Fronts.{unless_memory_map}
 use Rattle.rfb_wire.proofs.FrontMessage.{kind_short, kind_other}
 use Rattle.rfb_wire.proofs.FrontOthers.{front_passed, front_other, behind_within, other_taken}
 use Rattle.rfb_wire.proofs.plain.read_message.Goals as goal

@@ -2,7 +2,7 @@ use Rattle.std.proofs.Common.{◌≡◌, ℕ, suc, ◌+◌, ◌-◌, ◌<◌, �
 use Rattle.std.proofs.lemmas.Result.{err_from_is_err_and}
 use Rattle.pixel_format.specs.Reading.{Bad}
 use Rattle.rfb_wire.specs.Grammar.{rectangle_at}
-use Rattle.rfb_wire.proofs.Turns.{unless_memory_map}
+use Rattle.client_wire.proofs.Fronts.{unless_memory_map}
 use Rattle.rfb_wire.proofs.FromFront.{others_begin, others_end, others_next, others_more, others_bad}
 use Rattle.rfb_wire.proofs.plain.rectangles.Goals as goal
 

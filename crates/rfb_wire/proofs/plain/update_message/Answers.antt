@@ -3,7 +3,7 @@ use Rattle.std.proofs.lemmas.List.{take-append-drop}
 use Rattle.std.proofs.lemmas.Result.{err_from_is_err_and}
 use Rattle.pixel_format.specs.Reading.{Bad}
 use Rattle.rfb_wire.specs.Grammar.{update_at, message_at, message_limit}
-use Rattle.rfb_wire.proofs.Turns.{unless_memory_map}
+use Rattle.client_wire.proofs.Fronts.{unless_memory_map}
 use Rattle.rfb_wire.proofs.FrontMessage.{front_long, front_short, front_bad, front_whole, front_taken, whole_taken}
 use Rattle.rfb_wire.proofs.plain.update_message.Goals as goal
 

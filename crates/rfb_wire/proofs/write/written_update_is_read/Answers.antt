@@ -1,11 +1,12 @@
 use Rattle.std.proofs.Common.{◌≡◌, ℕ, ◌+◌, ◌*◌, ◌/◌, ◌%◌, ◌≤◌, true, List, [], ◌∷◌, ◌++◌, length, refl, sym, inl, arith}
 use Rattle.std.proofs.lemmas.List.{append-nil}
 use Rattle.client_wire.specs.declared.message.Area.{Area}
-use Rattle.rfb_wire.specs.Grammar.{area_of, encoding_number, is_inside}
+use Rattle.rect_data.specs.Grammar.{is_inside}
+use Rattle.rect_data.proofs.Content.{inside_within}
+use Rattle.rfb_wire.specs.Grammar.{area_of, encoding_number}
 use Rattle.rfb_wire.specs.Message.{IsUpdate, IsRectangle}
 use Rattle.rfb_wire.specs.Written.{two_bytes, raw_update_bytes, raw_rectangle}
 use Rattle.rfb_wire.proofs.Messages.{message_is_read}
-use Rattle.rfb_wire.proofs.Placed.{inside_width, inside_height}
 use Rattle.rfb_wire.proofs.write.written_update_is_read.Goals as goal
 
 -- the header of the rectangle
@@ -35,8 +36,8 @@ is_rectangle width height a pixels inside whole = record {
   header_length = refl;
   area_is = same_area a;
   encoding_is = raw_encoding a;
-  within_width = inside_width width height a inside;
-  within_height = inside_height width height a inside;
+  within_width = (inside_within width height a inside).columns;
+  within_height = (inside_within width height a inside).rows;
   content_is = whole;
   start_is = refl;
   end_is = omega arith;

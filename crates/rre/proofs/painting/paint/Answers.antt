@@ -114,3 +114,8 @@ returns-clause-painted g c = λ content is.
     let none = eqb-true (length c.loop-rest.rest.now) 0 (sym c.is_empty.ensures ∙ c.loop-rest-test.false) in
     progress_ends c.args.format.now (g.C.Canvas.width c.args.canvas.now) (g.C.Canvas.height c.args.canvas.now) c.args.x c.args.y c.args.w c.args.h
     (g.C.Canvas.picture c.args.canvas.now) (g.C.Canvas.picture c.loop-rest.canvas) content c.loop-rest.rest.now none (c.loop-rest.invariant.painted content is)
+
+pub fill-requires-in-loop-rest-clause-held : goal.fill-requires-in-loop-rest-clause-held
+unfolding subrectangle_of
+fill-requires-in-loop-rest-clause-held g c =
+    subst (λ (s : Subrectangle). g.C.Canvas.holds s.color) (sym c.read_subrectangle-part.ensures) (c.requires.held _)

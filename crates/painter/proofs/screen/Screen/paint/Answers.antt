@@ -1,24 +1,49 @@
-use Rattle.std.proofs.Common.{◌≡◌, ◌∙◌, sym, ap, length, vec_len}
-use Rattle.std.specs.Vec.{with_items}
-use Rattle.std.proofs.lemmas.List.{with_items_is}
-use Rattle.painter.specs.Framebuffer.{Framebuffer}
-use Rattle.painter.proofs.Screens.{screen_of, has_painted, shows_more}
+use Rattle.std.proofs.Common.{◌≡◌, ◌∙◌, ◌<◌, ◌≤◌, length, take, get_or, refl, sym, ap}
+use Rattle.std.specs.Prelude.{slice_range}
+use Rattle.std.proofs.lemmas.List.{take_all}
+use Rattle.pixel_format.specs.Canvas.{Picture, Agree}
+use Rattle.painter.specs.Framebuffer.{color_at}
+use Rattle.painter.specs.Picture.{painted_rectangle, painted_rectangles, painted_message}
+use Rattle.painter.proofs.Order.{no_rectangle, no_rectangles}
+use Rattle.painter.proofs.Screens.{rectangle_more, shows_more}
 use Rattle.painter.proofs.screen.Screen.paint.Goals as goal
 
-pub returns-clause-painted : goal.returns-clause-painted
-returns-clause-painted c =
-    let fields = c.self.inside in
-    let pixels = c.paint_message.new.pixels in
-    let same : c.args.message.now.width ≡ fields.width = c.requires.width ∙ sym (ap (λ (s : Framebuffer). s.width) c.self.view_is) in
-    let kept : length pixels ≡ vec_len fields.pixels = c.paint_message.auto.pixels ∙ c.deref_mut.ensures.len in
-    let told = rw c.deref_mut.ensures.value at c.paint_message.ensures in
-    rw (← c.self.view_is)
-    (has_painted fields.width fields.height fields.pixels.items (with_items fields.pixels pixels).items c.args.message.now same (rw (with_items_is fields.pixels pixels kept) told))
+pub loop-rectangle-init : goal.loop-rectangle-init
+loop-rectangle-init c = record {
+  width = refl;
+  height = refl;
+  painted = λ x y across down. sym (ap (λ (p : Picture). p x y) (no_rectangles c.bytes-bytes.result.now (color_at c.args.self.now)));
+}
+
+pub loop-rectangle-preserved : goal.loop-rectangle-preserved
+loop-rectangle-preserved c =
+    let m = c.args.message.now in
+    let i = c.loop-rectangle.rectangle-index in
+    let old = color_at c.args.self.now in
+    let earlier = color_at c.loop-rectangle.self in
+    let new = color_at c.paint_data.new.self in
+    let width : c.paint_data.new.self.width ≡ c.args.self.now.width = c.paint_data.ensures.size.width ∙ c.loop-rectangle.invariant.width in
+    let height : c.paint_data.new.self.height ≡ c.args.self.now.height = c.paint_data.ensures.size.height ∙ c.loop-rectangle.invariant.height in
+    let lt : i < length m.rectangles = rw (← c.rectangles-rectangle-items.ensures.value) c.loop-rectangle-test.true in
+    let told = rw (c.bytes-bytes.ensures.value, c.rectangles-rectangle-items.ensures.value) at c.loop-rectangle.invariant.painted in
+    let so_far : Agree m.width m.height earlier (painted_rectangles m.bytes (take i m.rectangles) old) =
+    λ x y across down. told x y (rw (← c.requires.width) across) (rw (← c.requires.height) down) in
+    let step = rw (c.bytes-bytes.ensures.value, c.rectangles-rectangle-items.ensures.value) at c.paint_data.ensures.painted in
+    let done : Agree m.width m.height new (painted_rectangle m.bytes (get_or m.rectangles i no_rectangle) earlier) =
+    λ x y across down. step x y (rw (width, ← c.requires.width) across) (rw (height, ← c.requires.height) down) in
+    rw (c.bytes-bytes.ensures.value, c.rectangles-rectangle-items.ensures.value)
+    (record {
+      width = width;
+      height = height;
+      painted = λ x y across down.
+          rectangle_more m i old earlier new c.rectangles-rectangle-items.ensures.placed lt so_far done x y (rw c.requires.width across) (rw c.requires.height down);
+    })
 
 pub returns-clause-shows : goal.returns-clause-shows
-returns-clause-shows c = λ messages.
-    let fields = c.self.inside in
-    let pixels = c.paint_message.new.pixels in
-    let done = rw (← c.self.view_is) at (returns-clause-painted c) in
-    rw (← c.self.view_is)
-    (λ shows. shows_more (screen_of fields.width fields.height fields.pixels.items) (screen_of fields.width fields.height (with_items fields.pixels pixels).items) c.args.message.now messages shows done)
+returns-clause-shows c = λ messages shows.
+    let m = c.args.message.now in
+    let le : length m.rectangles ≤ c.loop-rectangle.rectangle-index = rw (← c.rectangles-rectangle-items.ensures.value) c.loop-rectangle-test.false in
+    let all = take_all c.loop-rectangle.rectangle-index m.rectangles le in
+    let done = rw (c.bytes-bytes.ensures.value, c.rectangles-rectangle-items.ensures.value, all) at c.loop-rectangle.invariant.painted in
+    λ x y across down. shows_more c.args.self.now c.loop-rectangle.self m messages c.requires.width c.requires.height c.rectangles-rectangle-items.ensures.placed shows done x y
+    (rw (← c.loop-rectangle.invariant.width) across) (rw (← c.loop-rectangle.invariant.height) down)

@@ -1,7 +1,10 @@
-use Rattle.std.proofs.Common.{◌≡◌, [], ◌∙◌, sym, ap, refl, length}
+use Rattle.std.proofs.Common.{◌≡◌, [], ◌∙◌, sym, ap, subst, refl, length}
 use Rattle.std.proofs.lemmas.List.{append-nil}
-use Rattle.client_wire.specs.Stream.{StandsFor}
-use Rattle.rfb_wire.specs.Grammar.{message_limit}
+use Rattle.pixel_format.specs.Reading.{Bad}
+use Rattle.client_wire.specs.Fault.{UnlessMemory}
+use Rattle.client_wire.specs.Stream.{StandsFor, FaultOf}
+use Rattle.client_wire.proofs.Fronts.{unless_memory_map}
+use Rattle.rfb_wire.specs.Grammar.{message_at, message_limit}
 use Rattle.client_wire.proofs.Streams.{stands_whole}
 use Rattle.rfb_wire.proofs.Whole.{whole_is, none_given, other_given, same_by_bytes, memory_alone}
 use Rattle.rfb_wire.specs.declared.fault.BytesFault.TheVariants as bytes_faults
@@ -54,3 +57,13 @@ pub returns-clause-whole : goal.returns-clause-whole
 returns-clause-whole c = λ m for same.
     let one = returns-clause-ok c in
     same_by_bytes message_limit c.args.width c.args.height c.in-Some.message m c.args.bytes.now one.0 one.1 for same
+
+pub returns-in-Err-clause-wire : goal.returns-in-Err-clause-wire
+returns-in-Err-clause-wire c = λ f is.
+    let same : c.in-Err.fault ≡ f = cc in
+    let stands : StandsFor c.new-reader.result.kept c.new-reader.result.passed [] = rw c.new-reader.ensures (stands_whole []) in
+    let stops = rw (c.new-reader.ensures, c.new-messages.ensures.items) at (c.in-Err.ensures.faults (rw c.new-reader.ensures refl) [] stands) in
+    subst (λ z. UnlessMemory z (FaultOf (message_at message_limit c.args.width c.args.height) c.args.bytes.now z)) same
+    (unless_memory_map c.in-Err.fault (message_at message_limit c.args.width c.args.height stops.rest ≡ Bad c.in-Err.fault)
+    (FaultOf (message_at message_limit c.args.width c.args.height) c.args.bytes.now c.in-Err.fault)
+    (λ here. record { parts = stops.gives.parts; rest = stops.rest; reads = stops.gives.reads; fault = here }) stops.fault)

@@ -2,7 +2,8 @@ use Rattle.std.proofs.Common.{◌≡◌, ℕ, List, ◌++◌, ◌-◌, ◌+◌, 
 use Rattle.std.proofs.lemmas.List.{take_rest, length-drop}
 use Rattle.std.proofs.lemmas.Result.{err_from_is_err_and}
 use Rattle.rfb_wire.specs.Progress.{resume, start_of, BeginsAt, IsOfKind}
-use Rattle.rfb_wire.proofs.Turns.{field_goes, whole_ends, whole_goes, whole_over, field_faults, unless_memory}
+use Rattle.client_wire.proofs.Fronts.{unless_memory}
+use Rattle.rfb_wire.proofs.Turns.{field_goes, whole_ends, whole_goes, whole_over, field_faults}
 use Rattle.rfb_wire.specs.Grammar.{message_limit}
 use Rattle.rfb_wire.proofs.progress.Progress.advance.Goals as goal
 

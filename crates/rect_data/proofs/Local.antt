@@ -1,0 +1,144 @@
+-- What bytes say of a rectangle's data they say whatever follows them.
+use Rattle.std.proofs.Common.{◌≡◌, ℕ, ◌*◌, List, ◌∷◌, ◌++◌, inl, inr, refl, ap, ◌∙◌, append_assoc}
+use Rattle.pixel_format.specs.Format.{Format, pixel_bytes}
+use Rattle.pixel_format.specs.Reading.{Reading, Got, More, Bad, field, guard, Extends, IsLocal}
+use Rattle.pixel_format.proofs.Readings.{field_local, bind_local, guard_local}
+use Rattle.client_wire.specs.declared.message.Area.{Area}
+use Rattle.client_wire.specs.declared.fault.WireFault.{WireFault}
+use Rattle.client_wire.specs.declared.fault.WireFault.TheVariants as faults
+use Rattle.rre.specs.Grammar as rre
+use Rattle.rre.specs.Data as rre_data
+use Rattle.rre.proofs.Content as rre_content
+use Rattle.rre.proofs.Refused as rre_refused
+use Rattle.hextile.specs.Grammar as hextile
+use Rattle.hextile.specs.Data as hextile_data
+use Rattle.hextile.proofs.TilesRead as hextile_content
+use Rattle.hextile.proofs.Refused as hextile_refused
+use Rattle.rect_data.specs.declared.encoding.Encoding.{Encoding}
+use Rattle.rect_data.specs.declared.encoding.Encoding.TheVariants as encodings
+use Rattle.rect_data.specs.Grammar.{is_inside, source_of, raw_at, copy_at, judged_as, data_at}
+
+raw_local : (f : Format) (area : Area) → IsLocal (raw_at f area)
+unfolding raw_at
+raw_local f area bytes more =
+    let n : ℕ = pixel_bytes f * (area.w * area.h) in
+    let g : List ℕ → List ℕ → Reading Unit WireFault = λ pixels rest. Got tt rest in
+    bind_local (field n bytes) (field n (bytes ++ more)) more g g (field_local WireFault n bytes more) (λ x rest. refl)
+
+copy_local : (width height : ℕ) (area : Area) → IsLocal (copy_at width height area)
+unfolding copy_at
+copy_local width height area bytes more =
+    let g : List ℕ → List ℕ → Reading Unit WireFault = λ place rest. guard (is_inside width height (source_of area place)) faults.SourceOutside (Got tt rest) in
+    bind_local (field 4 bytes) (field 4 (bytes ++ more)) more g g (field_local WireFault 4 bytes more)
+    (λ place rest. guard_local (is_inside width height (source_of area place)) faults.SourceOutside (Got tt rest) (Got tt (rest ++ more)) more refl)
+
+-- ---- the codecs
+
+refused_rre : (f : Format) (w h : ℕ) (bytes more : List ℕ) → rre_data.IsRefused f w h bytes → rre_data.IsRefused f w h (bytes ++ more)
+refused_rre f w h bytes more is = record {
+  head = is.head;
+  pixel = is.pixel;
+  count = is.count;
+  earlier = is.earlier;
+  body = is.body;
+  outside = is.outside;
+  field = is.field;
+  more = is.more ++ more;
+  bytes_are =
+      ap (λ z. z ++ more) is.bytes_are ∙ append_assoc is.head (is.body ++ (is.field ++ is.more)) more
+      ∙ ap (λ z. is.head ++ z) (append_assoc is.body (is.field ++ is.more) more)
+      ∙ ap (λ z. is.head ++ (is.body ++ z)) (append_assoc is.field is.more more);
+  head_is = is.head_is;
+  body_is = is.body_is;
+  one_of_them = is.one_of_them;
+  field_is = is.field_is;
+  leaves = is.leaves;
+}
+
+rre_local : (f : Format) (w h : ℕ) → IsLocal (rre.data_at f w h)
+rre_local f w h bytes more = extends (rre.data_at f w h bytes) refl
+  where
+    extends : (r : Reading rre.Content rre.Fault) → rre.data_at f w h bytes ≡ r → Extends r more (rre.data_at f w h (bytes ++ more))
+    extends (Got content rest) e =
+        (let d = rre_content.data_read f w h bytes content rest e in
+        ap (rre.data_at f w h) (ap (λ z. z ++ more) d.bytes_are ∙ append_assoc d.front rest more)
+        ∙ rre_content.data_again f w h d.front (rest ++ more) content d.is)
+    extends More e = tt
+    extends (Bad rre.Outside) e =
+        rre_content.refused_again f w h (bytes ++ more) (refused_rre f w h bytes more (rre_refused.refused_read f w h bytes e))
+
+forbidden_more : (before : List hextile.Tile) (rest more : List ℕ) → hextile_data.HasForbidden before rest → hextile_data.HasForbidden before (rest ++ more)
+forbidden_more before rest more is = record {
+  byte = is.byte;
+  more = is.more ++ more;
+  bytes_are = ap (λ z. z ++ more) is.bytes_are;
+  not_raw = is.not_raw;
+  forbidden = is.forbidden;
+}
+
+outside_more : (f : Format) (w h : ℕ) (before : List hextile.Tile) (rest more : List ℕ) → hextile_data.HasOutside f w h before rest
+    → hextile_data.HasOutside f w h before (rest ++ more)
+outside_more f w h before rest more is = record {
+  byte = is.byte;
+  head = is.head;
+  background = is.background;
+  foreground = is.foreground;
+  count = is.count;
+  earlier = is.earlier;
+  body = is.body;
+  outside = is.outside;
+  field = is.field;
+  more = is.more ++ more;
+  bytes_are =
+      ap (λ z. z ++ more) is.bytes_are ∙ ap (λ z. is.byte ∷ z) (append_assoc is.head (is.body ++ (is.field ++ is.more)) more)
+      ∙ ap (λ z. is.byte ∷ (is.head ++ z)) (append_assoc is.body (is.field ++ is.more) more)
+      ∙ ap (λ z. is.byte ∷ (is.head ++ (is.body ++ z))) (append_assoc is.field is.more more);
+  not_raw = is.not_raw;
+  allowed = is.allowed;
+  head_is = is.head_is;
+  body_is = is.body_is;
+  one_of_them = is.one_of_them;
+  field_is = is.field_is;
+  leaves = is.leaves;
+}
+
+refused_hextile : (f : Format) (w h : ℕ) (bytes more : List ℕ) → hextile_data.IsRefused f w h bytes → hextile_data.IsRefused f w h (bytes ++ more)
+refused_hextile f w h bytes more is = record {
+  tiles = is.tiles;
+  body = is.body;
+  rest = is.rest ++ more;
+  bytes_are = ap (λ z. z ++ more) is.bytes_are ∙ append_assoc is.body is.rest more;
+  one_of_them = is.one_of_them;
+  body_is = is.body_is;
+  next = elim is.next [
+    | inl x ↦ inl (forbidden_more _ is.rest more x)
+    | inr x ↦ inr (outside_more f _ _ _ is.rest more x)
+  ];
+}
+
+hextile_local : (f : Format) (w h : ℕ) → IsLocal (hextile.data_at f w h)
+hextile_local f w h bytes more = extends (hextile.data_at f w h bytes) refl
+  where
+    extends : (r : Reading (List hextile.Tile) hextile.Fault) → hextile.data_at f w h bytes ≡ r → Extends r more (hextile.data_at f w h (bytes ++ more))
+    extends (Got tiles rest) e =
+        (let d = hextile_content.data_read f w h bytes tiles rest e in
+        ap (hextile.data_at f w h) (ap (λ z. z ++ more) d.bytes_are ∙ append_assoc d.front rest more)
+        ∙ hextile_content.data_again f w h d.front (rest ++ more) tiles d.is)
+    extends More e = tt
+    extends (Bad hextile.Refused) e =
+        hextile_refused.refused_again f w h (bytes ++ more) (refused_hextile f w h bytes more (hextile_refused.refused_read f w h bytes e))
+
+judged_local : {A E : Type 0} (fault : WireFault) (r longer : Reading A E) (more : List ℕ) → Extends r more longer
+    → Extends (judged_as fault r) more (judged_as fault longer)
+judged_local fault (Got x rest) longer more e = ap (judged_as fault) e
+judged_local fault More longer more e = tt
+judged_local fault (Bad x) longer more e = ap (judged_as fault) e
+
+pub data_local : (f : Format) (width height : ℕ) (encoding : Encoding) (area : Area) → IsLocal (data_at f width height encoding area)
+unfolding data_at
+data_local f width height encodings.Raw area bytes more = raw_local f area bytes more
+data_local f width height encodings.CopyRect area bytes more = copy_local width height area bytes more
+data_local f width height encodings.Rre area bytes more =
+    judged_local faults.BadRre (rre.data_at f area.w area.h bytes) (rre.data_at f area.w area.h (bytes ++ more)) more (rre_local f area.w area.h bytes more)
+data_local f width height encodings.Hextile area bytes more =
+    judged_local faults.BadHextile (hextile.data_at f area.w area.h bytes) (hextile.data_at f area.w area.h (bytes ++ more)) more (hextile_local f area.w area.h bytes more)

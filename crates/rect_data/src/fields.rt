@@ -1,0 +1,29 @@
+//! The fields of a CopyRect rectangle's data.
+
+ghost use Rattle.std.specs.Prelude.{◌≡◌, length};
+ghost use Rattle.rect_data.specs.Grammar.{source_of, is_inside};
+
+use client_wire::Area;
+
+/// Whether the area lies within a screen of this size.
+#[tactic(auto, unfolding(crate::specs::Grammar::is_inside))]
+pub fn lies_inside(area: Area, width: u16, height: u16) -> bool
+    ensures { result ≡ is_inside width height area }
+{
+    area.x as u32 + area.w as u32 <= width as u32 && area.y as u32 + area.h as u32 <= height as u32
+}
+
+/// The area that is copied to a rectangle of this area: x and y stand in four bytes, the higher byte of
+/// each first, and it is as large as the rectangle (RFC 6143, section 7.7.2).
+#[tactic(auto, unfolding(crate::specs::Grammar::source_of))]
+pub fn source_at(area: Area, place: &[u8]) -> Area
+    requires { length place.now ≡ 4 }
+    ensures { result ≡ source_of area place.now }
+{
+    Area {
+        x: u16::from_be_bytes([place[0], place[1]]),
+        y: u16::from_be_bytes([place[2], place[3]]),
+        w: area.w,
+        h: area.h,
+    }
+}

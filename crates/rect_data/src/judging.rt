@@ -1,0 +1,143 @@
+//! Judging data field by field, as they come.
+
+ghost use Rattle.std.specs.Prelude.{◌≡◌, ℕ, ◌<◌, ◌^◌, ◌++◌, List, length, IfOk, IfErr};
+ghost use Rattle.pixel_format.specs.Reading.{Bad};
+ghost use Rattle.rect_data.specs.Grammar.{data_at};
+ghost use Rattle.rect_data.specs.Judging.{wants_of, resume, go_on, HasBytes};
+
+use crate::encoding::Encoding;
+use crate::fields::{lies_inside, source_at};
+use client_wire::{Area, WireFault};
+use pixel_format::PixelFormat;
+
+/// Which field of a rectangle's data comes next: what stands for the part that is judged. Data that come
+/// in pieces are judged by taking [`wants`](Judging::wants) bytes for each [`step`](Judging::step), from
+/// [`start`](Judging::start) on, and no byte twice.
+#[derive(Clone, Copy)]
+pub enum Judging {
+    /// The pixels of a Raw rectangle of this area.
+    Pixels(Area),
+    /// The place from which a rectangle of this area is copied.
+    Source(Area),
+    /// A field of the data of an RRE rectangle of w by h.
+    Rre {
+        w: u16,
+        h: u16,
+        next: rre::Measuring,
+    },
+    /// A field of the data of a Hextile rectangle.
+    Hextile(hextile::Measuring),
+}
+
+// The field behind one of an RRE rectangle's data.
+fn rre_step(
+    format: &PixelFormat,
+    w: u16,
+    h: u16,
+    stage: rre::Measuring,
+    field: &[u8],
+) -> Result<Option<Judging>, WireFault>
+    requires { length field.now ≡ wants_of format.now (Judging.Rre w h stage) }
+    ensures goes { IfOk result (λ next. (width height : ℕ) → (more : List ℕ)
+        → resume format.now width height (Judging.Rre w h stage) (field.now ++ more) ≡ go_on format.now width height next more) }
+    ensures some { IfOk result (HasBytes format.now) }
+    ensures refused { IfErr result (λ fault. (width height : ℕ) → (more : List ℕ)
+        → resume format.now width height (Judging.Rre w h stage) (field.now ++ more) ≡ Bad fault) }
+{
+    let Ok(next) = stage.step(format, w, h, field) else {
+        return Err(WireFault::BadRre);
+    };
+    let Some(next) = next else {
+        return Ok(None);
+    };
+    Ok(Some(Judging::Rre { w, h, next }))
+}
+
+// The field behind one of a Hextile rectangle's data.
+fn hextile_step(
+    format: &PixelFormat,
+    stage: hextile::Measuring,
+    field: &[u8],
+) -> Result<Option<Judging>, WireFault>
+    requires { length field.now ≡ wants_of format.now (Judging.Hextile stage) }
+    ensures goes { IfOk result (λ next. (width height : ℕ) → (more : List ℕ)
+        → resume format.now width height (Judging.Hextile stage) (field.now ++ more) ≡ go_on format.now width height next more) }
+    ensures some { IfOk result (HasBytes format.now) }
+    ensures refused { IfErr result (λ fault. (width height : ℕ) → (more : List ℕ)
+        → resume format.now width height (Judging.Hextile stage) (field.now ++ more) ≡ Bad fault) }
+{
+    let Ok(next) = stage.step(format, field) else {
+        return Err(WireFault::BadHextile);
+    };
+    let Some(next) = next else {
+        return Ok(None);
+    };
+    Ok(Some(Judging::Hextile(next)))
+}
+
+impl Judging {
+    /// The field with which the data of a rectangle of this area begin, `None` where it has no data.
+    pub fn start(format: &PixelFormat, encoding: Encoding, area: Area) -> Option<Judging>
+        ensures goes { (width height : ℕ) → (more : List ℕ)
+            → go_on format.now width height result more ≡ data_at format.now width height encoding area more }
+        ensures some { HasBytes format.now result }
+    {
+        match encoding {
+            Encoding::Raw if area.w == 0 || area.h == 0 => None,
+            Encoding::Raw => Some(Judging::Pixels(area)),
+            Encoding::CopyRect => Some(Judging::Source(area)),
+            Encoding::Rre => Some(Judging::Rre {
+                w: area.w,
+                h: area.h,
+                next: rre::Measuring::Head,
+            }),
+            Encoding::Hextile => {
+                Some(Judging::Hextile(hextile::Measuring::start(area.w, area.h)?))
+            }
+        }
+    }
+
+    /// How many bytes the field has.
+    pub fn wants(self, format: &PixelFormat) -> usize
+        ensures value { result ≡ wants_of format.now self }
+        ensures bound { result < 2 ^ 34 }
+    {
+        match self {
+            Judging::Pixels(area) => format.bytes() * (area.w as usize * area.h as usize),
+            Judging::Source(_) => 4,
+            Judging::Rre { next, .. } => next.wants(format),
+            Judging::Hextile(next) => next.wants(format),
+        }
+    }
+
+    /// Judges the field, which is whole, on a screen of this size. Answers the next one, `None` where the
+    /// data end; or `SourceOutside` at the place of a CopyRect rectangle's source, `BadRre` at a subrectangle
+    /// that leaves an RRE rectangle, and `BadHextile` at a mask that may not stand in a Hextile rectangle
+    /// and at a subrectangle that leaves its tile.
+    pub fn step(
+        self,
+        format: &PixelFormat,
+        width: u16,
+        height: u16,
+        field: &[u8],
+    ) -> Result<Option<Judging>, WireFault>
+        requires { length field.now ≡ wants_of format.now self }
+        ensures goes { IfOk result (λ next. (more : List ℕ)
+            → resume format.now width height self (field.now ++ more) ≡ go_on format.now width height next more) }
+        ensures some { IfOk result (HasBytes format.now) }
+        ensures refused { IfErr result (λ fault. (more : List ℕ)
+            → resume format.now width height self (field.now ++ more) ≡ Bad fault) }
+    {
+        match self {
+            Judging::Pixels(_) => Ok(None),
+            Judging::Source(area) => {
+                if !lies_inside(source_at(area, field), width, height) {
+                    return Err(WireFault::SourceOutside);
+                }
+                Ok(None)
+            }
+            Judging::Rre { w, h, next } => rre_step(format, w, h, next, field),
+            Judging::Hextile(next) => hextile_step(format, next, field),
+        }
+    }
+}

@@ -1,0 +1,89 @@
+//! The length of data that are there as a whole.
+
+ghost use Rattle.std.specs.Prelude.{◌≡◌, ℕ, ◌≤◌, List, length, take, Ok, IfOk, IfSome};
+ghost use Rattle.rect_data.specs.Grammar.{raw_at, copy_at, judged_as, data_at, measured};
+ghost use Rattle.rre.specs.Grammar as rre;
+ghost use Rattle.hextile.specs.Grammar as hextile;
+ghost use Rattle.rect_data.specs.Data.{AreData};
+
+use crate::encoding::Encoding;
+use crate::fields::{lies_inside, source_at};
+use client_wire::{Area, WireFault};
+use pixel_format::PixelFormat;
+
+// The length of Raw data.
+fn measure_raw(format: &PixelFormat, area: Area, bytes: &[u8]) -> Option<usize>
+    ensures { Ok result ≡ measured (length bytes.now) (raw_at format.now area bytes.now) }
+{
+    let length = format.bytes() * (area.w as usize * area.h as usize);
+    if bytes.len() < length {
+        return None;
+    }
+    Some(length)
+}
+
+// The length of CopyRect data.
+fn measure_copy(
+    width: u16,
+    height: u16,
+    area: Area,
+    bytes: &[u8],
+) -> Result<Option<usize>, WireFault>
+    ensures { result ≡ measured (length bytes.now) (copy_at width height area bytes.now) }
+{
+    if bytes.len() < 4 {
+        return Ok(None);
+    }
+    if !lies_inside(source_at(area, &bytes[..4]), width, height) {
+        return Err(WireFault::SourceOutside);
+    }
+    Ok(Some(4))
+}
+
+// The length of RRE data.
+fn measure_rre(format: &PixelFormat, area: Area, bytes: &[u8]) -> Result<Option<usize>, WireFault>
+    ensures { result ≡ measured (length bytes.now) (judged_as WireFault.BadRre (rre.data_at format.now area.w area.h bytes.now)) }
+{
+    match rre::measure(format, area.w, area.h, bytes) {
+        Ok(length) => Ok(Some(length)),
+        Err(rre::Measure::NeedMore) => Ok(None),
+        Err(rre::Measure::Bad) => Err(WireFault::BadRre),
+    }
+}
+
+// The length of Hextile data.
+fn measure_hextile(
+    format: &PixelFormat,
+    area: Area,
+    bytes: &[u8],
+) -> Result<Option<usize>, WireFault>
+    ensures { result ≡ measured (length bytes.now) (judged_as WireFault.BadHextile (hextile.data_at format.now area.w area.h bytes.now)) }
+{
+    match hextile::measure(format, area.w, area.h, bytes) {
+        Ok(length) => Ok(Some(length)),
+        Err(hextile::Measure::NeedMore) => Ok(None),
+        Err(hextile::Measure::Bad) => Err(WireFault::BadHextile),
+    }
+}
+
+/// The length of the data that begin the bytes, of a rectangle of this area on a screen of this size (RFC
+/// 6143, section 7.7); `None` where they are too few. A fault is that of the first field that is refused:
+/// `BadRre`, `BadHextile`, or `SourceOutside`. It takes no memory.
+pub fn measure(
+    format: &PixelFormat,
+    width: u16,
+    height: u16,
+    encoding: Encoding,
+    area: Area,
+    bytes: &[u8],
+) -> Result<Option<usize>, WireFault>
+    ensures value { result ≡ measured (length bytes.now) (data_at format.now width height encoding area bytes.now) }
+    ensures whole { IfOk result (λ o. IfSome o (λ n. (n ≤ length bytes.now) × AreData format.now width height encoding area (take n bytes.now))) }
+{
+    match encoding {
+        Encoding::Raw => Ok(measure_raw(format, area, bytes)),
+        Encoding::CopyRect => measure_copy(width, height, area, bytes),
+        Encoding::Rre => measure_rre(format, area, bytes),
+        Encoding::Hextile => measure_hextile(format, area, bytes),
+    }
+}
