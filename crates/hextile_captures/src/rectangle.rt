@@ -1,0 +1,89 @@
+//! Rectangles as a file has them.
+
+ghost use Rattle.std.specs.Prelude.{◌≤◌, ◌+◌, length, IfSome};
+ghost use Rattle.pixel_format.specs.Format.{host_format};
+ghost use Rattle.hextile.specs.Data.{AreData};
+
+use crate::sheet::{HEIGHT, Sheet, WIDTH};
+use hextile::{Measure, Measuring, measure, paint};
+use pixel_format::PixelFormat;
+
+/// A rectangle that fits on a sheet, and the bytes of its data.
+#[derive(Clone, Copy)]
+pub(crate) struct Rectangle<'a> {
+    pub(crate) w: u16,
+    pub(crate) h: u16,
+    pub(crate) bytes: &'a [u8],
+}
+
+/// The rectangle that bytes begin with; none where there is none, or where the ways of measuring its data
+/// differ: with all that stands behind them, with a byte too few, which is to need more, and field by field.
+pub(crate) fn first_rectangle(bytes: &[u8]) -> Option<Rectangle<'_>>
+    ensures whole { IfSome result (λ r. AreData host_format r.w r.h r.bytes.now) }
+    ensures size { IfSome result (λ r. 4 + length r.bytes.now ≤ length bytes.now) }
+    ensures columns { IfSome result (λ r. r.w ≤ 320) }
+    ensures rows { IfSome result (λ r. r.h ≤ 120) }
+{
+    let [w_high, w_low, h_high, h_low, rest @ ..] = bytes else {
+        return None;
+    };
+    let w = u16::from_be_bytes([*w_high, *w_low]);
+    let h = u16::from_be_bytes([*h_high, *h_low]);
+    let host = PixelFormat::host();
+    let length = measure(&host, w, h, rest).ok()?;
+    let in_pieces = measured_in_pieces(&host, w, h, rest).ok()?;
+    let needs_all = length > 0
+        && measure(&host, w, h, &rest[..length - 1]) == Err(Measure::NeedMore);
+    if w > WIDTH || h > HEIGHT || in_pieces != length || !needs_all {
+        return None;
+    }
+    Some(Rectangle {
+        w,
+        h,
+        bytes: &rest[..length],
+    })
+}
+
+// How many bytes the fields of the data have that the bytes begin with.
+fn measured_in_pieces(
+    format: &PixelFormat,
+    w: u16,
+    h: u16,
+    bytes: &[u8],
+) -> Result<usize, Measure> {
+    let mut rest = bytes;
+    let mut next = Measuring::start(w, h);
+    for _ in 0..=bytes.len() {
+        let Some(stage) = next else {
+            return Ok(bytes.len() - rest.len().min(bytes.len()));
+        };
+        let wants = stage.wants(format);
+        if rest.len() < wants {
+            return Err(Measure::NeedMore);
+        }
+        next = stage.step(format, &rest[..wants])?;
+        rest = &rest[wants..];
+    }
+    Err(Measure::NeedMore)
+}
+
+impl Rectangle<'_> {
+    /// A number of all its colours, as they are painted.
+    pub(crate) fn checksum(&self) -> u32
+        requires whole { AreData host_format self.now.w self.now.h self.now.bytes.now }
+        requires columns { self.now.w ≤ 320 }
+        requires rows { self.now.h ≤ 120 }
+    {
+        let mut sheet = Sheet::black();
+        paint(
+            &PixelFormat::host(),
+            0,
+            0,
+            self.w,
+            self.h,
+            self.bytes,
+            &mut sheet,
+        );
+        sheet.checksum(self.w, self.h)
+    }
+}

@@ -1,0 +1,21 @@
+-- The encodings that updates are written in, and how a viewer's list asks for one.
+use Rattle.std.specs.Prelude.{◌≡◌, ℕ, ℤ, pos, All, List, ◌∷◌, ◌++◌}
+use Rattle.rect_codec.specs.declared.encoding.Encoding.{Encoding}
+use Rattle.rect_codec.specs.declared.encoding.Encoding.TheVariants as encodings
+
+-- the number by which a rectangle's header names an encoding (RFC 6143, section 7.7)
+abbrev pub number_of : Encoding → ℕ
+number_of encodings.Raw = 0
+number_of encodings.Rre = 2
+number_of encodings.Hextile = 5
+
+-- the number is that of none of them
+abbrev pub IsOther : ℤ → Type 0
+IsOther number = (encoding : Encoding) → number ≡ pos (number_of encoding) → ⊥
+
+-- the encoding's number stands in the list, and none of theirs before it
+pub record StandsFirst (numbers : List ℤ) (encoding : Encoding) : Type 0 where
+  pub before : List ℤ
+  pub behind : List ℤ
+  pub numbers_are : numbers ≡ before ++ pos (number_of encoding) ∷ behind
+  pub others : All IsOther before

@@ -1,0 +1,4 @@
+pub use Rattle.pixel_format.specs.Canvas
+pub mod Encoding
+pub mod Picture
+pub mod Update

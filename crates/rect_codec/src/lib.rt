@@ -1,0 +1,13 @@
+//! Framebuffer updates as they are written: one rectangle, in an encoding that the viewer takes (RFC 6143,
+//! sections 7.6.1 and 7.7).
+#![tactic(auto)]
+
+mod encoding;
+mod pixels;
+mod update;
+
+pub use encoding::{Encoding, pick};
+pub use update::write_update;
+
+#[cfg(test)]
+mod tests;

@@ -1,0 +1,40 @@
+//! The data of Raw rectangles.
+
+ghost use Rattle.std.specs.Prelude.{◌≡◌, ℕ, ◌+◌, ◌*◌, ◌<◌, ◌^◌, All, OnOk, OnErr, length};
+ghost use Rattle.pixel_format.specs.Format.{pixel_bytes};
+ghost use Rattle.pixel_format.specs.Pixel.{IsWithin, pixel_color};
+ghost use Rattle.rre.specs.Encoded.{nth, Appends};
+ghost use Rattle.rect_codec.specs.Picture.{pixel_at, ArePixels};
+
+use pixel_format::{Color, NoMemory, PixelFormat};
+
+// Writes the pixels of colours, one behind the other.
+fn put_pixels(format: &PixelFormat, colors: &[Color], pixels: &mut [u8])
+    requires size { length pixels.old ≡ length colors.now * pixel_bytes format.now }
+    requires within { All (IsWithin format.now) colors.now }
+    ensures { (k : ℕ) → k < length colors.now → pixel_color format.now (pixel_at format.now pixels.new k) ≡ nth colors.now k }
+{
+    let size = format.bytes();
+    for (k, color) in colors.iter().enumerate() {
+        let start = k * size;
+        format.put(*color, &mut pixels[start..start + size]);
+    }
+}
+
+/// Appends the pixels of colours, one behind the other (RFC 6143, section 7.7.1). Want of memory leaves
+/// `out` as it was.
+pub(crate) fn append_pixels(
+    format: &PixelFormat,
+    colors: &[Color],
+    out: &mut Vec<u8>,
+) -> Result<(), NoMemory>
+    requires few { length colors.now < 2 ^ 32 }
+    requires within { All (IsWithin format.now) colors.now }
+    ensures ok { OnOk result (Appends (ArePixels format.now colors.now) out.old.items out.new.items) }
+    ensures err { OnErr result (out.new.items ≡ out.old.items) }
+{
+    let start = out.len();
+    out.resize(start + colors.len() * format.bytes(), 0)?;
+    put_pixels(format, colors, &mut out[start..]);
+    Ok(())
+}

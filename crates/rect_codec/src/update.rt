@@ -1,0 +1,115 @@
+//! Updates of one rectangle.
+
+ghost use Rattle.std.specs.Prelude.{◌≡◌, ◌+◌, ◌*◌, ◌++◌, All, OnOk, OnErr, length};
+ghost use Rattle.pixel_format.specs.Pixel.{IsWithin};
+ghost use Rattle.rre.specs.Encoded.{rows_of, Appends};
+ghost use Rattle.rect_codec.specs.Picture.{Shows};
+ghost use Rattle.rect_codec.specs.Update.{update_head, IsUpdate, IsUpdateFor};
+
+use crate::encoding::Encoding;
+use crate::pixels::append_pixels;
+use client_wire::Area;
+use pixel_format::{Color, NoMemory, PixelFormat};
+use std::alloc::Global;
+
+// How many bytes an update of one rectangle has before the rectangle's data.
+const HEAD_SIZE: usize = 16;
+
+// Appends these bytes: type 0, padding, one rectangle, and the rectangle's header.
+fn append_head(area: Area, encoding: Encoding, out: &mut Vec<u8>) -> Result<(), NoMemory>
+    ensures ok { OnOk result (out.new.items ≡ out.old.items ++ update_head area encoding) }
+    ensures err { OnErr result (out.new.items ≡ out.old.items) }
+{
+    let number = encoding.number();
+    out.extend_from_slice(&[
+        0,
+        0,
+        0,
+        1,
+        (area.x / 256) as u8,
+        (area.x % 256) as u8,
+        (area.y / 256) as u8,
+        (area.y % 256) as u8,
+        (area.w / 256) as u8,
+        (area.w % 256) as u8,
+        (area.h / 256) as u8,
+        (area.h % 256) as u8,
+        (number / 16_777_216) as u8,
+        (number / 65_536 % 256) as u8,
+        (number / 256 % 256) as u8,
+        (number % 256) as u8,
+    ])
+}
+
+// Appends the data of a rectangle.
+fn append_data(
+    alloc: Global,
+    format: &PixelFormat,
+    area: Area,
+    colors: &[Color],
+    encoding: Encoding,
+    out: &mut Vec<u8>,
+) -> Result<(), NoMemory>
+    requires size { length colors.now ≡ area.h * area.w }
+    requires within { All (IsWithin format.now) colors.now }
+    ensures ok { OnOk result (Appends (λ bytes. Shows encoding format.now area.w area.h bytes (rows_of colors.now area.w)) out.old.items out.new.items) }
+    ensures err { OnErr result (out.new.items ≡ out.old.items) }
+{
+    match encoding {
+        Encoding::Raw => append_pixels(format, colors, out),
+        Encoding::Rre => rre::encode(alloc, format, area.w, area.h, colors, out),
+        Encoding::Hextile => hextile::encode(format, area.w, area.h, colors, out),
+    }
+}
+
+// Appends an update in this encoding, whatever its length.
+fn append_update(
+    alloc: Global,
+    format: &PixelFormat,
+    area: Area,
+    colors: &[Color],
+    encoding: Encoding,
+    out: &mut Vec<u8>,
+) -> Result<(), NoMemory>
+    requires size { length colors.now ≡ area.h * area.w }
+    requires within { All (IsWithin format.now) colors.now }
+    ensures ok { OnOk result (Appends (IsUpdate format.now area colors.now encoding) out.old.items out.new.items) }
+    ensures err { OnErr result (out.new.items ≡ out.old.items) }
+{
+    let start = out.len();
+    append_head(area, encoding, out)?;
+    if let Err(fault) = append_data(alloc, format, area, colors, encoding, out) {
+        out.truncate(start);
+        return Err(fault);
+    }
+    Ok(())
+}
+
+/// Appends a FramebufferUpdate of one rectangle (RFC 6143, section 7.6.1) that gives the places of its area
+/// these colours, by rows from the top and each from the left, in a format to whose maxima they keep.
+/// It is written in the encoding that is asked for where that makes it shorter than Raw, and else in
+/// Raw: so it never has more bytes than 16 and a pixel for each place. Want of memory leaves `out` as it
+/// was.
+pub fn write_update(
+    alloc: Global,
+    format: &PixelFormat,
+    area: Area,
+    colors: &[Color],
+    encoding: Encoding,
+    out: &mut Vec<u8>,
+) -> Result<(), NoMemory>
+    requires size { length colors.now ≡ area.h * area.w }
+    requires within { All (IsWithin format.now) colors.now }
+    ensures ok { OnOk result (Appends (IsUpdateFor format.now area colors.now encoding) out.old.items out.new.items) }
+    ensures err { OnErr result (out.new.items ≡ out.old.items) }
+{
+    if encoding != Encoding::Raw {
+        let kept = out.len();
+        append_update(alloc, format, area, colors, encoding, out)?;
+        if out.len() - kept < HEAD_SIZE + colors.len() * format.bytes() {
+            return Ok(());
+        }
+        out.truncate(kept);
+    }
+    append_update(alloc, format, area, colors, Encoding::Raw, out)
+}
