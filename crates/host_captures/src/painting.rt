@@ -93,7 +93,8 @@ fn print_after(rt: &HostRuntime, screen: &Screen, count: usize, last: bool) -> i
 pub(crate) fn print_screens(rt: &HostRuntime, messages: &[HostMessage]) -> io::Result<()> {
     let mut screen = Screen::black(rt.alloc(), WIDTH, HEIGHT)?;
     for (number, message) in messages.iter().enumerate() {
-        if message.size() != screen.size() {
+        let (width, height) = message.size();
+        if width != WIDTH || height != HEIGHT {
             return println!(rt; "a message for another screen");
         }
         screen.paint(message);
