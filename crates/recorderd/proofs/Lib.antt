@@ -1,3 +1,2 @@
 pub mod Books
-pub mod Entries
-pub mod Readings
+pub mod Shown

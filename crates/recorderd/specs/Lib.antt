@@ -1,4 +1,2 @@
 pub mod Book
-pub mod Entry
-pub mod Reading
 pub mod Screens

@@ -1,7 +1,7 @@
 -- The messages that a screen shows.
 use Rattle.std.specs.Prelude.{List, map}
 use Rattle.rfb_wire.specs.Host.{Host}
-use Rattle.recorderd.specs.declared.entry.Stamped.{Stamped}
+use Rattle.key_index.specs.declared.entry.Stamped.{Stamped}
 
 abbrev pub message_of : Stamped → Host
 message_of s = s.message

@@ -2,11 +2,12 @@
 
 use crate::answer::Answer;
 use crate::book::PlainBook;
-use crate::reading::BookFault;
+use crate::fuse::Fuse;
 use crate::steps;
-use disk::{FailingDisk, FusedDisk, MemoryDisk, Switch};
-use drill_script::{Fill, Line, LineFault, read_line};
+use disk::{Fill, FusedDisk, MemoryDisk};
+use drill_script::{Line, LineFault, read_line};
 use gated_journal::{Header, Refused};
+use key_index::IndexFault;
 use std::alloc::{AllocError, Global};
 use std::io::{BufRead, BufReader, Read, Write};
 use std::{io, mem};
@@ -20,25 +21,17 @@ enum Bench {
 }
 
 /// A book that is opened again, or why it isn't.
-type Reopened = Result<PlainBook<FusedDisk>, Refused<FusedDisk, BookFault>>;
+type Reopened = Result<PlainBook<FusedDisk>, Refused<FusedDisk, IndexFault>>;
 
 /// The state of a run between two lines.
 #[derive(Drop)]
 struct Drill {
     alloc: Global,
-    switch: Switch,
-    /// What the last `stop` leaves.
-    stop: Option<Fill>,
+    fuse: Fuse,
     bench: Bench,
 }
 
 impl Drill {
-    // A disk that works until the switch is armed.
-    fn armed(&self, disk: MemoryDisk) -> Result<FusedDisk, AllocError> {
-        let failing = FailingDisk::new(disk, self.switch.clone()?);
-        Ok(FusedDisk::new(failing, self.switch.clone()?))
-    }
-
     // A second `new` begins again with an empty disk.
     fn start(
         &mut self,
@@ -47,58 +40,68 @@ impl Drill {
         key_interval: u16,
         name: &[u8],
     ) -> Result<Answer, AllocError> {
-        self.switch.disarm();
-        self.stop = None;
-        let disk = self.armed(MemoryDisk::new(self.alloc))?;
-        let header = match Header::new(self.alloc, width, height, key_interval, name) {
-            Ok(header) => header,
+        self.fuse.disarm();
+        let disk = self.fuse.on(MemoryDisk::new(self.alloc))?;
+        match Header::new(self.alloc, width, height, key_interval, name) {
+            Ok(header) => Ok(self.create(disk, header)),
             Err(fault) => {
                 self.bench = Bench::Disk(disk);
-                return Ok(Answer::HeaderRefused(fault.number()));
+                Ok(Answer::HeaderRefused(fault.number()))
             }
-        };
+        }
+    }
+
+    fn create(&mut self, disk: FusedDisk, header: Header) -> Answer {
+        let (width, height) = header.size();
+        let key_interval = header.key_interval();
         match PlainBook::create(self.alloc, disk, header) {
             Ok(book) => {
                 self.bench = Bench::Book(book);
-                Ok(Answer::Recording {
+                Answer::Recording {
                     width,
                     height,
                     key_interval,
-                })
+                }
             }
             Err(refused) => {
                 self.bench = Bench::Disk(refused.disk);
-                Ok(Answer::CreateRefused(refused.fault.number()))
+                Answer::CreateRefused(refused.fault.number())
             }
         }
     }
 
     // Ends the book, and opens what its disk holds: after a stop, what the stop leaves.
     fn open(&mut self) -> Result<Answer, AllocError> {
-        self.switch.disarm();
-        let stop = self.stop.take();
-        let opened = match (mem::replace(&mut self.bench, Bench::Empty), stop) {
-            (Bench::Empty, _) => return Ok(Answer::Bad),
-            (Bench::Disk(disk), None) => PlainBook::open(self.alloc, disk),
-            (Bench::Book(book), None) => book.reopened(),
-            (Bench::Disk(disk), Some(fill)) => self.recovered(disk, fill)?,
-            (Bench::Book(book), Some(fill)) => self.recovered(book.close(), fill)?,
+        let left = self.fuse.disarm();
+        let reopened = match mem::replace(&mut self.bench, Bench::Empty) {
+            Bench::Empty => return Ok(Answer::Bad),
+            Bench::Disk(disk) => self.opened(disk, left)?,
+            Bench::Book(book) => self.reopened(book, left)?,
         };
-        Ok(self.keep(opened))
+        Ok(self.keep(reopened))
     }
 
-    // Opens what a stopped disk leaves.
-    fn recovered(&self, disk: FusedDisk, fill: Fill) -> Result<Reopened, AllocError> {
-        let left = match fill {
-            Fill::Held => disk::Fill::Held,
-            Fill::Now => disk::Fill::Now,
-            Fill::Byte(byte) => disk::Fill::Byte(byte),
-        };
-        Ok(PlainBook::open(self.alloc, self.armed(disk.left(left))?))
+    fn reopened(
+        &self,
+        book: PlainBook<FusedDisk>,
+        left: Option<Fill>,
+    ) -> Result<Reopened, AllocError> {
+        match left {
+            None => Ok(book.reopened()),
+            Some(_) => self.opened(book.close(), left),
+        }
     }
 
-    fn keep(&mut self, opened: Reopened) -> Answer {
-        match opened {
+    fn opened(&self, disk: FusedDisk, left: Option<Fill>) -> Result<Reopened, AllocError> {
+        let disk = match left {
+            None => disk,
+            Some(fill) => self.fuse.on(disk.left(fill))?,
+        };
+        Ok(PlainBook::open(self.alloc, disk))
+    }
+
+    fn keep(&mut self, reopened: Reopened) -> Answer {
+        match reopened {
             Ok(book) => {
                 let committed = book.committed();
                 self.bench = Bench::Book(book);
@@ -111,73 +114,70 @@ impl Drill {
         }
     }
 
-    fn answer(&mut self, line: Line) -> Result<Answer, AllocError> {
-        let alloc = self.alloc;
-        let answer = match (line, &mut self.bench) {
-            (
-                Line::New {
-                    width,
-                    height,
-                    key_interval,
-                    name,
-                },
-                _,
-            ) => self.start(width, height, key_interval, &name)?,
-            (Line::Open, _) => self.open()?,
-            (Line::Host { time, bytes }, Bench::Book(book)) => {
-                steps::host(alloc, book, time, &bytes)
-            }
-            (Line::Take, Bench::Book(book)) => steps::take(book),
-            (Line::Body, Bench::Book(book)) => steps::body(book),
-            (Line::Gate, Bench::Book(book)) => steps::gate(book),
-            (Line::Pixel { count, x, y }, Bench::Book(book)) => steps::pixel(book, count, x, y),
-            (Line::Fail { calls }, Bench::Book(_)) => {
-                self.switch.fail_after(calls);
-                Answer::Set
-            }
-            (Line::Stop { calls, fill }, Bench::Book(_)) => {
-                self.switch.stop_after(calls);
-                self.stop = Some(fill);
-                Answer::Set
-            }
-            (_, Bench::Empty | Bench::Disk(_)) => Answer::Bad,
-        };
-        Ok(answer)
+    // A line that only a book answers.
+    fn step(&mut self, line: Line) -> Answer {
+        match &mut self.bench {
+            Bench::Empty | Bench::Disk(_) => Answer::Bad,
+            Bench::Book(book) => steps::answer(self.alloc, book, &mut self.fuse, line),
+        }
     }
+
+    fn answer(&mut self, line: Line) -> Result<Answer, AllocError> {
+        match line {
+            Line::New {
+                width,
+                height,
+                key_interval,
+                name,
+            } => self.start(width, height, key_interval, &name),
+            Line::Open => self.open(),
+            line => Ok(self.step(line)),
+        }
+    }
+}
+
+// Runs a line, and writes its answer: whether it wasn't a bad one. An empty line is passed over.
+fn run_line<O: Write>(
+    drill: &mut Drill,
+    text: &[u8],
+    number: u64,
+    out: &mut O,
+) -> io::Result<bool> {
+    let text = text.strip_suffix(b"\n").unwrap_or(text);
+    if text.is_empty() {
+        return Ok(true);
+    }
+    let answer = match read_line(drill.alloc, text) {
+        Ok(line) => drill.answer(line)?,
+        Err(LineFault::Bad) => Answer::Bad,
+        Err(LineFault::NoMemory) => return Err(AllocError.into()),
+    };
+    if matches!(answer, Answer::Bad) {
+        writeln!(out, "line {number}: bad")?;
+        return Ok(false);
+    }
+    writeln!(out, "{answer}")?;
+    Ok(true)
 }
 
 /// Runs a script, and writes an answer for each line that isn't empty. A bad line ends the run: the answer is whether
 /// there was none. An error is of the input, the output, or of memory.
 pub fn run<I: Read + Drop, O: Write>(alloc: Global, input: I, out: &mut O) -> io::Result<bool> {
-    let mut input = BufReader::new(alloc, input)?;
     let mut drill = Drill {
         alloc,
-        switch: Switch::new(alloc)?,
-        stop: None,
+        fuse: Fuse::new(alloc)?,
         bench: Bench::Empty,
     };
+    let mut input = BufReader::new(alloc, input)?;
     let mut text = Vec::new(alloc);
     for number in 1..u64::MAX {
         text.clear();
         if input.read_until(b'\n', &mut text)? == 0 {
             break;
         }
-        if text.last() == Some(&b'\n') {
-            text.pop();
-        }
-        if text.is_empty() {
-            continue;
-        }
-        let answer = match read_line(alloc, &text) {
-            Ok(line) => drill.answer(line)?,
-            Err(LineFault::Bad) => Answer::Bad,
-            Err(LineFault::NoMemory) => return Err(AllocError.into()),
-        };
-        if matches!(answer, Answer::Bad) {
-            writeln!(out, "line {number}: bad")?;
+        if !run_line(&mut drill, &text, number, out)? {
             return Ok(false);
         }
-        writeln!(out, "{answer}")?;
     }
     Ok(true)
 }

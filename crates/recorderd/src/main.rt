@@ -5,9 +5,8 @@ mod answer;
 mod book;
 mod command;
 mod drill;
-mod entry;
+mod fuse;
 mod phase;
-mod reading;
 mod refusal;
 mod screens;
 mod steps;
@@ -30,5 +29,7 @@ fn main(rt: HostRuntime) -> ExitCode {
     }
 }
 
+#[cfg(test)]
+mod crash_tests;
 #[cfg(test)]
 mod tests;

@@ -2,12 +2,39 @@
 
 use crate::answer::Answer;
 use crate::book::PlainBook;
+use crate::fuse::Fuse;
 use disk::FusedDisk;
+use drill_script::Line;
 use rfb_wire::HostMessage;
 use std::alloc::Global;
 
-/// `host T HEX`.
-pub fn host(alloc: Global, book: &mut PlainBook<FusedDisk>, time: u32, bytes: &[u8]) -> Answer {
+/// The answer to a line of a book. `new` and `open` are none.
+pub fn answer(
+    alloc: Global,
+    book: &mut PlainBook<FusedDisk>,
+    fuse: &mut Fuse,
+    line: Line,
+) -> Answer {
+    match line {
+        Line::New { .. } | Line::Open => Answer::Bad,
+        Line::Host { time, bytes } => host(alloc, book, time, &bytes),
+        Line::Take => take(book),
+        Line::Body => body(book),
+        Line::Gate => gate(book),
+        Line::Pixel { count, x, y } => pixel(book, count, x, y),
+        Line::Fail { calls } => {
+            fuse.fail_after(calls);
+            Answer::Set
+        }
+        Line::Stop { calls, fill } => {
+            fuse.stop_after(calls, fill);
+            Answer::Set
+        }
+    }
+}
+
+// `host T HEX`.
+fn host(alloc: Global, book: &mut PlainBook<FusedDisk>, time: u32, bytes: &[u8]) -> Answer {
     let (width, height) = book.header().size();
     match HostMessage::from_bytes(alloc, width, height, bytes) {
         Ok(message) => match book.host(time, message) {
@@ -18,8 +45,8 @@ pub fn host(alloc: Global, book: &mut PlainBook<FusedDisk>, time: u32, bytes: &[
     }
 }
 
-/// `take`.
-pub fn take(book: &mut PlainBook<FusedDisk>) -> Answer {
+// `take`.
+fn take(book: &mut PlainBook<FusedDisk>) -> Answer {
     match book.take() {
         Ok(taken) => Answer::Taken {
             first: taken.first,
@@ -29,24 +56,24 @@ pub fn take(book: &mut PlainBook<FusedDisk>) -> Answer {
     }
 }
 
-/// `body`.
-pub fn body(book: &mut PlainBook<FusedDisk>) -> Answer {
+// `body`.
+fn body(book: &mut PlainBook<FusedDisk>) -> Answer {
     match book.body() {
         Ok(()) => Answer::Written,
         Err(refusal) => Answer::BodyRefused(refusal.number()),
     }
 }
 
-/// `gate`.
-pub fn gate(book: &mut PlainBook<FusedDisk>) -> Answer {
+// `gate`.
+fn gate(book: &mut PlainBook<FusedDisk>) -> Answer {
     match book.gate() {
         Ok(committed) => Answer::Committed(committed),
         Err(refusal) => Answer::GateRefused(refusal.number()),
     }
 }
 
-/// `pixel N X Y`: a place outside the screen is a bad line, whatever N is.
-pub fn pixel(book: &PlainBook<FusedDisk>, count: u64, x: u16, y: u16) -> Answer {
+// `pixel N X Y`: a place outside the screen is a bad line, whatever N is.
+fn pixel(book: &PlainBook<FusedDisk>, count: u64, x: u16, y: u16) -> Answer {
     let (width, height) = book.header().size();
     if x >= width || y >= height {
         return Answer::Bad;

@@ -1,11 +1,13 @@
+use crate::answer::Answer;
 use crate::book::{PlainBook, Taken};
 use crate::command::command;
 use crate::refusal::{FlushRefusal, PixelRefusal, TakeRefusal};
-use disk::MemoryDisk;
-use gated_journal::Header;
+use disk::{FailingDisk, Fill, FusedDisk, MemoryDisk, Switch};
+use gated_journal::{Header, OpenFault};
+use key_index::IndexFault;
 use pixel_format::Color;
 use rfb_wire::HostMessage;
-use std::alloc::Global;
+use std::alloc::{AllocError, Global};
 use std::io;
 use std::io::{Read, Write};
 use std::test::Fail;
@@ -242,13 +244,87 @@ fn streams_that_fail(rt: HostRuntime) -> Result<(), Fail> {
     Ok(())
 }
 
+// A disk that stops when the switch says so.
+fn fused(alloc: Global, switch: &Switch) -> Result<FusedDisk, AllocError> {
+    let failing = FailingDisk::new(MemoryDisk::new(alloc), switch.clone()?);
+    Ok(FusedDisk::new(failing, switch.clone()?))
+}
+
+#[test]
+fn a_new_book_leaves_these_bytes(rt: HostRuntime) -> Result<(), Fail> {
+    let alloc = rt.alloc();
+    let header = Header::new(alloc, 1, 1, 4, b"x")?;
+    let book = PlainBook::create(alloc, MemoryDisk::new(alloc), header).map_err(|r| r.fault)?;
+    assert_eq!(rt;
+        book.close().bytes(),
+        b"ORFBREC1\0\x01\0\x01\0\x04\0\x01xC".as_slice()
+    );
+    Ok(())
+}
+
+#[test]
+fn a_stop_in_a_write_leaves_these_bytes(rt: HostRuntime) -> Result<(), Fail> {
+    let alloc = rt.alloc();
+    let switch = Switch::new(alloc)?;
+    let header = Header::new(alloc, 1, 1, 4, b"x")?;
+    let mut book = PlainBook::create(alloc, fused(alloc, &switch)?, header).map_err(|r| r.fault)?;
+    let red = HostMessage::from_bytes(alloc, 1, 1, &RED)?;
+    assert_eq!(rt; book.host(0, red).ok(), Some(0));
+    assert_eq!(rt; book.take(), Ok(Taken { first: 0, count: 1 }));
+    switch.stop_after(0);
+    assert_eq!(rt; book.body(), Err(FlushRefusal::Device));
+    let left = book.close().left(Fill::Byte(b'O'));
+    let mut expected = Vec::new(alloc);
+    expected.extend_from_slice(b"ORFBREC1\0\x01\0\x01\0\x04\0\x01xC")?;
+    for _ in 18..54 {
+        expected.push(b'O')?;
+    }
+    assert_eq!(rt; left.bytes(), expected.as_slice());
+    // Recording goes on over the torn bytes, and the rest of them stands behind the last gate.
+    let mut book = PlainBook::open(alloc, left).map_err(|r| r.fault)?;
+    let bell = HostMessage::from_bytes(alloc, 1, 1, &[2])?;
+    assert_eq!(rt; book.host(0, bell).ok(), Some(0));
+    assert_eq!(rt; book.take(), Ok(Taken { first: 0, count: 1 }));
+    assert_eq!(rt; book.body(), Ok(()));
+    assert_eq!(rt; book.gate(), Ok(1));
+    let disk = book.reopened().map_err(|r| r.fault)?.close();
+    expected.truncate(17);
+    expected.extend_from_slice(b"O\0\0\0\x0a\0\x01\0\0\0\0\0\0\0\0\x01\x02C")?;
+    for _ in 35..54 {
+        expected.push(b'O')?;
+    }
+    assert_eq!(rt; disk.bytes(), expected.as_slice());
+    Ok(())
+}
+
+#[test]
+fn faults_of_an_opening_are_printed(rt: HostRuntime) -> Result<(), Fail> {
+    let alloc = rt.alloc();
+    for (fault, words) in [
+        (IndexFault::BadEntry(7), "open refused index 1 block 7"),
+        (IndexFault::BadMessage(0), "open refused index 2 block 0"),
+        (IndexFault::TimesFall(3), "open refused index 4 block 3"),
+        (IndexFault::NoMemory, "open refused index 5"),
+        (
+            IndexFault::Journal(OpenFault::NotARecording),
+            "open refused journal 1",
+        ),
+        (
+            IndexFault::Journal(OpenFault::Damaged(2)),
+            "open refused journal 2 block 2",
+        ),
+    ] {
+        let answer = Answer::OpenRefused(fault);
+        assert_eq!(rt; format!(in alloc; "{answer}")?.as_str(), words);
+    }
+    Ok(())
+}
+
 #[test]
 fn a_closed_book_leaves_these_bytes(rt: HostRuntime) -> Result<(), Fail> {
     let alloc = rt.alloc();
     let header = Header::new(alloc, 1, 1, 4, b"x")?;
-    let mut book = PlainBook::create(alloc, MemoryDisk::new(alloc), header)
-        .ok()
-        .ok_or("created")?;
+    let mut book = PlainBook::create(alloc, MemoryDisk::new(alloc), header).map_err(|r| r.fault)?;
     assert_eq!(rt; book.take(), Err(TakeRefusal::Nothing));
     let message = HostMessage::from_bytes(alloc, 1, 1, &RED)?;
     assert_eq!(rt; message.size(), (1, 1));
