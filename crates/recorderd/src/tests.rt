@@ -2,7 +2,7 @@ use crate::answer::Answer;
 use crate::book::{PlainBook, Taken};
 use crate::command::command;
 use crate::refusal::{FlushRefusal, PixelRefusal, TakeRefusal};
-use disk::{FailingDisk, Fill, FusedDisk, MemoryDisk, Switch};
+use disk::{Disk, FailingDisk, Fill, FusedDisk, MemoryDisk, Switch};
 use gated_journal::{Header, OpenFault};
 use key_index::IndexFault;
 use pixel_format::Color;
@@ -250,13 +250,47 @@ fn fused(alloc: Global, switch: &Switch) -> Result<FusedDisk, AllocError> {
     Ok(FusedDisk::new(failing, switch.clone()?))
 }
 
+fn new_book<D: Disk + Drop>(alloc: Global, disk: D) -> Result<PlainBook<D>, Fail> {
+    let header = Header::new(alloc, 1, 1, 4, b"x")?;
+    Ok(PlainBook::create(alloc, disk, header).map_err(|refused| refused.fault)?)
+}
+
+// Accepts a message, and takes it.
+fn accept<D: Disk>(alloc: Global, book: &mut PlainBook<D>, bytes: &[u8]) -> Result<(), Fail> {
+    let (width, height) = book.header().size();
+    book.host(0, HostMessage::from_bytes(alloc, width, height, bytes)?)?;
+    book.take()?;
+    Ok(())
+}
+
+// What is left where the disk stops in the write of a first body, with `O`, an open gate, at each place of that write.
+fn stopped_in_a_body(alloc: Global) -> Result<MemoryDisk, Fail> {
+    let switch = Switch::new(alloc)?;
+    let mut book = new_book(alloc, fused(alloc, &switch)?)?;
+    accept(alloc, &mut book, &RED)?;
+    switch.stop_after(0);
+    match book.body() {
+        Err(FlushRefusal::Device) => Ok(book.close().left(Fill::Byte(b'O'))),
+        _ => Err("the disk works".into()),
+    }
+}
+
+// The disk with one message more, after it was opened, and closed and opened again.
+fn with_a_bell(alloc: Global, disk: MemoryDisk) -> Result<MemoryDisk, Fail> {
+    let mut book = PlainBook::open(alloc, disk).map_err(|refused| refused.fault)?;
+    accept(alloc, &mut book, &[2])?;
+    book.body()?;
+    book.gate()?;
+    let book = book.reopened().map_err(|refused| refused.fault)?;
+    Ok(book.close())
+}
+
 #[test]
 fn a_new_book_leaves_these_bytes(rt: HostRuntime) -> Result<(), Fail> {
     let alloc = rt.alloc();
-    let header = Header::new(alloc, 1, 1, 4, b"x")?;
-    let book = PlainBook::create(alloc, MemoryDisk::new(alloc), header).map_err(|r| r.fault)?;
+    let disk = new_book(alloc, MemoryDisk::new(alloc))?.close();
     assert_eq!(rt;
-        book.close().bytes(),
+        disk.bytes(),
         b"ORFBREC1\0\x01\0\x01\0\x04\0\x01xC".as_slice()
     );
     Ok(())
@@ -265,35 +299,17 @@ fn a_new_book_leaves_these_bytes(rt: HostRuntime) -> Result<(), Fail> {
 #[test]
 fn a_stop_in_a_write_leaves_these_bytes(rt: HostRuntime) -> Result<(), Fail> {
     let alloc = rt.alloc();
-    let switch = Switch::new(alloc)?;
-    let header = Header::new(alloc, 1, 1, 4, b"x")?;
-    let mut book = PlainBook::create(alloc, fused(alloc, &switch)?, header).map_err(|r| r.fault)?;
-    let red = HostMessage::from_bytes(alloc, 1, 1, &RED)?;
-    assert_eq!(rt; book.host(0, red).ok(), Some(0));
-    assert_eq!(rt; book.take(), Ok(Taken { first: 0, count: 1 }));
-    switch.stop_after(0);
-    assert_eq!(rt; book.body(), Err(FlushRefusal::Device));
-    let left = book.close().left(Fill::Byte(b'O'));
-    let mut expected = Vec::new(alloc);
-    expected.extend_from_slice(b"ORFBREC1\0\x01\0\x01\0\x04\0\x01xC")?;
-    for _ in 18..54 {
-        expected.push(b'O')?;
-    }
-    assert_eq!(rt; left.bytes(), expected.as_slice());
+    let left = stopped_in_a_body(alloc)?;
+    assert_eq!(rt;
+        left.bytes(),
+        b"ORFBREC1\0\x01\0\x01\0\x04\0\x01xCOOOOOOOOOOOOOOOOOOOOOOOOOOOOOOOOOOOO".as_slice()
+    );
     // Recording goes on over the torn bytes, and the rest of them stands behind the last gate.
-    let mut book = PlainBook::open(alloc, left).map_err(|r| r.fault)?;
-    let bell = HostMessage::from_bytes(alloc, 1, 1, &[2])?;
-    assert_eq!(rt; book.host(0, bell).ok(), Some(0));
-    assert_eq!(rt; book.take(), Ok(Taken { first: 0, count: 1 }));
-    assert_eq!(rt; book.body(), Ok(()));
-    assert_eq!(rt; book.gate(), Ok(1));
-    let disk = book.reopened().map_err(|r| r.fault)?.close();
-    expected.truncate(17);
-    expected.extend_from_slice(b"O\0\0\0\x0a\0\x01\0\0\0\0\0\0\0\0\x01\x02C")?;
-    for _ in 35..54 {
-        expected.push(b'O')?;
-    }
-    assert_eq!(rt; disk.bytes(), expected.as_slice());
+    let disk = with_a_bell(alloc, left)?;
+    assert_eq!(rt;
+        disk.bytes(),
+        b"ORFBREC1\0\x01\0\x01\0\x04\0\x01xO\0\0\0\x0a\0\x01\0\0\0\0\0\0\0\0\x01\x02COOOOOOOOOOOOOOOOOOO".as_slice()
+    );
     Ok(())
 }
 
