@@ -106,6 +106,52 @@ fn answers(alloc: Global, script: &str) -> Result<String, Fail> {
 }
 
 #[test]
+fn each_encoding_is_painted(rt: HostRuntime) -> Result<(), Fail> {
+    let alloc = rt.alloc();
+    let commit = "take\nbody\ngate\n";
+    let raw = "host 0 0000 0001 0000 0000 0003 0001 00000000 0000ff00 00ff0000 ff000000\n";
+    let copy = "host 0 0000 0001 0001 0000 0002 0001 00000001 0000 0000\n";
+    let rre =
+        "host 0 0000 0001 0000 0000 0004 0004 00000002 00000003 00000000 0000ff00 0000000000030003 00ff0000 0002000200020002 ff000000 0001000000000004\n";
+    let hextile = "host 0 0000 0001 0000 0000 0011 0011 00000005 02 0000ff00 00 02 ff000000 00\n";
+    let copies = format!(in alloc;
+        "new 3 1 2 r\n{raw}{commit}{copy}{commit}{copy}{commit}open\npixel 2 1 0\npixel 2 2 0\npixel 3 2 0\n"
+    )?;
+    let parts = format!(in alloc;
+        "new 4 4 4 x\n{rre}{commit}pixel 1 1 1\npixel 1 2 2\npixel 1 3 3\npixel 1 0 3\n"
+    )?;
+    let tiles = format!(in alloc;
+        "new 17 17 4 x\n{hextile}{commit}pixel 1 0 0\npixel 1 16 0\npixel 1 0 16\npixel 1 16 16\n"
+    )?;
+    for (script, expected) in [
+        (
+            copies.as_str(),
+            "recording 3 1 2\naccepted 0\ntaken 0 1\nwritten\ncommitted 1\naccepted 1\ntaken 1 1\nwritten\ncommitted 2\naccepted 2\ntaken 2 1\nwritten\ncommitted 3\nopened 3\nff0000\n00ff00\nff0000\n",
+        ),
+        (
+            parts.as_str(),
+            "recording 4 4 4\naccepted 0\ntaken 0 1\nwritten\ncommitted 1\nff0000\n00ff00\n00ff00\n000000\n",
+        ),
+        (
+            tiles.as_str(),
+            "recording 17 17 4\naccepted 0\ntaken 0 1\nwritten\ncommitted 1\nff0000\nff0000\n0000ff\n0000ff\n",
+        ),
+        (
+            "new 1 1 4 x\nhost 0 0000 0001 0000 0000 0001 0001 00000005 00\nhost 0 0000 0001 0000 0000 0001 0001 00000001 0001 0000\n",
+            "recording 1 1 4\nbytes refused 6\nbytes refused 7\n",
+        ),
+        (
+            "new 1 1 4 x\nhost 0 0000 0001 0000 0000 0001 0001 00000002 00000001 00000000 01010100 0001 0000 0001 0001\n",
+            "recording 1 1 4\nbytes refused 5\n",
+        ),
+    ] {
+        let (_, text) = drilled(alloc, script)?;
+        assert_eq!(rt; text.as_str(), expected);
+    }
+    Ok(())
+}
+
+#[test]
 fn a_disk_that_fails_or_stops(rt: HostRuntime) -> Result<(), Fail> {
     let alloc = rt.alloc();
     let red = RED_HEX;
