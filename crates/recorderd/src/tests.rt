@@ -382,6 +382,12 @@ fn faults_of_an_opening_are_printed(rt: HostRuntime) -> Result<(), Fail> {
     Ok(())
 }
 
+// The colour of the last place after so many messages.
+fn last_place(book: &PlainBook<MemoryDisk>, count: u64) -> Result<Color, PixelRefusal> {
+    let (width, height) = book.header().size();
+    book.pixel(count, width - 1, height - 1)
+}
+
 #[test]
 fn a_closed_book_leaves_these_bytes(rt: HostRuntime) -> Result<(), Fail> {
     let alloc = rt.alloc();
@@ -397,8 +403,8 @@ fn a_closed_book_leaves_these_bytes(rt: HostRuntime) -> Result<(), Fail> {
     assert_eq!(rt; book.gate(), Err(FlushRefusal::OutOfTurn));
     assert_eq!(rt; book.body(), Ok(()));
     assert_eq!(rt; book.gate(), Ok(1));
-    assert_eq!(rt; book.pixel(1, 0, 0), Ok(Color { r: 255, g: 0, b: 0 }));
-    assert_eq!(rt; book.pixel(2, 0, 0), Err(PixelRefusal::NotCommitted));
+    assert_eq!(rt; last_place(&book, 1), Ok(Color { r: 255, g: 0, b: 0 }));
+    assert_eq!(rt; last_place(&book, 2), Err(PixelRefusal::NotCommitted));
     let mut expected = Vec::new(alloc);
     expected.extend_from_slice(b"ORFBREC1\0\x01\0\x01\0\x04\0\x01x")?;
     expected.extend_from_slice(b"O\0\0\0\x1d\0\x01\0\0\0\0\0\0\0\0\x14")?;
