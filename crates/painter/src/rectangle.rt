@@ -1,6 +1,7 @@
 //! Painting areas of places that are kept by rows.
 
 ghost use Rattle.std.specs.Prelude.{◌≡◌, ◌+◌, ◌-◌, ◌*◌, ◌<◌, ◌≤◌, ℕ, length, if◌then◌else◌};
+ghost use Rattle.std.specs.List.{CopiedTo, SameBelow, SameFrom};
 ghost use Rattle.painter.specs.Pixels.{color_in, color_of};
 ghost use Rattle.painter.specs.Picture.{is_in, raw_picture, copied_picture};
 
@@ -39,6 +40,26 @@ pub(crate) fn fill_area(pixels: &mut [Pixel], width: u16, area: Area, pixel: Pix
     }
 }
 
+// Copies so many places to others, which they may overlap. Where they don't, the copy is one of memory.
+fn copy_row(pixels: &mut [Pixel], from: usize, to: usize, count: usize)
+    requires source { from + count ≤ length pixels.old }
+    requires destination { to + count ≤ length pixels.old }
+    ensures length { length pixels.new ≡ length pixels.old }
+    ensures copied { CopiedTo pixels.old pixels.new from to count }
+    ensures below { SameBelow pixels.old pixels.new to }
+    ensures behind { SameFrom pixels.old pixels.new (to + count) }
+{
+    if from + count <= to {
+        let (front, back) = pixels.split_at_mut(to);
+        back[..count].copy_from_slice(&front[from..from + count]);
+    } else if to + count <= from {
+        let (front, back) = pixels.split_at_mut(from);
+        front[to..to + count].copy_from_slice(&back[..count]);
+    } else {
+        pixels.copy_within(from..from + count, to);
+    }
+}
+
 // Copies an area to one that stands no lower, from the top row to the bottom.
 fn copy_up(pixels: &mut [Pixel], width: u16, source: Area, area: Area)
     requires columns { area.x + area.w ≤ width }
@@ -54,7 +75,7 @@ fn copy_up(pixels: &mut [Pixel], width: u16, source: Area, area: Area)
     let (from_left, from_top) = (usize::from(source.x), usize::from(source.y));
     for row in 0..usize::from(area.h) {
         let start = (from_top + row) * width + from_left;
-        pixels.copy_within(start..start + w, (top + row) * width + left);
+        copy_row(pixels, start, (top + row) * width + left, w);
     }
 }
 
@@ -75,7 +96,7 @@ fn copy_down(pixels: &mut [Pixel], width: u16, source: Area, area: Area)
     while row > 0 {
         row -= 1;
         let start = (from_top + row) * width + from_left;
-        pixels.copy_within(start..start + w, (top + row) * width + left);
+        copy_row(pixels, start, (top + row) * width + left, w);
     }
 }
 

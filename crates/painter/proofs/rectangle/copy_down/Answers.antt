@@ -1,7 +1,7 @@
 use Rattle.std.proofs.Common.{◌≡◌, ℕ, ◌+◌, ◌-◌, ◌*◌, ◌<◌, ◌≤◌, ◌∙◌, arith}
 use Rattle.painter.specs.Picture.{copied_picture}
 use Rattle.painter.specs.Pixels.{color_in}
-use Rattle.painter.proofs.Rows.{rows_from, row_copied, row_above, range_len}
+use Rattle.painter.proofs.Rows.{rows_from, row_copied, row_above}
 use Rattle.painter.proofs.rectangle.copy_down.Goals as goal
 
 pub loop-row-preserved : goal.loop-row-preserved
@@ -11,16 +11,17 @@ loop-row-preserved c =
     let width = c.args.width in
     let row = c.loop-row.row - 1 in
     let initial = color_in c.args.pixels.now width in
-    let told = rw (c.from-top.ensures, c.from-left.ensures, c.from-from_top.ensures, c.from-from_left.ensures, c.from-w.ensures, c.from-width.ensures, range_len ((source.y + row) * width + source.x) area.w)
-    at c.copy_within.ensures.by_index in
+    let copied = rw (c.from-top.ensures, c.from-left.ensures, c.from-from_top.ensures, c.from-from_left.ensures, c.from-w.ensures, c.from-width.ensures) at c.copy_row.ensures.copied in
+    let below = rw (c.from-top.ensures, c.from-left.ensures, c.from-width.ensures) at c.copy_row.ensures.below in
+    let behind = rw (c.from-top.ensures, c.from-left.ensures, c.from-w.ensures, c.from-width.ensures) at c.copy_row.ensures.behind in
     let next : c.loop-row.row ≡ row + 1 = omega (arith, c.loop-row-test.true) in
     let so_far = rw (c.from-width.ensures, next) at c.loop-row.invariant.copied in
     let within : row < area.h = omega (arith, next, c.loop-row.invariant.some) in
-    let writes = row_copied c.loop-row.pixels c.copy_within.new.self width source area (rows_from area (row + 1)) initial row c.requires.columns c.requires.source_columns
-    (λ k place. let top = place.top in omega (arith, c.requires.below)) so_far told.0 told.1 told.2 in
+    let writes = row_copied c.loop-row.pixels c.copy_row.new.pixels width source area (rows_from area (row + 1)) initial row c.requires.columns c.requires.source_columns
+    (λ k place. let top = place.top in omega (arith, c.requires.below)) so_far copied below behind in
     record {
       some = omega (arith, c.loop-row.invariant.some);
-      len = c.copy_within.ensures.len ∙ c.loop-row.invariant.len;
+      len = c.copy_row.ensures.length ∙ c.loop-row.invariant.len;
       copied = rw c.from-width.ensures
-          (λ x y across. row_above c.loop-row.pixels c.copy_within.new.self width area (copied_picture source area initial) (initial x y) row x y writes across within (so_far x y across));
+          (λ x y across. row_above c.loop-row.pixels c.copy_row.new.pixels width area (copied_picture source area initial) (initial x y) row x y writes across within (so_far x y across));
     }
