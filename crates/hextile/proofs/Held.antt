@@ -1,5 +1,5 @@
 -- The colours with which tiles are painted are those of pixels, or black.
-use Rattle.std.proofs.Common.{◌≡◌, ℕ, ◌/◌, ◌%◌, ◌+◌, ◌^◌, ◌⊎◌, inl, inr, true, false, Bool, List, [], take, refl}
+use Rattle.std.proofs.Common.{◌≡◌, ℕ, inl, inr, true, false, Bool, List, [], take, refl}
 use Rattle.std.specs.Prelude.{unwrap_or}
 use Rattle.std.proofs.Math.Nat.{zero-div, zero-mod}
 use Rattle.pixel_format.specs.declared.Color.{Color}

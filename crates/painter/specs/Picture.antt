@@ -1,6 +1,5 @@
 -- What the messages of a host paint (RFC 6143, section 7.7).
 use Rattle.std.specs.Prelude.{ℕ, ◌+◌, ◌-◌, ◌*◌, Bool, List, [], ◌∷◌, take, drop, slice_range, if◌then◌else◌}
-use Rattle.pixel_format.specs.declared.Color.{Color}
 use Rattle.pixel_format.specs.Format.{host_format}
 use Rattle.pixel_format.specs.Pixel.{host_color}
 use Rattle.pixel_format.specs.Reading.{Reading, Got, More, Bad}

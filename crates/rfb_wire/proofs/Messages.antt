@@ -1,5 +1,5 @@
 -- What the grammar reads is a message, and each message is what it reads.
-use Rattle.std.proofs.Common.{◌≡◌, ℕ, zero, suc, ◌+◌, ◌*◌, ◌≤◌, ◌⊎◌, length-append, inl, inr, true, false, List, [], ◌∷◌, ◌++◌, ◌-◌, length, take, drop, nat_eq, slice_index, Option, Some, None, refl, sym, ap, ◌∙◌, subst, arith, append_assoc, eqb-true, eq-eqb}
+use Rattle.std.proofs.Common.{◌≡◌, ℕ, zero, suc, ◌+◌, ◌*◌, ◌≤◌, ◌⊎◌, length-append, inl, inr, true, false, List, [], ◌∷◌, ◌++◌, ◌-◌, length, take, drop, nat_eq, slice_index, Option, Some, None, refl, sym, ap, ◌∙◌, subst, arith, append_assoc, eqb-true}
 use Rattle.std.specs.Prelude.{if◌then◌else◌}
 use Rattle.std.proofs.lemmas.List.{length-drop, take_all, append-nil}
 use Rattle.pixel_format.specs.Reading.{Got, ◌>>=◌, field, guard, within}

@@ -1,4 +1,4 @@
-use Rattle.std.proofs.Common.{◌≡◌, ℕ, ◌+◌, ◌-◌, ◌*◌, ◌<◌, ◌≤◌, ◌∙◌, arith}
+use Rattle.std.proofs.Common.{◌≡◌, ◌+◌, ◌-◌, ◌<◌, ◌∙◌, arith}
 use Rattle.painter.specs.Picture.{copied_picture}
 use Rattle.painter.specs.Pixels.{color_in}
 use Rattle.painter.proofs.Rows.{rows_from, row_copied, row_above}

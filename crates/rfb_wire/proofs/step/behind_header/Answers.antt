@@ -1,4 +1,4 @@
-use Rattle.std.proofs.Common.{◌≡◌, ◌<◌, ◌+◌, true, false, length, Option, Some, None, sym, subst, ◌∙◌, ap}
+use Rattle.std.proofs.Common.{◌≡◌, ◌<◌, ◌+◌, true, false, length, Some, None, sym, subst, ◌∙◌, ap}
 use Rattle.std.proofs.lemmas.Int.{of_z-to_z}
 use Rattle.pixel_format.specs.Format.{Format, host_format}
 use Rattle.pixel_format.specs.Reading.{Bad}

@@ -1,9 +1,8 @@
 use Rattle.std.proofs.Common.{◌≡◌, ◌∙◌, ◌<◌, ◌≤◌, length, take, get_or, refl, sym, ap}
-use Rattle.std.specs.Prelude.{slice_range}
 use Rattle.std.proofs.lemmas.List.{take_all}
 use Rattle.pixel_format.specs.Canvas.{Picture, Agree}
 use Rattle.painter.specs.Framebuffer.{color_at}
-use Rattle.painter.specs.Picture.{painted_rectangle, painted_rectangles, painted_message}
+use Rattle.painter.specs.Picture.{painted_rectangle, painted_rectangles}
 use Rattle.painter.proofs.Order.{no_rectangle, no_rectangles}
 use Rattle.painter.proofs.Screens.{rectangle_more, shows_more}
 use Rattle.painter.proofs.screen.Screen.paint.Goals as goal
