@@ -13,7 +13,7 @@ paint_all-requires g c =
     let m = c.requires.modelled in
     let at = c.loop-b in
     let ms = c.messages-messages.result.now in
-    let each = each_of_block i.head.width i.head.height i.blocks at.b ms (c.messages-messages.ensures m) (c.known.ensures.messages m).each in
+    let each = each_of_block i.head.width i.head.height i.blocks at.b ms (c.messages-messages.ensures.messages m) (c.known.ensures.messages m).each in
     rw (at.invariant.width, at.invariant.height) (each_in_front i.head.width i.head.height ms c.min-shown.result each)
 
 pub loop-b-preserved : goal.loop-b-preserved
@@ -22,7 +22,7 @@ loop-b-preserved g c =
     let m = c.requires.modelled in
     let at = c.loop-b in
     let ms = c.messages-messages.result.now in
-    let here = c.messages-messages.ensures m in
+    let here = c.messages-messages.ensures.messages m in
     let before = messages_in (take at.b i.blocks) in
     let count : length (messages_in (take (at.b + 1) i.blocks)) ≡ length before + length ms = ap length (block_more i.blocks at.b ms here) ∙ length-append before ms in
     record {
