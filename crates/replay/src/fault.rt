@@ -1,0 +1,42 @@
+// Why no screen is answered, with the numbers that programs print.
+ghost use Rattle.std.specs.Prelude.{◌≡◌};
+ghost use Rattle.replay.specs.Faults.{replay_number};
+ghost use Rattle.replay.specs.declared.fault.ReplayFault.TheVariants.{NoMemory as ReplayNoMemory};
+
+use std::alloc::{AllocError, AllocFailed};
+use thiserror::Error;
+
+/// Why no screen is answered.
+#[derive(Clone, Copy, Debug, PartialEq, Eq, Error)]
+pub enum ReplayFault {
+    /// Fewer messages, or fewer blocks, are committed.
+    #[error("not committed")]
+    NotCommitted,
+    /// The device failed in this call.
+    #[error("the device failed")]
+    Device,
+    /// Want of memory.
+    #[error("out of memory")]
+    NoMemory,
+}
+
+impl ReplayFault {
+    /// The number that programs print.
+    pub fn number(self) -> u64
+        ensures { result ≡ replay_number self }
+    {
+        match self {
+            ReplayFault::NotCommitted => 1,
+            ReplayFault::Device => 2,
+            ReplayFault::NoMemory => 3,
+        }
+    }
+}
+
+impl From<AllocError> for ReplayFault {
+    ghost from_gives = { λ _ fault. fault ≡ ReplayNoMemory };
+
+    fn from(_: AllocError) -> ReplayFault {
+        ReplayFault::NoMemory
+    }
+}

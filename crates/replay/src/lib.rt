@@ -1,0 +1,13 @@
+//! Screens of a recording: after any number of its messages, and from any of its blocks on.
+#![tactic(auto)]
+
+mod fault;
+mod playing;
+mod screens;
+
+pub use fault::ReplayFault;
+pub use playing::{Replay, from_block};
+pub use screens::screen_at;
+
+#[cfg(test)]
+mod tests;
