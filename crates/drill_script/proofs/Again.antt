@@ -4,8 +4,8 @@ use Rattle.std.specs.Char.{is_ascii_digit, IsAsciiDigit}
 use Rattle.std.specs.List.{AllByRecursion, concat, list_all, list_any}
 use Rattle.std.proofs.lemmas.Bool.{lt-ltb, ne_eqb, or_from}
 use Rattle.std.proofs.lemmas.Bool.Decides.{nat_tests}
-use Rattle.drill_script.specs.Grammar.{Command, NewCommand, HostCommand, TakeCommand, BodyCommand, GateCommand, OpenCommand, PixelCommand, FailCommand, StopCommand, decimal, IsNumber, IsName, IsHex, IsFill, Says}
-use Rattle.drill_script.specs.Reading.{number_of, number_at, name_at, joined_at, hex_at, kind_by, new_at, host_at, pixel_at, fill_of, fill_at, fail_at, stop_at, command_at}
+use Rattle.drill_script.specs.Grammar.{Command, NewCommand, HostCommand, TakeCommand, BodyCommand, GateCommand, OpenCommand, PixelCommand, FailCommand, StopCommand, JoinCommand, NextCommand, SeekCommand, LeaveCommand, decimal, IsNumber, IsName, IsHex, IsFill, IsStart, Says}
+use Rattle.drill_script.specs.Reading.{number_of, number_at, name_at, joined_at, hex_at, kind_by, new_at, host_at, pixel_at, fill_of, fill_at, fail_at, stop_at, start_of, start_at, join_at, next_at, seek_at, leave_at, command_at}
 use Rattle.std.specs.Prelude.{codes}
 use Rattle.std.specs.Str.{bytes_eq}
 use Rattle.std.proofs.lemmas.Bool.{cases_Bool}
@@ -13,6 +13,8 @@ use Rattle.std.proofs.lemmas.Slice.Eq.{bytes_eq-Decides}
 use Rattle.hex.specs.Hex.{decode_sized}
 use Rattle.drill_script.specs.declared.line.Fill.{Fill}
 use Rattle.drill_script.specs.declared.line.Fill.TheVariants as fills
+use Rattle.drill_script.specs.declared.line.Start.{Start}
+use Rattle.drill_script.specs.declared.line.Start.TheVariants as starts
 use Rattle.drill_script.proofs.Taken.{AreSome}
 
 digits_pass : (word : List ℕ) → AllByRecursion IsAsciiDigit word → list_all is_ascii_digit word ≡ true
@@ -22,14 +24,17 @@ digits_pass (c ∷ cs) h =
     let digit : is_ascii_digit c ≡ true = grind (arith, nat_tests) in
     rw (digit, digits_pass cs h.1) refl
 
+number_written : (limit : ℕ) (word : List ℕ) (n : ℕ) → IsNumber limit word n → number_of limit word ≡ Some n
+number_written limit [] n h = absurd (h.some refl)
+number_written limit (c ∷ cs) n h =
+    let value = h.value in
+    let fits : decimal (c ∷ cs) < limit = omega arith in
+    rw (digits_pass (c ∷ cs) h.digits, lt-ltb (decimal (c ∷ cs)) limit fits, value) refl
+
 number_again : (limit : ℕ) (word : List ℕ) (n : ℕ) (rest : List (List ℕ)) → IsNumber limit word n → number_at limit (word ∷ rest) ≡ Some (n, rest)
 unfolding number_at
 number_again limit [] n rest h = absurd (h.some refl)
-number_again limit (c ∷ cs) n rest h =
-    let value = h.value in
-    let fits : decimal (c ∷ cs) < limit = omega arith in
-    let read : number_of limit (c ∷ cs) ≡ Some n = rw (digits_pass (c ∷ cs) h.digits, lt-ltb (decimal (c ∷ cs)) limit fits, value) refl in
-    rw read refl
+number_again limit (c ∷ cs) n rest h = rw (number_written limit (c ∷ cs) n h) refl
 
 newline_free : (word : List ℕ) → IsName word → list_any (λ byte. eqb byte 10) word ≡ false
 newline_free [] h = refl
@@ -97,6 +102,39 @@ stop_again : (n f : List ℕ) (calls : ℕ) (fill : Fill) → IsNumber (2 ^ 64) 
 unfolding stop_at
 stop_again n f calls fill a some b = rw (number_again (2 ^ 64) n calls (f ∷ []) a, fill_again f fill [] some b) refl
 
+-- `live` is no number
+not_live : (word : List ℕ) (count : ℕ) → IsNumber (2 ^ 64) word count → bytes_eq word (codes "live") ≡ false
+not_live word count h = elim (cases_Bool (bytes_eq word (codes "live"))) [
+  | inl is ↦ let digits = rw ((bytes_eq-Decides word (codes "live")).0 is) at h.digits in absurd (omega (arith, digits.0))
+  | inr other ↦ other
+]
+
+start_named : (word : List ℕ) (start : Start) → IsStart word start → start_of word ≡ Some start
+unfolding start_of
+start_named word starts.Live is = rw is refl
+start_named word (starts.At count) is = rw (not_live word count is, number_written (2 ^ 64) word count is) refl
+
+start_again : (word : List ℕ) (start : Start) (rest : List (List ℕ)) → word ≢ [] → IsStart word start → start_at (word ∷ rest) ≡ Some (start, rest)
+unfolding start_at
+start_again [] start rest some is = absurd (some refl)
+start_again (c ∷ cs) start rest some is = rw (start_named (c ∷ cs) start is) refl
+
+join_again : (w : List ℕ) (start : Start) → w ≢ [] → IsStart w start → join_at (w ∷ []) ≡ Some (JoinCommand start, [])
+unfolding join_at
+join_again w start some is = rw (start_again w start [] some is) refl
+
+next_again : (s l : List ℕ) (seat limit : ℕ) → IsNumber (2 ^ 32) s seat → IsNumber (2 ^ 32) l limit → next_at (s ∷ l ∷ []) ≡ Some (NextCommand seat limit, [])
+unfolding next_at
+next_again s l seat limit a b = rw (number_again (2 ^ 32) s seat (l ∷ []) a, number_again (2 ^ 32) l limit [] b) refl
+
+seek_again : (s n : List ℕ) (seat count : ℕ) → IsNumber (2 ^ 32) s seat → IsNumber (2 ^ 64) n count → seek_at (s ∷ n ∷ []) ≡ Some (SeekCommand seat count, [])
+unfolding seek_at
+seek_again s n seat count a b = rw (number_again (2 ^ 32) s seat (n ∷ []) a, number_again (2 ^ 64) n count [] b) refl
+
+leave_again : (s : List ℕ) (seat : ℕ) → IsNumber (2 ^ 32) s seat → leave_at (s ∷ []) ≡ Some (LeaveCommand seat, [])
+unfolding leave_at
+leave_again s seat a = rw (number_again (2 ^ 32) s seat [] a) refl
+
 -- the words say one command, as which they are read
 pub command_again : (words : List (List ℕ)) (command : Command) → AreSome words → Says words command → command_at words ≡ Some command
 unfolding command_at kind_by
@@ -115,3 +153,9 @@ command_again words (FailCommand calls) some says = rw says.1 (rw (fail_again sa
 command_again words (StopCommand calls fill) some says =
     let all = rw says.2 at some in
     rw says.2 (rw (stop_again says.0 says.1 calls fill says.3 all.1.1.0 says.4) refl)
+command_again words (JoinCommand start) some says =
+    let all = rw says.1 at some in
+    rw says.1 (rw (join_again says.0 start all.1.0 says.2) refl)
+command_again words (NextCommand seat limit) some says = rw says.2 (rw (next_again says.0 says.1 seat limit says.3 says.4) refl)
+command_again words (SeekCommand seat count) some says = rw says.2 (rw (seek_again says.0 says.1 seat count says.3 says.4) refl)
+command_again words (LeaveCommand seat) some says = rw says.1 (rw (leave_again says.0 seat says.2) refl)

@@ -26,6 +26,10 @@ kind_takes kind.Open text takes is = absurd takes
 kind_takes kind.Pixel text takes is = absurd takes
 kind_takes kind.Fail text takes is = absurd takes
 kind_takes kind.Stop text takes is = absurd takes
+kind_takes kind.Join text takes is = absurd takes
+kind_takes kind.Next text takes is = absurd takes
+kind_takes kind.Seek text takes is = absurd takes
+kind_takes kind.Leave text takes is = absurd takes
 
 -- a line whose kind takes memory
 pub text_takes : (it : Kind) (first text : List ℕ) (rest : List (List ℕ)) → word_at (parts text) ≡ Some (first, rest) → kind_by first ≡ Some it → KindTakesMemory it → TakesMemory text

@@ -11,11 +11,13 @@ use Rattle.std.proofs.lemmas.Slice.Eq.{bytes_eq-Decides}
 use Rattle.hex.specs.Hex.{decode_of, decode_sized}
 use Rattle.drill_script.specs.declared.line.Fill.{Fill}
 use Rattle.drill_script.specs.declared.line.Fill.TheVariants as fills
+use Rattle.drill_script.specs.declared.line.Start.{Start}
+use Rattle.drill_script.specs.declared.line.Start.TheVariants as starts
 use Rattle.hex.specs.declared.error.FromHexError.{FromHexError}
 use Rattle.drill_script.specs.declared.words.Kind.{Kind}
 use Rattle.drill_script.specs.declared.words.Kind.TheVariants as kind
-use Rattle.drill_script.specs.Grammar.{Command, NewCommand, HostCommand, TakeCommand, BodyCommand, GateCommand, OpenCommand, PixelCommand, FailCommand, StopCommand, decimal, IsNumber, IsName, IsHex, IsFill, Says}
-use Rattle.drill_script.specs.Reading.{◌>>=◌, word_at, number_of, number_at, name_at, joined_at, spelled_by, hex_at, kind_by, new_at, host_at, pixel_at, byte_told, fill_of, fill_at, fail_at, stop_at, rest_at, ended, command_at}
+use Rattle.drill_script.specs.Grammar.{Command, NewCommand, HostCommand, TakeCommand, BodyCommand, GateCommand, OpenCommand, PixelCommand, FailCommand, StopCommand, JoinCommand, NextCommand, SeekCommand, LeaveCommand, decimal, IsNumber, IsName, IsHex, IsFill, IsStart, Says}
+use Rattle.drill_script.specs.Reading.{◌>>=◌, word_at, number_of, number_at, name_at, joined_at, spelled_by, hex_at, kind_by, new_at, host_at, pixel_at, byte_told, fill_of, fill_at, fail_at, stop_at, start_of, start_at, join_at, next_at, seek_at, leave_at, rest_at, ended, command_at}
 use Rattle.drill_script.proofs.Steps.{bind_some, test_some, test_none, chosen}
 
 -- no word is empty
@@ -175,6 +177,37 @@ fill_takes words x e =
       fill = subst (λ (f : Fill). IsFill a.0.0 f) parts.0 (fill_is a.0.0 b.0 b.1);
     }
 
+-- ---- starts
+
+start_is : (word : List ℕ) (start : Start) → start_of word ≡ Some start → IsStart word start
+unfolding start_of
+start_is word start e =
+    chosen (IsStart word start) (bytes_eq word (codes "live")) (Some starts.Live) _ (Some start) e
+    (λ test same. subst (λ (s : Start). IsStart word s) (same_Some starts.Live start same) ((bytes_eq-Decides word (codes "live")).0 test))
+    (λ _ other.
+    let a = bind_some (number_of (2 ^ 64) word) (λ count. Some (starts.At count)) start other in
+    subst (λ (s : Start). IsStart word s) (same_Some (starts.At a.0) start a.2) (number_is (2 ^ 64) word a.0 a.1))
+
+pub record TakesStart (words : List (List ℕ)) (x : Start × List (List ℕ)) : Type 0 where
+  pub word : List ℕ
+  pub first : words ≡ word ∷ x.1
+  pub some : word ≢ []
+  pub start : IsStart word x.0
+
+start_takes : (words : List (List ℕ)) (x : Start × List (List ℕ)) → start_at words ≡ Some x → TakesStart words x
+unfolding start_at
+start_takes words x e =
+    let a = bind_some (word_at words) (λ word. start_of word.0 >>= λ start. Some (start, word.1)) x e in
+    let b = bind_some (start_of a.0.0) (λ start. Some (start, a.0.1)) x a.2 in
+    let parts = some_pair_parts b.0 x.0 a.0.1 x.1 b.2 in
+    let w = word_takes words a.0 a.1 in
+    record {
+      word = a.0.0;
+      first = w.0 ∙ ap (λ (r : List (List ℕ)). a.0.0 ∷ r) parts.1;
+      some = w.1;
+      start = subst (λ (s : Start). IsStart a.0.0 s) parts.0 (start_is a.0.0 b.0 b.1);
+    }
+
 -- ---- the first word
 
 -- what a line of a kind begins with
@@ -188,6 +221,10 @@ keyword kind.Open = codes "open"
 keyword kind.Pixel = codes "pixel"
 keyword kind.Fail = codes "fail"
 keyword kind.Stop = codes "stop"
+keyword kind.Join = codes "join"
+keyword kind.Next = codes "next"
+keyword kind.Seek = codes "seek"
+keyword kind.Leave = codes "leave"
 
 named : (word : List ℕ) (it kind : Kind) → bytes_eq word (keyword it) ≡ true → Some it ≡ Some kind → word ≡ keyword kind
 named word it kind test e = (bytes_eq-Decides word (keyword it)).0 test ∙ ap keyword (same_Some it kind e)
@@ -203,7 +240,7 @@ one_named (it ∷ others) word kind e =
 
 pub kind_named : (word : List ℕ) (it : Kind) → kind_by word ≡ Some it → word ≡ keyword it
 unfolding kind_by
-kind_named word it e = one_named (kind.New ∷ kind.Host ∷ kind.Take ∷ kind.Body ∷ kind.Gate ∷ kind.Open ∷ kind.Pixel ∷ kind.Fail ∷ kind.Stop ∷ []) word it e
+kind_named word it e = one_named (kind.New ∷ kind.Host ∷ kind.Take ∷ kind.Body ∷ kind.Gate ∷ kind.Open ∷ kind.Pixel ∷ kind.Fail ∷ kind.Stop ∷ kind.Join ∷ kind.Next ∷ kind.Seek ∷ kind.Leave ∷ []) word it e
 
 -- ---- the rest of a line
 
@@ -292,6 +329,47 @@ stop_told words x e none =
     told_at (codes "stop") words (n.word ∷ f.word ∷ []) (StopCommand calls.0 fill.0) x.0 (then_words n.word n.first (then_words f.word f.first (said.1 ∙ none))) said.0
     ((n.word, f.word, refl, n.number, f.fill), (λ empty. absurd cc, (n.number.some, (f.some, tt))))))
 
+join_told : (words : List (List ℕ)) (x : Command × List (List ℕ)) → join_at words ≡ Some x → x.1 ≡ [] → Told (codes "join" ∷ words) x.0
+unfolding join_at
+join_told words x e none =
+    option_and_then_some (λ start. Some (JoinCommand start.0, start.1)) (start_at words) x e (λ start is_start e_said.
+    let w = start_takes words start is_start in
+    let said = some_pair_parts (JoinCommand start.0) x.0 start.1 x.1 e_said in
+    told_at (codes "join") words (w.word ∷ []) (JoinCommand start.0) x.0 (then_words w.word w.first (said.1 ∙ none)) said.0
+    ((w.word, refl, w.start), (λ empty. absurd cc, (w.some, tt))))
+
+-- a first word, and two numbers
+pair_told : (first : List ℕ) (low high : ℕ) (say : ℕ → ℕ → Command) (words : List (List ℕ)) (x : Command × List (List ℕ))
+    → (number_at low words >>= λ a. number_at high a.1 >>= λ b. Some (say a.0 b.0, b.1)) ≡ Some x → x.1 ≡ [] → first ≢ []
+    → ((n m : List ℕ) (a b : ℕ) → IsNumber low n a → IsNumber high m b → Says (first ∷ n ∷ m ∷ []) (say a b)) → Told (first ∷ words) x.0
+pair_told first low high say words x e none some says =
+    option_and_then_some (λ a. number_at high a.1 >>= λ b. Some (say a.0 b.0, b.1)) (number_at low words) x e (λ a is_a e_b.
+    option_and_then_some (λ b. Some (say a.0 b.0, b.1)) (number_at high a.1) x e_b (λ b is_b e_said.
+    let n = number_takes low words a is_a in
+    let m = number_takes high a.1 b is_b in
+    let said = some_pair_parts (say a.0 b.0) x.0 b.1 x.1 e_said in
+    told_at first words (n.word ∷ m.word ∷ []) (say a.0 b.0) x.0 (then_words n.word n.first (then_words m.word m.first (said.1 ∙ none))) said.0
+    (says n.word m.word a.0 b.0 n.number m.number, (some, (n.number.some, (m.number.some, tt))))))
+
+next_told : (words : List (List ℕ)) (x : Command × List (List ℕ)) → next_at words ≡ Some x → x.1 ≡ [] → Told (codes "next" ∷ words) x.0
+unfolding next_at
+next_told words x e none =
+    pair_told (codes "next") (2 ^ 32) (2 ^ 32) (λ seat limit. NextCommand seat limit) words x e none (λ empty. absurd cc) (λ s l seat limit a b. (s, l, refl, a, b))
+
+seek_told : (words : List (List ℕ)) (x : Command × List (List ℕ)) → seek_at words ≡ Some x → x.1 ≡ [] → Told (codes "seek" ∷ words) x.0
+unfolding seek_at
+seek_told words x e none =
+    pair_told (codes "seek") (2 ^ 32) (2 ^ 64) (λ seat count. SeekCommand seat count) words x e none (λ empty. absurd cc) (λ s n seat count a b. (s, n, refl, a, b))
+
+leave_told : (words : List (List ℕ)) (x : Command × List (List ℕ)) → leave_at words ≡ Some x → x.1 ≡ [] → Told (codes "leave" ∷ words) x.0
+unfolding leave_at
+leave_told words x e none =
+    option_and_then_some (λ seat. Some (LeaveCommand seat.0, seat.1)) (number_at (2 ^ 32) words) x e (λ seat is_seat e_said.
+    let s = number_takes (2 ^ 32) words seat is_seat in
+    let said = some_pair_parts (LeaveCommand seat.0) x.0 seat.1 x.1 e_said in
+    told_at (codes "leave") words (s.word ∷ []) (LeaveCommand seat.0) x.0 (then_words s.word s.first (said.1 ∙ none)) said.0
+    ((s.word, refl, s.number), (λ empty. absurd cc, (s.number.some, tt))))
+
 bare_told : (word : List ℕ) (said : Command) (words : List (List ℕ)) (x : Command × List (List ℕ)) → word ≢ [] → Says (word ∷ []) said → Some (said, words) ≡ Some x → x.1 ≡ []
     → Told (word ∷ words) x.0
 bare_told word said words x some says e none =
@@ -308,6 +386,10 @@ rest_told kind.Open words x e none = bare_told (codes "open") OpenCommand words 
 rest_told kind.Pixel words x e none = pixel_told words x e none
 rest_told kind.Fail words x e none = fail_told words x e none
 rest_told kind.Stop words x e none = stop_told words x e none
+rest_told kind.Join words x e none = join_told words x e none
+rest_told kind.Next words x e none = next_told words x e none
+rest_told kind.Seek words x e none = seek_told words x e none
+rest_told kind.Leave words x e none = leave_told words x e none
 
 -- what a line is read as is what its words say
 pub command_told : (words : List (List ℕ)) (command : Command) → command_at words ≡ Some command → Told words command

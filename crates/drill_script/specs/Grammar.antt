@@ -5,6 +5,8 @@ use Rattle.std.specs.Char.{IsAsciiDigit}
 use Rattle.hex.specs.Hex.{decode_of, decode_sized}
 use Rattle.drill_script.specs.declared.line.Fill.{Fill}
 use Rattle.drill_script.specs.declared.line.Fill.TheVariants as fill
+use Rattle.drill_script.specs.declared.line.Start.{Start}
+use Rattle.drill_script.specs.declared.line.Start.TheVariants as start
 use Rattle.drill_script.specs.declared.line.Line.{Line}
 use Rattle.drill_script.specs.declared.line.Line.TheVariants as line
 
@@ -19,6 +21,10 @@ pub data Command : Type 0 where
   PixelCommand : (count x y : ℕ) → Command
   FailCommand : (calls : ℕ) → Command
   StopCommand : (calls : ℕ) (fill : Fill) → Command
+  JoinCommand : (start : Start) → Command
+  NextCommand : (seat limit : ℕ) → Command
+  SeekCommand : (seat count : ℕ) → Command
+  LeaveCommand : (seat : ℕ) → Command
 
 -- what a line that was read says
 abbrev pub command_of : Line → Command
@@ -31,6 +37,10 @@ command_of line.Open = OpenCommand
 command_of (line.Pixel count x y) = PixelCommand count x y
 command_of (line.Fail calls) = FailCommand calls
 command_of (line.Stop calls fill) = StopCommand calls fill
+command_of (line.Join start) = JoinCommand start
+command_of (line.Next seat limit) = NextCommand seat limit
+command_of (line.Seek seat count) = SeekCommand seat count
+command_of (line.Leave seat) = LeaveCommand seat
 
 -- a word: one byte or more, and no space
 abbrev pub IsWord : List ℕ → Type 0
@@ -69,6 +79,11 @@ IsFill word fill.Held = word ≡ codes "held"
 IsFill word fill.Now = word ≡ codes "now"
 IsFill word (fill.Byte byte) = decode_sized word 1 ≡ Ok (byte ∷ [])
 
+-- `live`, or a count of messages
+abbrev pub IsStart : List ℕ → Start → Type 0
+IsStart word start.Live = word ≡ codes "live"
+IsStart word (start.At count) = IsNumber (2 ^ 64) word count
+
 -- the words say the command
 abbrev pub Says : List (List ℕ) → Command → Type 0
 Says words (NewCommand width height key_interval name) =
@@ -86,6 +101,12 @@ Says words (PixelCommand count x y) =
 Says words (FailCommand calls) = (n : List ℕ) × (words ≡ codes "fail" ∷ n ∷ []) × IsNumber (2 ^ 64) n calls
 Says words (StopCommand calls fill) =
     (n : List ℕ) × (f : List ℕ) × (words ≡ codes "stop" ∷ n ∷ f ∷ []) × IsNumber (2 ^ 64) n calls × IsFill f fill
+Says words (JoinCommand start) = (w : List ℕ) × (words ≡ codes "join" ∷ w ∷ []) × IsStart w start
+Says words (NextCommand seat limit) =
+    (s : List ℕ) × (l : List ℕ) × (words ≡ codes "next" ∷ s ∷ l ∷ []) × IsNumber (2 ^ 32) s seat × IsNumber (2 ^ 32) l limit
+Says words (SeekCommand seat count) =
+    (s : List ℕ) × (n : List ℕ) × (words ≡ codes "seek" ∷ s ∷ n ∷ []) × IsNumber (2 ^ 32) s seat × IsNumber (2 ^ 64) n count
+Says words (LeaveCommand seat) = (s : List ℕ) × (words ≡ codes "leave" ∷ s ∷ []) × IsNumber (2 ^ 32) s seat
 
 -- the text spells the command: its words say it
 abbrev pub Spells : List ℕ → Command → Type 0

@@ -11,8 +11,10 @@ use Rattle.drill_script.specs.declared.words.Kind.{Kind}
 use Rattle.drill_script.specs.declared.words.Kind.TheVariants as kind
 use Rattle.drill_script.specs.declared.line.Fill.{Fill}
 use Rattle.drill_script.specs.declared.line.Fill.TheVariants as fills
+use Rattle.drill_script.specs.declared.line.Start.{Start}
+use Rattle.drill_script.specs.declared.line.Start.TheVariants as starts
 use Rattle.drill_script.specs.declared.line.Line.{Line}
-use Rattle.drill_script.specs.Grammar.{Command, command_of, NewCommand, HostCommand, TakeCommand, BodyCommand, GateCommand, OpenCommand, PixelCommand, FailCommand, StopCommand, decimal}
+use Rattle.drill_script.specs.Grammar.{Command, command_of, NewCommand, HostCommand, TakeCommand, BodyCommand, GateCommand, OpenCommand, PixelCommand, FailCommand, StopCommand, JoinCommand, NextCommand, SeekCommand, LeaveCommand, decimal}
 
 -- What a call that takes no memory answered, seen by view, and the words that it left, are what reading gives.
 abbrev pub Reads : {A B : Type 0} → (A → B) → Result A LineFault → List (List ℕ) → Option (B × List (List ℕ)) → Type 0
@@ -97,6 +99,10 @@ kind_by word =
     else if bytes_eq word (codes "pixel") then Some kind.Pixel
     else if bytes_eq word (codes "fail") then Some kind.Fail
     else if bytes_eq word (codes "stop") then Some kind.Stop
+    else if bytes_eq word (codes "join") then Some kind.Join
+    else if bytes_eq word (codes "next") then Some kind.Next
+    else if bytes_eq word (codes "seek") then Some kind.Seek
+    else if bytes_eq word (codes "leave") then Some kind.Leave
     else None
 
 -- what follows `new`
@@ -157,6 +163,43 @@ stop_at words = do
   fill ← fill_at calls.1
   Some (StopCommand calls.0 fill.0, fill.1)
 
+-- the start that a word names
+unfoldable pub start_of : List ℕ → Option Start
+start_of word = if bytes_eq word (codes "live") then Some starts.Live else (number_of (2 ^ 64) word >>= λ count. Some (starts.At count))
+
+-- the next word, a start
+unfoldable pub start_at : List (List ℕ) → Option (Start × List (List ℕ))
+start_at words = do
+  word ← word_at words
+  start ← start_of word.0
+  Some (start, word.1)
+
+-- what follows `join`
+unfoldable pub join_at : List (List ℕ) → Option (Command × List (List ℕ))
+join_at words = do
+  start ← start_at words
+  Some (JoinCommand start.0, start.1)
+
+-- what follows `next`
+unfoldable pub next_at : List (List ℕ) → Option (Command × List (List ℕ))
+next_at words = do
+  seat ← number_at (2 ^ 32) words
+  limit ← number_at (2 ^ 32) seat.1
+  Some (NextCommand seat.0 limit.0, limit.1)
+
+-- what follows `seek`
+unfoldable pub seek_at : List (List ℕ) → Option (Command × List (List ℕ))
+seek_at words = do
+  seat ← number_at (2 ^ 32) words
+  count ← number_at (2 ^ 64) seat.1
+  Some (SeekCommand seat.0 count.0, count.1)
+
+-- what follows `leave`
+unfoldable pub leave_at : List (List ℕ) → Option (Command × List (List ℕ))
+leave_at words = do
+  seat ← number_at (2 ^ 32) words
+  Some (LeaveCommand seat.0, seat.1)
+
 -- what follows a line's first word, and the words that it leaves
 abbrev pub rest_at : Kind → List (List ℕ) → Option (Command × List (List ℕ))
 rest_at kind.New words = new_at words
@@ -168,6 +211,10 @@ rest_at kind.Open words = Some (OpenCommand, words)
 rest_at kind.Pixel words = pixel_at words
 rest_at kind.Fail words = fail_at words
 rest_at kind.Stop words = stop_at words
+rest_at kind.Join words = join_at words
+rest_at kind.Next words = next_at words
+rest_at kind.Seek words = seek_at words
+rest_at kind.Leave words = leave_at words
 
 -- a line of this kind takes memory
 abbrev pub KindTakesMemory : Kind → Type 0
@@ -180,6 +227,10 @@ KindTakesMemory kind.Open = ⊥
 KindTakesMemory kind.Pixel = ⊥
 KindTakesMemory kind.Fail = ⊥
 KindTakesMemory kind.Stop = ⊥
+KindTakesMemory kind.Join = ⊥
+KindTakesMemory kind.Next = ⊥
+KindTakesMemory kind.Seek = ⊥
+KindTakesMemory kind.Leave = ⊥
 
 -- a whole line leaves no word
 abbrev pub ended : Command × List (List ℕ) → Option Command

@@ -11,6 +11,15 @@ pub enum Fill {
     Byte(u8),
 }
 
+/// Where a new seat begins.
+#[derive(Clone, Copy, Debug, PartialEq, Eq)]
+pub enum Start {
+    /// `live`: behind the last committed message.
+    Live,
+    /// `N`: behind the first N messages.
+    At(u64),
+}
+
 /// A line of a drill script.
 #[derive(Debug, PartialEq, Eq, Drop)]
 pub enum Line {
@@ -49,5 +58,23 @@ pub enum Line {
         count: u64,
         x: u16,
         y: u16,
+    },
+    /// `join live`, `join N`: a viewer takes a free seat, live or behind the first N messages.
+    Join {
+        start: Start,
+    },
+    /// `next S LIMIT`: the next messages of seat S, LIMIT of them at most.
+    Next {
+        seat: u32,
+        limit: u32,
+    },
+    /// `seek S N`: seat S goes behind the first N messages.
+    Seek {
+        seat: u32,
+        count: u64,
+    },
+    /// `leave S`: seat S is free again.
+    Leave {
+        seat: u32,
     },
 }

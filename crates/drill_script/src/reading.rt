@@ -5,10 +5,10 @@ ghost use Rattle.std.specs.Char.{is_ascii_digit};
 ghost use Rattle.std.specs.List.{list_all, list_any};
 ghost use Rattle.hex.specs.Hex.{decode_sized};
 ghost use Rattle.drill_script.specs.Grammar.{Command, command_of, Spells, TakesMemory};
-ghost use Rattle.drill_script.specs.Reading.{parts, Reads, ReadsInMemory, GivesLine, KindTakesMemory, command_at, number_of, number_at, name_at, joined_at, hex_at, new_at, host_at, pixel_at, byte_told, fill_of, fill_at, fail_at, stop_at, rest_at};
+ghost use Rattle.drill_script.specs.Reading.{parts, Reads, ReadsInMemory, GivesLine, KindTakesMemory, command_at, number_of, number_at, name_at, joined_at, hex_at, new_at, host_at, pixel_at, byte_told, fill_of, fill_at, fail_at, stop_at, start_of, start_at, join_at, next_at, seek_at, leave_at, rest_at};
 
 use crate::fault::LineFault;
-use crate::line::{Fill, Line};
+use crate::line::{Fill, Line, Start};
 use crate::words::{Kind, Words, kind_of};
 use std::alloc::Global;
 
@@ -171,6 +171,58 @@ fn stop_line(words: &mut Words) -> Result<Line, LineFault>
     Ok(Line::Stop { calls, fill })
 }
 
+// The start that a word names.
+#[tactic(auto, unfolding(crate::specs::Reading::start_of))]
+fn named_start(word: &[u8]) -> Option<Start>
+    ensures { result ≡ start_of word.now }
+{
+    match word {
+        b"live" => Some(Start::Live),
+        _ => number(word).map(Start::At),
+    }
+}
+
+#[tactic(auto, unfolding(crate::specs::Reading::start_at))]
+fn start_word(words: &mut Words) -> Result<Start, LineFault>
+    ensures { Reads (λ start. start) result words.new (start_at words.old) }
+{
+    named_start(words.word()?).ok_or(LineFault::Bad)
+}
+
+#[tactic(auto, unfolding(crate::specs::Reading::join_at))]
+fn join_line(words: &mut Words) -> Result<Line, LineFault>
+    ensures { Reads command_of result words.new (join_at words.old) }
+{
+    let start = start_word(words)?;
+    Ok(Line::Join { start })
+}
+
+#[tactic(auto, unfolding(crate::specs::Reading::next_at))]
+fn next_line(words: &mut Words) -> Result<Line, LineFault>
+    ensures { Reads command_of result words.new (next_at words.old) }
+{
+    let seat = u32_word(words)?;
+    let limit = u32_word(words)?;
+    Ok(Line::Next { seat, limit })
+}
+
+#[tactic(auto, unfolding(crate::specs::Reading::seek_at))]
+fn seek_line(words: &mut Words) -> Result<Line, LineFault>
+    ensures { Reads command_of result words.new (seek_at words.old) }
+{
+    let seat = u32_word(words)?;
+    let count = u64_word(words)?;
+    Ok(Line::Seek { seat, count })
+}
+
+#[tactic(auto, unfolding(crate::specs::Reading::leave_at))]
+fn leave_line(words: &mut Words) -> Result<Line, LineFault>
+    ensures { Reads command_of result words.new (leave_at words.old) }
+{
+    let seat = u32_word(words)?;
+    Ok(Line::Leave { seat })
+}
+
 fn rest_of_line(alloc: Global, kind: Kind, words: &mut Words) -> Result<Line, LineFault>
     ensures read { ReadsInMemory command_of result words.new (rest_at kind words.old) }
     ensures memory { result ≡ Err LineFault.NoMemory → KindTakesMemory kind }
@@ -185,6 +237,10 @@ fn rest_of_line(alloc: Global, kind: Kind, words: &mut Words) -> Result<Line, Li
         Kind::Pixel => pixel_line(words),
         Kind::Fail => fail_line(words),
         Kind::Stop => stop_line(words),
+        Kind::Join => join_line(words),
+        Kind::Next => next_line(words),
+        Kind::Seek => seek_line(words),
+        Kind::Leave => leave_line(words),
     }
 }
 

@@ -52,6 +52,44 @@ fn each_kind_of_line(rt: HostRuntime) -> Result<(), Fail> {
 }
 
 #[test]
+fn lines_of_seats(rt: HostRuntime) {
+    let starts: [(&[u8], Start); 3] = [
+        (b"join live", Start::Live),
+        (b"join 0", Start::At(0)),
+        (b"join 18446744073709551615", Start::At(u64::MAX)),
+    ];
+    for (text, start) in starts {
+        assert_eq!(rt; read_line(rt.alloc(), text), Ok(Line::Join { start }));
+    }
+    assert_eq!(rt;
+        read_line(rt.alloc(), b"next 0 8"),
+        Ok(Line::Next { seat: 0, limit: 8 })
+    );
+    assert_eq!(rt;
+        read_line(rt.alloc(), b"next 4294967295 007"),
+        Ok(Line::Next {
+            seat: u32::MAX,
+            limit: 7
+        })
+    );
+    assert_eq!(rt;
+        read_line(rt.alloc(), b"seek 0 1"),
+        Ok(Line::Seek { seat: 0, count: 1 })
+    );
+    assert_eq!(rt;
+        read_line(rt.alloc(), b"seek 1 18446744073709551615"),
+        Ok(Line::Seek {
+            seat: 1,
+            count: u64::MAX
+        })
+    );
+    assert_eq!(rt;
+        read_line(rt.alloc(), b"leave 0"),
+        Ok(Line::Leave { seat: 0 })
+    );
+}
+
+#[test]
 fn names_of_any_bytes(rt: HostRuntime) -> Result<(), Fail> {
     let name = vec![in rt.alloc(); 0xff, b'\r']?;
     assert_eq!(rt;
@@ -68,7 +106,7 @@ fn names_of_any_bytes(rt: HostRuntime) -> Result<(), Fail> {
 
 #[test]
 fn texts_that_are_no_line(rt: HostRuntime) {
-    let texts: [&[u8]; 30] = [
+    let texts: [&[u8]; 44] = [
         b"",
         b" ",
         b"shut",
@@ -99,6 +137,20 @@ fn texts_that_are_no_line(rt: HostRuntime) {
         b"stop 1 4g",
         b"stop 1 004f",
         b"stop 1 Held",
+        b"join",
+        b"join Live",
+        b"join live 0",
+        b"join -1",
+        b"join 18446744073709551616",
+        b"next 0",
+        b"next 4294967296 1",
+        b"next 1 4294967296",
+        b"seek 0",
+        b"seek 4294967296 0",
+        b"seek 0 live",
+        b"leave",
+        b"leave 0 ",
+        b"leave +0",
     ];
     for text in texts {
         assert_eq!(rt;

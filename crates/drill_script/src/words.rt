@@ -19,6 +19,10 @@ pub(crate) enum Kind {
     Pixel,
     Fail,
     Stop,
+    Join,
+    Next,
+    Seek,
+    Leave,
 }
 
 // The kind of line that begins with a word.
@@ -36,6 +40,10 @@ pub(crate) fn kind_of(word: &[u8]) -> Option<Kind>
         b"pixel" => Some(Kind::Pixel),
         b"fail" => Some(Kind::Fail),
         b"stop" => Some(Kind::Stop),
+        b"join" => Some(Kind::Join),
+        b"next" => Some(Kind::Next),
+        b"seek" => Some(Kind::Seek),
+        b"leave" => Some(Kind::Leave),
         _ => None,
     }
 }

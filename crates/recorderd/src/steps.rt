@@ -8,7 +8,7 @@ use drill_script::Line;
 use rfb_wire::HostMessage;
 use std::alloc::Global;
 
-/// The answer to a line of a book. `new` and `open` are none.
+/// The answer to a line of a book. `new` and `open` are none; a line of a seat has no answer yet.
 pub fn answer(
     alloc: Global,
     book: &mut PlainBook<FusedDisk>,
@@ -16,7 +16,12 @@ pub fn answer(
     line: Line,
 ) -> Answer {
     match line {
-        Line::New { .. } | Line::Open => Answer::Bad,
+        Line::New { .. }
+        | Line::Open
+        | Line::Join { .. }
+        | Line::Next { .. }
+        | Line::Seek { .. }
+        | Line::Leave { .. } => Answer::Bad,
         Line::Host { time, bytes } => host(alloc, book, time, &bytes),
         Line::Take => take(book),
         Line::Body => body(book),
