@@ -1,14 +1,15 @@
 -- What a screen shows after more messages, and which message is the next.
-use Rattle.std.proofs.Common.{◌≡◌, ◌<◌, ℕ, zero, suc, ◌+◌, ◌-◌, List, [], ◌∷◌, ◌++◌, length, take, min, slice_index, Some, refl, sym, subst, ◌∙◌, ap, arith, length-append}
+use Rattle.std.proofs.Common.{◌≡◌, ◌<◌, ◌≤◌, ℕ, zero, suc, ◌+◌, ◌-◌, List, [], ◌∷◌, ◌++◌, length, take, min, slice_index, get_or, Some, refl, sym, subst, ◌∙◌, ap, arith, length-append}
 use Rattle.std.specs.List.{AllByRecursion, slice_get}
 use Rattle.std.proofs.lemmas.List.{append_assoc, map-append, take_min}
-use Rattle.std.proofs.lemmas.Option.{slice_get_within}
+use Rattle.std.proofs.lemmas.Option.{slice_get_read, slice_get_within}
 use Rattle.gated_journal.specs.Recording.{Head}
 use Rattle.rfb_wire.specs.Host.{Host}
 use Rattle.painter.specs.Framebuffer.{Framebuffer, SameSize, Shows}
 use Rattle.key_index.specs.declared.entry.Stamped.{Stamped}
 use Rattle.key_index.specs.Entry.{messages_in, IsStampedFor}
 use Rattle.key_index.specs.Index.{start_of, starts_of}
+use Rattle.key_index.specs.Indexed.{Numbers, start_in}
 use Rattle.key_index.proofs.Indexes.{take_next}
 use Rattle.key_index.proofs.Files.{messages_with}
 use Rattle.key_index.proofs.Openings.{start_from_none}
@@ -83,13 +84,17 @@ message_at (q ∷ blocks) (suc b) ms place here within =
     let more : start_of (q ∷ blocks) (suc b) + place ≡ length q + (start_of blocks b + place) = omega (arith, length-append q (messages_in (take b blocks))) in
     ap (slice_get (q ++ messages_in blocks)) more ∙ get_behind q (messages_in blocks) (start_of blocks b + place) ∙ message_at blocks b ms place here within
 
--- the same, by the numbers of a recording
-pub message_by_numbers : (blocks : List (List Stamped)) (b : ℕ) (ms : List Stamped) (n place : ℕ) (s : Stamped) → slice_get blocks b ≡ Some ms → slice_get ms place ≡ Some s
-    → n ≡ slice_index (starts_of 0 blocks ++ length (messages_in blocks) ∷ []) b + place → slice_get (messages_in blocks) n ≡ Some s
-message_by_numbers blocks b ms n place s here read at =
+-- a message that is read at its place in the block where it stands, by the numbers of a recording
+pub message_by_numbers : (numbers : Numbers) (blocks : List (List Stamped)) (b : ℕ) (ms : List Stamped) (n start : ℕ) (s : Stamped) → numbers.starts ≡ starts_of 0 blocks
+    → numbers.committed ≡ length (messages_in blocks) → slice_get blocks b ≡ Some ms → start ≡ start_in numbers b → start_in numbers b ≤ n → n < start_in numbers (b + 1)
+    → start_in numbers b + length ms ≡ start_in numbers (b + 1) → s ≡ get_or ms (n - start) s → slice_get (messages_in blocks) n ≡ Some s
+message_by_numbers numbers blocks b ms n start s starts committed here begins from until counted read =
     let within : b < length blocks = slice_get_within blocks b ms here in
-    let start : n ≡ start_of blocks b + place = omega (arith, at, start_from_none blocks b (omega arith)) in
-    ap (slice_get (messages_in blocks)) start ∙ message_at blocks b ms place here (slice_get_within ms place s read) ∙ read
+    let inside : n - start < length ms = omega arith in
+    let place : start_in numbers b ≡ start_of blocks b =
+    ap (λ l. slice_index (l ++ numbers.committed ∷ []) b) starts ∙ ap (λ k. slice_index (starts_of 0 blocks ++ k ∷ []) b) committed ∙ start_from_none blocks b (omega arith) in
+    let at : n ≡ start_of blocks b + (n - start) = omega (arith, place) in
+    ap (slice_get (messages_in blocks)) at ∙ message_at blocks b ms (n - start) here inside ∙ slice_get_read ms (length ms) (n - start) s refl inside read
 
 -- the screen after one message more
 pub screen_more : (head : Head) (all : List Stamped) (n : ℕ) (s : Stamped) (old new : Framebuffer) → slice_get all n ≡ Some s → IsScreenAt head all n old → SameSize old new
