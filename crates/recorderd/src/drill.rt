@@ -1,13 +1,12 @@
 // A drill: a script's lines, run over one disk in memory, which fails when the script says so.
 
 use crate::answer::Answer;
-use crate::book::PlainBook;
 use crate::fuse::Fuse;
 use crate::steps;
 use disk::{Fill, FusedDisk, MemoryDisk};
 use drill_script::{Line, LineFault, read_line};
-use gated_journal::{Header, Refused};
-use key_index::IndexFault;
+use flusher_core::Book;
+use gated_journal::Header;
 use std::alloc::{AllocError, Global};
 use std::io::{BufRead, BufReader, Read, Write};
 use std::{io, mem};
@@ -17,11 +16,8 @@ use std::{io, mem};
 enum Bench {
     Empty,
     Disk(FusedDisk),
-    Book(PlainBook<FusedDisk>),
+    Book(Book<FusedDisk>),
 }
-
-/// A book that is opened again, or why it isn't.
-type Reopened = Result<PlainBook<FusedDisk>, Refused<FusedDisk, IndexFault>>;
 
 /// The state of a run between two lines.
 #[derive(Drop)]
@@ -54,7 +50,7 @@ impl Drill {
     fn create(&mut self, disk: FusedDisk, header: Header) -> Answer {
         let (width, height) = header.size();
         let key_interval = header.key_interval();
-        match PlainBook::create(self.alloc, disk, header) {
+        match Book::create(self.alloc, disk, header) {
             Ok(book) => {
                 self.bench = Bench::Book(book);
                 Answer::Recording {
@@ -73,35 +69,20 @@ impl Drill {
     // Ends the book, and opens what its disk holds: after a stop, what the stop leaves.
     fn open(&mut self) -> Result<Answer, AllocError> {
         let left = self.fuse.disarm();
-        let reopened = match mem::replace(&mut self.bench, Bench::Empty) {
+        let disk = match mem::replace(&mut self.bench, Bench::Empty) {
             Bench::Empty => return Ok(Answer::Bad),
-            Bench::Disk(disk) => self.opened(disk, left)?,
-            Bench::Book(book) => self.reopened(book, left)?,
+            Bench::Disk(disk) => disk,
+            Bench::Book(book) => book.close(),
         };
-        Ok(self.keep(reopened))
-    }
-
-    fn reopened(
-        &self,
-        book: PlainBook<FusedDisk>,
-        left: Option<Fill>,
-    ) -> Result<Reopened, AllocError> {
-        match left {
-            None => Ok(book.reopened()),
-            Some(_) => self.opened(book.close(), left),
-        }
-    }
-
-    fn opened(&self, disk: FusedDisk, left: Option<Fill>) -> Result<Reopened, AllocError> {
         let disk = match left {
             None => disk,
             Some(fill) => self.fuse.on(disk.left(fill))?,
         };
-        Ok(PlainBook::open(self.alloc, disk))
+        Ok(self.opened(disk))
     }
 
-    fn keep(&mut self, reopened: Reopened) -> Answer {
-        match reopened {
+    fn opened(&mut self, disk: FusedDisk) -> Answer {
+        match Book::open(self.alloc, disk) {
             Ok(book) => {
                 let committed = book.committed();
                 self.bench = Bench::Book(book);

@@ -2,13 +2,9 @@
 #![tactic(auto)]
 
 mod answer;
-mod book;
 mod command;
 mod drill;
 mod fuse;
-mod phase;
-mod refusal;
-mod screens;
 mod steps;
 
 use std::process::ExitCode;

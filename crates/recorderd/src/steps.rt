@@ -1,17 +1,17 @@
 // The steps of a drill on its book.
 
 use crate::answer::Answer;
-use crate::book::PlainBook;
 use crate::fuse::Fuse;
 use disk::FusedDisk;
 use drill_script::Line;
+use flusher_core::Book;
 use rfb_wire::HostMessage;
 use std::alloc::Global;
 
 /// The answer to a line of a book. `new` and `open` are none; a line of a seat has no answer yet.
 pub fn answer(
     alloc: Global,
-    book: &mut PlainBook<FusedDisk>,
+    book: &mut Book<FusedDisk>,
     fuse: &mut Fuse,
     line: Line,
 ) -> Answer {
@@ -39,19 +39,19 @@ pub fn answer(
 }
 
 // `host T HEX`.
-fn host(alloc: Global, book: &mut PlainBook<FusedDisk>, time: u32, bytes: &[u8]) -> Answer {
+fn host(alloc: Global, book: &mut Book<FusedDisk>, time: u32, bytes: &[u8]) -> Answer {
     let (width, height) = book.header().size();
     match HostMessage::from_bytes(alloc, width, height, bytes) {
         Ok(message) => match book.host(time, message) {
             Ok(number) => Answer::Accepted(number),
-            Err(refusal) => Answer::HostRefused(refusal.number()),
+            Err(refused) => Answer::HostRefused(refused.why.number()),
         },
         Err(fault) => Answer::BytesRefused(fault.number()),
     }
 }
 
 // `take`.
-fn take(book: &mut PlainBook<FusedDisk>) -> Answer {
+fn take(book: &mut Book<FusedDisk>) -> Answer {
     match book.take() {
         Ok(taken) => Answer::Taken {
             first: taken.first,
@@ -62,7 +62,7 @@ fn take(book: &mut PlainBook<FusedDisk>) -> Answer {
 }
 
 // `body`.
-fn body(book: &mut PlainBook<FusedDisk>) -> Answer {
+fn body(book: &mut Book<FusedDisk>) -> Answer {
     match book.body() {
         Ok(()) => Answer::Written,
         Err(refusal) => Answer::BodyRefused(refusal.number()),
@@ -70,21 +70,21 @@ fn body(book: &mut PlainBook<FusedDisk>) -> Answer {
 }
 
 // `gate`.
-fn gate(book: &mut PlainBook<FusedDisk>) -> Answer {
+fn gate(book: &mut Book<FusedDisk>) -> Answer {
     match book.gate() {
-        Ok(committed) => Answer::Committed(committed),
+        Ok(_) => Answer::Committed(book.committed()),
         Err(refusal) => Answer::GateRefused(refusal.number()),
     }
 }
 
 // `pixel N X Y`: a place outside the screen is a bad line, whatever N is.
-fn pixel(book: &PlainBook<FusedDisk>, count: u64, x: u16, y: u16) -> Answer {
+fn pixel(book: &mut Book<FusedDisk>, count: u64, x: u16, y: u16) -> Answer {
     let (width, height) = book.header().size();
     if x >= width || y >= height {
         return Answer::Bad;
     }
-    match book.pixel(count, x, y) {
-        Ok(color) => Answer::Pixel(color),
-        Err(refusal) => Answer::PixelRefused(refusal.number()),
+    match book.screen_at(count) {
+        Ok(screen) => Answer::Pixel(screen.color(x, y)),
+        Err(fault) => Answer::PixelRefused(fault.number()),
     }
 }

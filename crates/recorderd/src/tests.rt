@@ -1,22 +1,18 @@
 use crate::answer::Answer;
-use crate::book::{PlainBook, Taken};
 use crate::command::command;
-use crate::refusal::{FlushRefusal, PixelRefusal, TakeRefusal};
-use disk::{Disk, FailingDisk, Fill, FusedDisk, MemoryDisk, Switch};
+use crate::fuse::Fuse;
+use crate::steps;
+use disk::{FusedDisk, MemoryDisk};
+use drill_script::read_line;
+use flusher_core::Book;
 use gated_journal::{Header, OpenFault};
 use key_index::IndexFault;
-use pixel_format::Color;
-use rfb_wire::HostMessage;
-use std::alloc::{AllocError, Global};
+use std::alloc::Global;
 use std::io;
 use std::io::{Read, Write};
 use std::test::Fail;
 
 const RED_HEX: &str = "0000 0001 0000 0000 0001 0001 00000000 0000ff00";
-
-const RED: [u8; 20] = [
-    0, 0, 0, 1, 0, 0, 0, 0, 0, 1, 0, 1, 0, 0, 0, 0, 0, 0, 0xff, 0,
-];
 
 // The status of a script, and what it writes, to the second output last.
 fn drilled(alloc: Global, script: &str) -> Result<(u8, String), Fail> {
@@ -76,7 +72,7 @@ fn scripts_are_answered(rt: HostRuntime) -> Result<(), Fail> {
         ),
         (
             "new 1 1 4 x\nhost 0 01 00 0000 0000\nhost 0 02\nhost 0 03000000 00000001 68\ntake\nbody\ngate\nopen\n",
-            "recording 1 1 4\nbytes refused 0\naccepted 0\naccepted 1\ntaken 0 1\nwritten\ncommitted 1\nopened 1\n",
+            "recording 1 1 4\nbytes refused 0\naccepted 0\naccepted 1\ntaken 0 2\nwritten\ncommitted 2\nopened 2\n",
             0,
         ),
         (
@@ -189,8 +185,47 @@ fn a_disk_that_fails_or_stops(rt: HostRuntime) -> Result<(), Fail> {
         answers(alloc, &failed)?.as_str(),
         "recording 1 1 4; accepted 0; taken 0 1; set; body refused 2; host refused 3; opened 0; accepted 0; taken 0 1; written; "
     );
+    let broken = format!(in alloc;
+        "new 1 1 4 x; host 0 {red}; take; body; gate; host 1 {red}; take; fail 1; body; host 2 {red}; take; body; gate; open"
+    )?;
+    assert_eq!(rt;
+        answers(alloc, &broken)?.as_str(),
+        "recording 1 1 4; accepted 0; taken 0 1; written; committed 1; accepted 1; taken 1 1; set; body refused 2; host refused 3; take refused 3; body refused 3; gate refused 3; opened 1; "
+    );
     // There is nothing to arm before there is a recording.
     assert_eq!(rt; answers(alloc, "stop 0 now")?.as_str(), "line 1: bad; ");
+    Ok(())
+}
+
+#[test]
+fn a_block_has_all_that_wait(rt: HostRuntime) -> Result<(), Fail> {
+    let alloc = rt.alloc();
+    let red = RED_HEX;
+    let script = format!(in alloc;
+        "new 1 1 4 x; host 0 {red}; host 1 02; host 2 02; take; body; gate; open; pixel 3 0 0"
+    )?;
+    assert_eq!(rt;
+        answers(alloc, &script)?.as_str(),
+        "recording 1 1 4; accepted 0; accepted 1; accepted 2; taken 0 3; written; committed 3; opened 3; ff0000; "
+    );
+    Ok(())
+}
+
+#[test]
+fn as_many_wait_as_may(rt: HostRuntime) -> Result<(), Fail> {
+    let alloc = rt.alloc();
+    let mut script = "new 1 1 4 x\n".to_string(alloc)?;
+    let mut expected = "recording 1 1 4\n".to_string(alloc)?;
+    for number in 0..1024 {
+        script.push_str("host 0 02\n")?;
+        expected.push_str(&format!(in alloc; "accepted {number}\n")?)?;
+    }
+    script.push_str("host 0 02\ntake\nbody\ngate\nhost 0 02\n")?;
+    expected
+        .push_str("host refused 1\ntaken 0 256\nwritten\ncommitted 256\naccepted 1024\n")?;
+    let (status, text) = drilled(alloc, &script)?;
+    assert_eq!(rt; text.as_str(), expected.as_str());
+    assert_eq!(rt; status, 0);
     Ok(())
 }
 
@@ -290,70 +325,89 @@ fn streams_that_fail(rt: HostRuntime) -> Result<(), Fail> {
     Ok(())
 }
 
-// A disk that stops when the switch says so.
-fn fused(alloc: Global, switch: &Switch) -> Result<FusedDisk, AllocError> {
-    let failing = FailingDisk::new(MemoryDisk::new(alloc), switch.clone()?);
-    Ok(FusedDisk::new(failing, switch.clone()?))
-}
-
-fn new_book<D: Disk + Drop>(alloc: Global, disk: D) -> Result<PlainBook<D>, Fail> {
+// A new recording of one place.
+fn new_book(alloc: Global, fuse: &Fuse) -> Result<Book<FusedDisk>, Fail> {
+    let disk = fuse.on(MemoryDisk::new(alloc))?;
     let header = Header::new(alloc, 1, 1, 4, b"x")?;
-    Ok(PlainBook::create(alloc, disk, header).map_err(|refused| refused.fault)?)
+    Ok(Book::create(alloc, disk, header).map_err(|refused| refused.fault)?)
 }
 
-// Accepts a message, and takes it.
-fn accept<D: Disk>(alloc: Global, book: &mut PlainBook<D>, bytes: &[u8]) -> Result<(), Fail> {
-    let (width, height) = book.header().size();
-    book.host(0, HostMessage::from_bytes(alloc, width, height, bytes)?)?;
-    book.take()?;
-    Ok(())
-}
-
-// What is left where the disk stops in the write of a first body, with `O`, an open gate, at each place of that write.
-fn stopped_in_a_body(alloc: Global) -> Result<MemoryDisk, Fail> {
-    let switch = Switch::new(alloc)?;
-    let mut book = new_book(alloc, fused(alloc, &switch)?)?;
-    accept(alloc, &mut book, &RED)?;
-    switch.stop_after(0);
-    match book.body() {
-        Err(FlushRefusal::Device) => Ok(book.close().left(Fill::Byte(b'O'))),
-        _ => Err("the disk works".into()),
+// The disk of a book after these lines: as a stop leaves it, where a line set one.
+fn disk_after(
+    alloc: Global,
+    fuse: &mut Fuse,
+    mut book: Book<FusedDisk>,
+    lines: &[&str],
+) -> Result<MemoryDisk, Fail> {
+    for line in lines {
+        let line = read_line(alloc, line.as_bytes())?;
+        steps::answer(alloc, &mut book, fuse, line);
     }
-}
-
-// The disk with one message more, after it was opened, and closed and opened again.
-fn with_a_bell(alloc: Global, disk: MemoryDisk) -> Result<MemoryDisk, Fail> {
-    let mut book = PlainBook::open(alloc, disk).map_err(|refused| refused.fault)?;
-    accept(alloc, &mut book, &[2])?;
-    book.body()?;
-    book.gate()?;
-    let book = book.reopened().map_err(|refused| refused.fault)?;
-    Ok(book.close())
+    let fill = fuse.disarm().unwrap_or(disk::Fill::Now);
+    Ok(book.close().left(fill))
 }
 
 #[test]
 fn a_new_book_leaves_these_bytes(rt: HostRuntime) -> Result<(), Fail> {
     let alloc = rt.alloc();
-    let disk = new_book(alloc, MemoryDisk::new(alloc))?.close();
+    let mut fuse = Fuse::new(alloc)?;
+    let book = new_book(alloc, &fuse)?;
+    let left = disk_after(alloc, &mut fuse, book, &[])?;
     assert_eq!(rt;
-        disk.bytes(),
+        left.bytes(),
         b"ORFBREC1\0\x01\0\x01\0\x04\0\x01xC".as_slice()
     );
     Ok(())
 }
 
 #[test]
+fn a_committed_message_leaves_these_bytes(rt: HostRuntime) -> Result<(), Fail> {
+    let alloc = rt.alloc();
+    let mut fuse = Fuse::new(alloc)?;
+    let book = new_book(alloc, &fuse)?;
+    let red = "host 0 0000 0001 0000 0000 0001 0001 00000000 0000ff00";
+    let left = disk_after(alloc, &mut fuse, book, &[red, "take", "body", "gate"])?;
+    let mut expected = Vec::new(alloc);
+    expected.extend_from_slice(b"ORFBREC1\0\x01\0\x01\0\x04\0\x01x")?;
+    expected.extend_from_slice(b"O\0\0\0\x1d\0\x01\0\0\0\0\0\0\0\0\x14")?;
+    expected.extend_from_slice(b"\0\0\0\x01\0\0\0\0\0\x01\0\x01\0\0\0\0\0\0\xff\0C")?;
+    assert_eq!(rt; left.bytes(), expected.as_slice());
+    Ok(())
+}
+
+#[test]
+fn a_time_that_falls_becomes_the_last_one(rt: HostRuntime) -> Result<(), Fail> {
+    let alloc = rt.alloc();
+    let mut fuse = Fuse::new(alloc)?;
+    let book = new_book(alloc, &fuse)?;
+    let lines = ["host 9 02", "host 4 02", "take", "body", "gate"];
+    let left = disk_after(alloc, &mut fuse, book, &lines)?;
+    let mut expected = Vec::new(alloc);
+    expected.extend_from_slice(b"ORFBREC1\0\x01\0\x01\0\x04\0\x01x")?;
+    expected.extend_from_slice(b"O\0\0\0\x14\0\x02")?;
+    expected.extend_from_slice(b"\0\0\0\0\x09\0\0\0\x01\x02")?;
+    expected.extend_from_slice(b"\0\0\0\0\x09\0\0\0\x01\x02C")?;
+    assert_eq!(rt; left.bytes(), expected.as_slice());
+    Ok(())
+}
+
+#[test]
 fn a_stop_in_a_write_leaves_these_bytes(rt: HostRuntime) -> Result<(), Fail> {
     let alloc = rt.alloc();
-    let left = stopped_in_a_body(alloc)?;
+    let mut fuse = Fuse::new(alloc)?;
+    let book = new_book(alloc, &fuse)?;
+    let red = "host 0 0000 0001 0000 0000 0001 0001 00000000 0000ff00";
+    let left = disk_after(alloc, &mut fuse, book, &[red, "take", "stop 0 4f", "body"])?;
     assert_eq!(rt;
         left.bytes(),
         b"ORFBREC1\0\x01\0\x01\0\x04\0\x01xCOOOOOOOOOOOOOOOOOOOOOOOOOOOOOOOOOOOO".as_slice()
     );
     // Recording goes on over the torn bytes, and the rest of them stands behind the last gate.
-    let disk = with_a_bell(alloc, left)?;
+    let book = Book::open(alloc, fuse.on(left)?).map_err(|refused| refused.fault)?;
+    let lines = ["host 0 02", "take", "body", "gate"];
+    let left = disk_after(alloc, &mut fuse, book, &lines)?;
     assert_eq!(rt;
-        disk.bytes(),
+        left.bytes(),
         b"ORFBREC1\0\x01\0\x01\0\x04\0\x01xO\0\0\0\x0a\0\x01\0\0\0\0\0\0\0\0\x01\x02COOOOOOOOOOOOOOOOOOO".as_slice()
     );
     Ok(())
@@ -382,35 +436,48 @@ fn faults_of_an_opening_are_printed(rt: HostRuntime) -> Result<(), Fail> {
     Ok(())
 }
 
-// The colour of the last place after so many messages.
-fn last_place(book: &PlainBook<MemoryDisk>, count: u64) -> Result<Color, PixelRefusal> {
-    let (width, height) = book.header().size();
-    book.pixel(count, width - 1, height - 1)
+// A script, what it answers on a sound disk and with ample memory, and how an answer to one of its lines says that memory
+// was wanting. A disk in memory that can't grow, or can't note a sync, has failed as a device.
+const SMALL: &str = "new 1 1 4 x; host 0 02; host 1 02; take; body; gate; open; pixel 2 0 0";
+
+const SOUND: &str =
+    "recording 1 1 4; accepted 0; accepted 1; taken 0 2; written; committed 2; opened 2; 000000; ";
+
+const LACKS: [&str; 12] = [
+    "new refused 4",
+    "new refused journal 2",
+    "new refused journal 3",
+    "bytes refused 9",
+    "host refused 4",
+    "take refused 4",
+    "body refused 2",
+    "gate refused 2",
+    "open refused journal 3",
+    "open refused journal 4",
+    "open refused index 5",
+    "pixel refused 3",
+];
+
+// Whether these are the answers of the small script, or the first of them that is another says that memory was wanting.
+fn says_what_was_wanting(alloc: Global, script: &str) -> Result<bool, Fail> {
+    let (status, text) = drilled(alloc, script)?;
+    let text = text.replace(alloc, "\n", "; ")?;
+    let mut sound = SOUND.split("; ");
+    for answer in text.split("; ") {
+        let expected = sound.next().unwrap_or("");
+        if answer != expected {
+            let is_cut = status == 1 && expected.starts_with(answer);
+            return Ok(is_cut || LACKS.contains(&answer));
+        }
+    }
+    Ok(status == 0)
 }
 
+// This test is also run with each allocation failing in turn.
 #[test]
-fn a_closed_book_leaves_these_bytes(rt: HostRuntime) -> Result<(), Fail> {
+fn a_script_while_memory_lasts(rt: HostRuntime) -> Result<(), Fail> {
     let alloc = rt.alloc();
-    let header = Header::new(alloc, 1, 1, 4, b"x")?;
-    let mut book = PlainBook::create(alloc, MemoryDisk::new(alloc), header).map_err(|r| r.fault)?;
-    assert_eq!(rt; book.take(), Err(TakeRefusal::Nothing));
-    let message = HostMessage::from_bytes(alloc, 1, 1, &RED)?;
-    assert_eq!(rt; message.size(), (1, 1));
-    let (width, height) = book.header().size();
-    assert_eq!(rt; (width, height), (1, 1));
-    assert_eq!(rt; book.host(0, message).ok(), Some(0));
-    assert_eq!(rt; book.take(), Ok(Taken { first: 0, count: 1 }));
-    assert_eq!(rt; book.gate(), Err(FlushRefusal::OutOfTurn));
-    assert_eq!(rt; book.body(), Ok(()));
-    assert_eq!(rt; book.gate(), Ok(1));
-    assert_eq!(rt; last_place(&book, 1), Ok(Color { r: 255, g: 0, b: 0 }));
-    assert_eq!(rt; last_place(&book, 2), Err(PixelRefusal::NotCommitted));
-    let mut expected = Vec::new(alloc);
-    expected.extend_from_slice(b"ORFBREC1\0\x01\0\x01\0\x04\0\x01x")?;
-    expected.extend_from_slice(b"O\0\0\0\x1d\0\x01\0\0\0\0\0\0\0\0\x14")?;
-    expected.extend_from_slice(&RED)?;
-    expected.push(b'C')?;
-    let disk = book.close();
-    assert_eq!(rt; disk.bytes(), expected.as_slice());
+    let script = SMALL.replace(alloc, "; ", "\n")?;
+    assert!(rt; says_what_was_wanting(alloc, &script)?);
     Ok(())
 }
