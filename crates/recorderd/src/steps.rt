@@ -9,12 +9,7 @@ use rfb_wire::HostMessage;
 use std::alloc::Global;
 
 /// The answer to a line of a book. `new` and `open` are none; a line of a seat has no answer yet.
-pub fn answer(
-    alloc: Global,
-    book: &mut Book<FusedDisk>,
-    fuse: &mut Fuse,
-    line: Line,
-) -> Answer {
+pub fn answer(alloc: Global, book: &mut Book<FusedDisk>, fuse: &mut Fuse, line: Line) -> Answer {
     match line {
         Line::New { .. }
         | Line::Open

@@ -221,8 +221,7 @@ fn as_many_wait_as_may(rt: HostRuntime) -> Result<(), Fail> {
         expected.push_str(&format!(in alloc; "accepted {number}\n")?)?;
     }
     script.push_str("host 0 02\ntake\nbody\ngate\nhost 0 02\n")?;
-    expected
-        .push_str("host refused 1\ntaken 0 256\nwritten\ncommitted 256\naccepted 1024\n")?;
+    expected.push_str("host refused 1\ntaken 0 256\nwritten\ncommitted 256\naccepted 1024\n")?;
     let (status, text) = drilled(alloc, &script)?;
     assert_eq!(rt; text.as_str(), expected.as_str());
     assert_eq!(rt; status, 0);
