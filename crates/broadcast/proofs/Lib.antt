@@ -1,0 +1,3 @@
+pub mod Running
+pub mod Seating
+pub mod Standing

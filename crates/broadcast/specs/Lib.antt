@@ -1,0 +1,5 @@
+pub mod Refusals
+pub mod Seats
+pub mod Steps
+pub mod Run
+pub mod Headline

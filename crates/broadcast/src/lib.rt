@@ -1,0 +1,13 @@
+//! The desk: a book with seats for its viewers, and whole runs of steps.
+#![tactic(auto)]
+
+mod desk;
+mod refusal;
+mod seat;
+mod seats;
+mod step;
+
+pub use desk::Desk;
+pub use refusal::{JoinRefusal, LeaveRefusal, NextRefusal, SeekRefusal};
+pub use seat::{Seat, Seated, Start};
+pub use step::{Reply, Step};
