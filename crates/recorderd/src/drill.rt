@@ -3,6 +3,7 @@
 use crate::answer::Answer;
 use crate::fuse::Fuse;
 use crate::steps;
+use broadcast::Desk;
 use disk::{Fill, FusedDisk, MemoryDisk};
 use drill_script::{Line, LineFault, read_line};
 use flusher_core::Book;
@@ -11,12 +12,12 @@ use std::alloc::{AllocError, Global};
 use std::io::{BufRead, BufReader, Read, Write};
 use std::{io, mem};
 
-/// What a drill has: nothing before the first `new`, then a disk, and a book on it unless `new` or `open` was refused.
+/// What a drill has: nothing before the first `new`, then a disk, and a desk on it unless `new` or `open` was refused.
 #[derive(Drop)]
 enum Bench {
     Empty,
     Disk(FusedDisk),
-    Book(Book<FusedDisk>),
+    Desk(Desk<FusedDisk>),
 }
 
 /// The state of a run between two lines.
@@ -52,7 +53,7 @@ impl Drill {
         let key_interval = header.key_interval();
         match Book::create(self.alloc, disk, header) {
             Ok(book) => {
-                self.bench = Bench::Book(book);
+                self.bench = Bench::Desk(Desk::new(book));
                 Answer::Recording {
                     width,
                     height,
@@ -66,13 +67,13 @@ impl Drill {
         }
     }
 
-    // Ends the book, and opens what its disk holds: after a stop, what the stop leaves.
+    // Ends the desk and its book, and opens what its disk holds: after a stop, what the stop leaves.
     fn open(&mut self) -> Result<Answer, AllocError> {
         let left = self.fuse.disarm();
         let disk = match mem::replace(&mut self.bench, Bench::Empty) {
             Bench::Empty => return Ok(Answer::Bad),
             Bench::Disk(disk) => disk,
-            Bench::Book(book) => book.close(),
+            Bench::Desk(desk) => desk.into_book().close(),
         };
         let disk = match left {
             None => disk,
@@ -85,7 +86,7 @@ impl Drill {
         match Book::open(self.alloc, disk) {
             Ok(book) => {
                 let committed = book.committed();
-                self.bench = Bench::Book(book);
+                self.bench = Bench::Desk(Desk::new(book));
                 Answer::Opened(committed)
             }
             Err(refused) => {
@@ -95,11 +96,11 @@ impl Drill {
         }
     }
 
-    // A line that only a book answers.
-    fn step(&mut self, line: Line) -> Answer {
+    // A line that only a desk answers.
+    fn step(&mut self, line: Line) -> Result<Answer, AllocError> {
         match &mut self.bench {
-            Bench::Empty | Bench::Disk(_) => Answer::Bad,
-            Bench::Book(book) => steps::answer(self.alloc, book, &mut self.fuse, line),
+            Bench::Empty | Bench::Disk(_) => Ok(Answer::Bad),
+            Bench::Desk(desk) => steps::answer(self.alloc, desk, &mut self.fuse, line),
         }
     }
 
@@ -112,7 +113,7 @@ impl Drill {
                 name,
             } => self.start(width, height, key_interval, &name),
             Line::Open => self.open(),
-            line => Ok(self.step(line)),
+            line => self.step(line),
         }
     }
 }

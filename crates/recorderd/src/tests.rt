@@ -2,6 +2,7 @@ use crate::answer::Answer;
 use crate::command::command;
 use crate::fuse::Fuse;
 use crate::steps;
+use broadcast::Desk;
 use disk::{FusedDisk, MemoryDisk};
 use drill_script::read_line;
 use flusher_core::Book;
@@ -198,6 +199,63 @@ fn a_disk_that_fails_or_stops(rt: HostRuntime) -> Result<(), Fail> {
 }
 
 #[test]
+fn viewers_are_seated(rt: HostRuntime) -> Result<(), Fail> {
+    let alloc = rt.alloc();
+    let red = RED_HEX;
+    let live = format!(in alloc;
+        "new 1 1 4 x; host 0 {red}; take; body; join live; next 0 8; gate; next 0 8; leave 0; join 0; next 0 8; seek 0 1; next 0 8; seek 0 2; next 1 8; leave 1"
+    )?;
+    assert_eq!(rt;
+        answers(alloc, &live)?.as_str(),
+        "recording 1 1 4; accepted 0; taken 0 1; written; seat 0 at 0; slice 0 0; committed 1; slice 0 1; left 0; seat 0 at 0; slice 0 1; seat 0 at 1; slice 1 0; seek refused 1; next refused 3; leave refused 1; "
+    );
+    // A gate answers the messages of its block, also where more were accepted since.
+    let behind = format!(in alloc;
+        "new 1 1 4 x; host 0 {red}; take; body; host 1 {red}; host 2 {red}; host 3 {red}; gate; stop 0 held; open"
+    )?;
+    assert_eq!(rt;
+        answers(alloc, &behind)?.as_str(),
+        "recording 1 1 4; accepted 0; taken 0 1; written; accepted 1; accepted 2; accepted 3; committed 1; set; opened 1; "
+    );
+    // A device that failed ends the recording, and no viewer.
+    let broken = format!(in alloc;
+        "new 1 1 4 x; host 0 {red}; take; body; gate; host 1 {red}; take; fail 1; body; host 2 {red}; join 0; next 0 8; open"
+    )?;
+    assert_eq!(rt;
+        answers(alloc, &broken)?.as_str(),
+        "recording 1 1 4; accepted 0; taken 0 1; written; committed 1; accepted 1; taken 1 1; set; body refused 2; host refused 3; seat 0 at 0; slice 0 1; opened 1; "
+    );
+    // An opening ends the seats; no seat is behind messages that aren't there.
+    assert_eq!(rt;
+        answers(
+            alloc,
+            "new 1 1 4 x; join live; open; leave 0; seek 0 0; join 1; join live"
+        )?
+        .as_str(),
+        "recording 1 1 4; seat 0 at 0; opened 0; leave refused 1; seek refused 2; join refused 2; seat 0 at 0; "
+    );
+    assert_eq!(rt; answers(alloc, "join live")?.as_str(), "line 1: bad; ");
+    Ok(())
+}
+
+#[test]
+fn there_are_64_seats(rt: HostRuntime) -> Result<(), Fail> {
+    let alloc = rt.alloc();
+    let mut script = "new 1 1 4 x\n".to_string(alloc)?;
+    let mut expected = "recording 1 1 4\n".to_string(alloc)?;
+    for seat in 0..64 {
+        script.push_str("join live\n")?;
+        expected.push_str(&format!(in alloc; "seat {seat} at 0\n")?)?;
+    }
+    script.push_str("join live\n")?;
+    expected.push_str("join refused 1\n")?;
+    let (status, text) = drilled(alloc, &script)?;
+    assert_eq!(rt; text.as_str(), expected.as_str());
+    assert_eq!(rt; status, 0);
+    Ok(())
+}
+
+#[test]
 fn a_block_has_all_that_wait(rt: HostRuntime) -> Result<(), Fail> {
     let alloc = rt.alloc();
     let red = RED_HEX;
@@ -324,34 +382,35 @@ fn streams_that_fail(rt: HostRuntime) -> Result<(), Fail> {
     Ok(())
 }
 
-// A new recording of one place.
-fn new_book(alloc: Global, fuse: &Fuse) -> Result<Book<FusedDisk>, Fail> {
+// A desk with a new recording of one place.
+fn new_desk(alloc: Global, fuse: &Fuse) -> Result<Desk<FusedDisk>, Fail> {
     let disk = fuse.on(MemoryDisk::new(alloc))?;
     let header = Header::new(alloc, 1, 1, 4, b"x")?;
-    Ok(Book::create(alloc, disk, header).map_err(|refused| refused.fault)?)
+    let book = Book::create(alloc, disk, header).map_err(|refused| refused.fault)?;
+    Ok(Desk::new(book))
 }
 
-// The disk of a book after these lines: as a stop leaves it, where a line set one.
+// The disk of a desk after these lines: as a stop leaves it, where a line set one.
 fn disk_after(
     alloc: Global,
     fuse: &mut Fuse,
-    mut book: Book<FusedDisk>,
+    mut desk: Desk<FusedDisk>,
     lines: &[&str],
 ) -> Result<MemoryDisk, Fail> {
     for line in lines {
         let line = read_line(alloc, line.as_bytes())?;
-        steps::answer(alloc, &mut book, fuse, line);
+        steps::answer(alloc, &mut desk, fuse, line)?;
     }
     let fill = fuse.disarm().unwrap_or(disk::Fill::Now);
-    Ok(book.close().left(fill))
+    Ok(desk.into_book().close().left(fill))
 }
 
 #[test]
 fn a_new_book_leaves_these_bytes(rt: HostRuntime) -> Result<(), Fail> {
     let alloc = rt.alloc();
     let mut fuse = Fuse::new(alloc)?;
-    let book = new_book(alloc, &fuse)?;
-    let left = disk_after(alloc, &mut fuse, book, &[])?;
+    let desk = new_desk(alloc, &fuse)?;
+    let left = disk_after(alloc, &mut fuse, desk, &[])?;
     assert_eq!(rt;
         left.bytes(),
         b"ORFBREC1\0\x01\0\x01\0\x04\0\x01xC".as_slice()
@@ -363,9 +422,9 @@ fn a_new_book_leaves_these_bytes(rt: HostRuntime) -> Result<(), Fail> {
 fn a_committed_message_leaves_these_bytes(rt: HostRuntime) -> Result<(), Fail> {
     let alloc = rt.alloc();
     let mut fuse = Fuse::new(alloc)?;
-    let book = new_book(alloc, &fuse)?;
+    let desk = new_desk(alloc, &fuse)?;
     let red = "host 0 0000 0001 0000 0000 0001 0001 00000000 0000ff00";
-    let left = disk_after(alloc, &mut fuse, book, &[red, "take", "body", "gate"])?;
+    let left = disk_after(alloc, &mut fuse, desk, &[red, "take", "body", "gate"])?;
     let mut expected = Vec::new(alloc);
     expected.extend_from_slice(b"ORFBREC1\0\x01\0\x01\0\x04\0\x01x")?;
     expected.extend_from_slice(b"O\0\0\0\x1d\0\x01\0\0\0\0\0\0\0\0\x14")?;
@@ -378,9 +437,9 @@ fn a_committed_message_leaves_these_bytes(rt: HostRuntime) -> Result<(), Fail> {
 fn a_time_that_falls_becomes_the_last_one(rt: HostRuntime) -> Result<(), Fail> {
     let alloc = rt.alloc();
     let mut fuse = Fuse::new(alloc)?;
-    let book = new_book(alloc, &fuse)?;
+    let desk = new_desk(alloc, &fuse)?;
     let lines = ["host 9 02", "host 4 02", "take", "body", "gate"];
-    let left = disk_after(alloc, &mut fuse, book, &lines)?;
+    let left = disk_after(alloc, &mut fuse, desk, &lines)?;
     let mut expected = Vec::new(alloc);
     expected.extend_from_slice(b"ORFBREC1\0\x01\0\x01\0\x04\0\x01x")?;
     expected.extend_from_slice(b"O\0\0\0\x14\0\x02")?;
@@ -394,9 +453,9 @@ fn a_time_that_falls_becomes_the_last_one(rt: HostRuntime) -> Result<(), Fail> {
 fn a_stop_in_a_write_leaves_these_bytes(rt: HostRuntime) -> Result<(), Fail> {
     let alloc = rt.alloc();
     let mut fuse = Fuse::new(alloc)?;
-    let book = new_book(alloc, &fuse)?;
+    let desk = new_desk(alloc, &fuse)?;
     let red = "host 0 0000 0001 0000 0000 0001 0001 00000000 0000ff00";
-    let left = disk_after(alloc, &mut fuse, book, &[red, "take", "stop 0 4f", "body"])?;
+    let left = disk_after(alloc, &mut fuse, desk, &[red, "take", "stop 0 4f", "body"])?;
     assert_eq!(rt;
         left.bytes(),
         b"ORFBREC1\0\x01\0\x01\0\x04\0\x01xCOOOOOOOOOOOOOOOOOOOOOOOOOOOOOOOOOOOO".as_slice()
@@ -404,7 +463,7 @@ fn a_stop_in_a_write_leaves_these_bytes(rt: HostRuntime) -> Result<(), Fail> {
     // Recording goes on over the torn bytes, and the rest of them stands behind the last gate.
     let book = Book::open(alloc, fuse.on(left)?).map_err(|refused| refused.fault)?;
     let lines = ["host 0 02", "take", "body", "gate"];
-    let left = disk_after(alloc, &mut fuse, book, &lines)?;
+    let left = disk_after(alloc, &mut fuse, Desk::new(book), &lines)?;
     assert_eq!(rt;
         left.bytes(),
         b"ORFBREC1\0\x01\0\x01\0\x04\0\x01xO\0\0\0\x0a\0\x01\0\0\0\0\0\0\0\0\x01\x02COOOOOOOOOOOOOOOOOOO".as_slice()
@@ -437,12 +496,13 @@ fn faults_of_an_opening_are_printed(rt: HostRuntime) -> Result<(), Fail> {
 
 // A script, what it answers on a sound disk and with ample memory, and how an answer to one of its lines says that memory
 // was wanting. A disk in memory that can't grow, or can't note a sync, has failed as a device.
-const SMALL: &str = "new 1 1 4 x; host 0 02; host 1 02; take; body; gate; open; pixel 2 0 0";
+const SMALL: &str =
+    "new 1 1 4 x; host 0 02; host 1 02; take; body; gate; open; pixel 2 0 0; join 1; next 0 8; seek 0 0; next 0 8; leave 0";
 
 const SOUND: &str =
-    "recording 1 1 4; accepted 0; accepted 1; taken 0 2; written; committed 2; opened 2; 000000; ";
+    "recording 1 1 4; accepted 0; accepted 1; taken 0 2; written; committed 2; opened 2; 000000; seat 0 at 1; slice 1 1; seat 0 at 0; slice 0 2; left 0; ";
 
-const LACKS: [&str; 12] = [
+const LACKS: [&str; 13] = [
     "new refused 4",
     "new refused journal 2",
     "new refused journal 3",
@@ -455,6 +515,7 @@ const LACKS: [&str; 12] = [
     "open refused journal 4",
     "open refused index 5",
     "pixel refused 3",
+    "next refused 1",
 ];
 
 // Whether these are the answers of the small script, or the first of them that is another says that memory was wanting.
