@@ -87,7 +87,8 @@ fn step(alloc: Global, desk: &mut Desk<FusedDisk>, step: Step) -> Result<Answer,
     }
 }
 
-// What a reply says. That to `seek` or `leave` has no number in it, so theirs are those of the line.
+// What a reply says. That to `seek` or `leave` has no number in it, so theirs are those of the line. A desk's slice ends at
+// a count of committed messages, so no sum is cut at the limit of its type.
 fn answer_of(reply: Reply, seat: u32, count: u64) -> Answer {
     match reply {
         Reply::Host(Ok(number)) => Answer::Accepted(number),
