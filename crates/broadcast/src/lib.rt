@@ -11,3 +11,6 @@ pub use desk::Desk;
 pub use refusal::{JoinRefusal, LeaveRefusal, NextRefusal, SeekRefusal};
 pub use seat::{Seat, Seated, Start};
 pub use step::{Reply, Step};
+
+#[cfg(test)]
+mod tests;
