@@ -1,4 +1,5 @@
-// Why a step of a seat is refused, with the numbers that programs print.
+//! Why a step of a seat is refused, with the numbers that programs print.
+
 ghost use Rattle.std.specs.Prelude.{◌≡◌};
 ghost use Rattle.broadcast.specs.Refusals.{join_number, next_number, seek_number, leave_number, next_refusal};
 

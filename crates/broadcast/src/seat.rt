@@ -1,4 +1,5 @@
-// A viewer's place in the recording.
+//! A viewer's place in the recording.
+
 ghost use Rattle.std.specs.Prelude.{◌≡◌};
 
 use std::marker::Model;
@@ -12,23 +13,24 @@ pub enum Start {
     At(u64),
 }
 
-/// What a desk keeps of a seat: how many messages stand before the next one that it is handed, and whether that comes with
-/// the screen there.
+/// What a desk keeps of a seat: how many messages stand before the next one that it is handed, and
+/// whether that comes with the screen there.
 #[derive(Clone, Copy, Debug, PartialEq, Eq)]
 pub struct Place {
     pub position: u64,
     pub fresh: bool,
 }
 
-/// A seat that was just taken: its number, from 0, and its position, the number of messages before the next one.
+/// A seat that was just taken: its number, from 0, and its position, the number of messages before
+/// the next one.
 #[derive(Clone, Copy, Debug, PartialEq, Eq)]
 pub struct Seated {
     pub number: u32,
     pub position: u64,
 }
 
-/// A viewer's seat at a desk: its number, its position, and whether it is fresh. It is made by `join` alone, and given back
-/// by `leave`. Contracts see the three.
+/// A viewer's seat at a desk: its number, its position, and whether it is fresh. It is made by
+/// `join` alone, and given back by `leave`. Contracts see the three.
 #[derive(Debug, Drop)]
 pub struct Seat {
     number: u32,

@@ -1,4 +1,5 @@
-// The seats of a desk.
+//! The seats of a desk.
+
 ghost use Rattle.std.specs.Prelude.{◌≡◌, ◌<◌, List, Option, IfSome, MatchOption, Some, None, length};
 
 use crate::seat::Place;

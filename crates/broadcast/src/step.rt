@@ -1,4 +1,4 @@
-// Steps of a desk, and its replies.
+//! Steps of a desk, and its replies.
 
 use crate::refusal::{JoinRefusal, LeaveRefusal, NextRefusal, SeekRefusal};
 use crate::seat::{Seated, Start};

@@ -1,4 +1,5 @@
--- Streams of messages, over any reading that is local: what is given adds up, and a stream has one reading.
+-- Streams of messages, over any reading that is local: what is given adds up, and a stream has one
+-- reading.
 use Rattle.std.proofs.Common.{◌≡◌, ℕ, List, [], ◌∷◌, ◌++◌, length, refl, sym, ap, ◌∙◌, subst, arith, append_assoc}
 use Rattle.std.specs.List.{flat_map, AllByRecursion}
 use Rattle.std.proofs.lemmas.List.{append-nil, append_cancel_right}

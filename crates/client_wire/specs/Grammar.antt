@@ -1,5 +1,6 @@
--- The messages of a viewer (RFC 6143, section 7.5), read from the front of a list of bytes. Each field
--- is judged once it is whole, in the order of the fields: so the first fault is the one that is met.
+-- The messages of a viewer (RFC 6143, section 7.5), read from the front of a list of bytes. Each
+-- field is judged once it is whole, in the order of the fields: so the first fault is the one that
+-- is met.
 use Rattle.std.specs.Prelude.{ℕ, ℤ, ◌*◌, List, [], ◌∷◌, drop, slice_index, nat_eq, Result, Ok, Err, if◌then◌else◌}
 use Rattle.pixel_format.specs.Reading.{Reading, Got, Bad, ◌>>=◌, field}
 use Rattle.pixel_format.specs.Format.{Format}
@@ -30,13 +31,13 @@ numbers_of _ = []
 unfoldable pub encodings_at : ℕ → List ℕ → Reading ClientMessage WireFault
 encodings_at count bytes = field (4 * count) bytes >>= λ f rest. Got (messages.SetEncodings (numbers_of f)) rest
 
--- SetEncodings, behind its type 2: a byte of padding, the number of encodings, and the number of each
--- (section 7.5.2)
+-- SetEncodings, behind its type 2: a byte of padding, the number of encodings, and the number of
+-- each (section 7.5.2)
 unfoldable pub set_encodings_at : List ℕ → Reading ClientMessage WireFault
 set_encodings_at bytes = field 3 bytes >>= λ f rest. encodings_at (u16_at f 1) rest
 
--- FramebufferUpdateRequest, behind its type 3: the incremental flag, which is true when it isn't 0, and
--- x, y, width and height (section 7.5.3)
+-- FramebufferUpdateRequest, behind its type 3: the incremental flag, which is true when it isn't 0,
+-- and x, y, width and height (section 7.5.3)
 unfoldable pub request_at : List ℕ → Reading ClientMessage WireFault
 request_at bytes = field 9 bytes >>= λ f rest.
     Got (messages.Request (is_flag (slice_index f 0)) (u16_at f 1) (u16_at f 3) (u16_at f 5) (u16_at f 7)) rest
@@ -45,14 +46,14 @@ request_at bytes = field 9 bytes >>= λ f rest.
 unfoldable pub input_at : ℕ → ℕ → List ℕ → Reading ClientMessage WireFault
 input_at kind left bytes = field left bytes >>= λ f rest. Got (messages.Input kind) rest
 
--- ClientCutText, behind its type 6: three bytes of padding, the text's length, and the text (section
--- 7.5.6)
+-- ClientCutText, behind its type 6: three bytes of padding, the text's length, and the text
+-- (section 7.5.6)
 unfoldable pub cut_text_at : List ℕ → Reading ClientMessage WireFault
 cut_text_at bytes = field 7 bytes >>= λ f rest. input_at 6 (u32_at f 3) rest
 
--- What follows the type of a message. KeyEvent, type 4, has seven more bytes: the down-flag, two bytes of
--- padding and the key (section 7.5.4). PointerEvent, type 5, has five: the button-mask, x and y (section
--- 7.5.5).
+-- What follows the type of a message. KeyEvent, type 4, has seven more bytes: the down-flag, two
+-- bytes of padding and the key (section 7.5.4). PointerEvent, type 5, has five: the button-mask, x
+-- and y (section 7.5.5).
 unfoldable pub body_at : ℕ → List ℕ → Reading ClientMessage WireFault
 body_at kind bytes =
     if nat_eq kind 0 then set_pixel_format_at bytes

@@ -6,8 +6,8 @@ use Rattle.client_wire.specs.Number.{u16_at, u32_at, signed}
 use Rattle.client_wire.specs.declared.message.ClientMessage.{ClientMessage}
 use Rattle.client_wire.specs.declared.message.ClientMessage.TheVariants as messages
 
--- SetPixelFormat: type 0, three bytes of padding, and the 16 bytes of a true-color format that is valid
--- (sections 7.5.1 and 7.4)
+-- SetPixelFormat: type 0, three bytes of padding, and the 16 bytes of a true-color format that is
+-- valid (sections 7.5.1 and 7.4)
 pub record IsSetPixelFormat (bytes : List ℕ) (f : Format) : Type 0 where
   pub padding : List ℕ
   pub format : List ℕ

@@ -52,7 +52,8 @@ abbrev pub follow : Step → List ℕ → Reading ClientMessage WireFault
 follow (steps.Goes p) bytes = position_at p bytes
 follow (steps.Whole m) bytes = Got m bytes
 
--- the start of a field that has bytes, or of some bytes that are read over, at this place of the message
+-- the start of a field that has bytes, or of some bytes that are read over, at this place of the
+-- message
 abbrev pub BeginsAt : ℕ → Position → Type 0
 BeginsAt at (positions.Field stage) = (start_of stage ≡ at) × (0 < wants_of stage) × (at + wants_of stage ≤ kept_limit)
 BeginsAt at (positions.ReadOver o) = (o.passed ≡ 0) × (0 < o.left) × (o.left < 2 ^ 32) × (at ≤ 8)
@@ -61,8 +62,8 @@ abbrev pub StepBeginsAt : ℕ → Step → Type 0
 StepBeginsAt at (steps.Goes p) = BeginsAt at p
 StepBeginsAt at (steps.Whole m) = Unit {0}
 
--- The stage's field has begun. What the message says, whatever comes, is what the bytes from the field on
--- say.
+-- The stage's field has begun. What the message says, whatever comes, is what the bytes from the
+-- field on say.
 pub record IsLinked (bytes : List ℕ) (stage : Stage) : Type 0 where
   pub link : (more : List ℕ) → message_at (bytes ++ more) ≡ resume stage (drop (start_of stage) bytes ++ more)
   pub begun : start_of stage ≤ length bytes
@@ -73,8 +74,8 @@ pub record IsInField (bytes : List ℕ) (stage : Stage) : Type 0 where
   pub unfinished : length bytes < start_of stage + wants_of stage
   pub short : start_of stage + wants_of stage ≤ kept_limit
 
--- The reader stands in bytes that are read over. Behind what is kept and as many bytes as have passed,
--- whichever they were, those that are left come to the message's end.
+-- The reader stands in bytes that are read over. Behind what is kept and as many bytes as have
+-- passed, whichever they were, those that are left come to the message's end.
 pub record IsOver (bytes : List ℕ) (o : Over) : Type 0 where
   pub link : (skipped more : List ℕ) → length skipped ≡ o.passed
       → message_at ((bytes ++ skipped) ++ more) ≡ input_at o.kind o.left more

@@ -2,13 +2,13 @@
 use Rattle.std.specs.Prelude.{ℕ, List, Option}
 use Rattle.client_wire.specs.declared.fault.WireFault.{WireFault}
 
--- Fewer bytes than these are kept, whatever comes: the longest message whose bytes are kept, a SetEncodings
--- of 65,535 encodings, has as many.
+-- Fewer bytes than these are kept, whatever comes: the longest message whose bytes are kept, a
+-- SetEncodings of 65,535 encodings, has as many.
 abbrev pub kept_limit : ℕ
 kept_limit = 262144
 
--- Of an unfinished message the bytes that are kept and the number of those that are read over, and the
--- fault that was met, if one was.
+-- Of an unfinished message the bytes that are kept and the number of those that are read over, and
+-- the fault that was met, if one was.
 pub record Reader : Type 0 where
   pub kept : List ℕ
   pub passed : ℕ

@@ -1,5 +1,5 @@
--- A stream of messages, and what a reader that gets it in pieces has made of it. `read` says which message
--- bytes begin with, and `give` what is given of a message and its bytes.
+-- A stream of messages, and what a reader that gets it in pieces has made of it. `read` says which
+-- message bytes begin with, and `give` what is given of a message and its bytes.
 use Rattle.std.specs.Prelude.{◌≡◌, ℕ, List, [], ◌∷◌, ◌++◌, length}
 use Rattle.std.specs.List.{flat_map, AllByRecursion}
 use Rattle.pixel_format.specs.Reading.{Reading, Got, More, Bad}
@@ -34,8 +34,8 @@ pub record FaultOf {M : Type 0} (read : List ℕ → Reading M WireFault) (strea
   pub reads : Reads read stream parts rest
   pub fault : read rest ≡ Bad f
 
--- What a reader stands for: the bytes of an unfinished message, of which it keeps some and counts the
--- others, which are read over.
+-- What a reader stands for: the bytes of an unfinished message, of which it keeps some and counts
+-- the others, which are read over.
 pub record StandsFor (kept : List ℕ) (passed : ℕ) (rest : List ℕ) : Type 0 where
   pub skipped : List ℕ
   pub count : length skipped ≡ passed
@@ -51,23 +51,23 @@ pub record Gives {M G : Type 0} (read : List ℕ → Reading M WireFault) (give 
   pub given : new ≡ old ++ given_of give parts
   pub reads : Reads read stream parts rest
 
--- The stream's messages are given, and a reader that keeps these bytes, and has read over so many, stands
--- for the rest.
+-- The stream's messages are given, and a reader that keeps these bytes, and has read over so many,
+-- stands for the rest.
 pub record Moves {M G : Type 0} (read : List ℕ → Reading M WireFault) (give : M → List ℕ → List G) (kept : List ℕ) (passed : ℕ) (old new : List G) (stream : List ℕ) : Type 0 where
   pub rest : List ℕ
   pub gives : Gives read give old new stream rest
   pub stands : StandsFor kept passed rest
 
--- The stream's messages are given, and the reader stands for the rest, which is an unfinished message
--- with no fault so far.
+-- The stream's messages are given, and the reader stands for the rest, which is an unfinished
+-- message with no fault so far.
 pub record Goes {M G : Type 0} (read : List ℕ → Reading M WireFault) (give : M → List ℕ → List G) (kept : List ℕ) (passed : ℕ) (old new : List G) (stream : List ℕ) : Type 0 where
   pub rest : List ℕ
   pub gives : Gives read give old new stream rest
   pub stands : StandsFor kept passed rest
   pub waits : read rest ≡ More
 
--- The messages before the place where a reader stops are given. Unless memory ran out there, a fault of
--- the stream stands at that place.
+-- The messages before the place where a reader stops are given. Unless memory ran out there, a
+-- fault of the stream stands at that place.
 pub record Stops {M G : Type 0} (read : List ℕ → Reading M WireFault) (give : M → List ℕ → List G) (f : WireFault) (old new : List G) (stream : List ℕ) : Type 0 where
   pub rest : List ℕ
   pub gives : Gives read give old new stream rest

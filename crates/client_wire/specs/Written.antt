@@ -10,8 +10,8 @@ use Rattle.client_wire.specs.Number.{u32_bytes, unsigned}
 abbrev pub set_pixel_format_bytes : Format → List ℕ
 set_pixel_format_bytes f = 0 ∷ 0 ∷ 0 ∷ 0 ∷ format_bytes f
 
--- SetEncodings: type 2, a byte of padding, the number of encodings, and each encoding's number (section
--- 7.5.2)
+-- SetEncodings: type 2, a byte of padding, the number of encodings, and each encoding's number
+-- (section 7.5.2)
 abbrev pub encodings_head : ℕ → List ℕ
 encodings_head n = 2 ∷ 0 ∷ n / 256 ∷ n % 256 ∷ []
 
@@ -21,8 +21,8 @@ number_bytes n = u32_bytes (unsigned n)
 abbrev pub set_encodings_bytes : List ℤ → List ℕ
 set_encodings_bytes numbers = encodings_head (length numbers) ++ flat_map number_bytes numbers
 
--- FramebufferUpdateRequest: type 3, the flag of an incremental request, and the area: x, y, width, height
--- (section 7.5.3)
+-- FramebufferUpdateRequest: type 3, the flag of an incremental request, and the area: x, y, width,
+-- height (section 7.5.3)
 abbrev pub request_bytes : Bool → Area → List ℕ
 request_bytes incremental a = 3 ∷ flag incremental
     ∷ a.x / 256 ∷ a.x % 256 ∷ a.y / 256 ∷ a.y % 256 ∷ a.w / 256 ∷ a.w % 256 ∷ a.h / 256 ∷ a.h % 256 ∷ []

@@ -26,7 +26,8 @@ pub enum WireFault {
     /// A subrectangle of an RRE rectangle leaves the rectangle.
     #[error("RRE data that are refused")]
     BadRre,
-    /// In a Hextile rectangle, a tile's mask may not stand there, or a subrectangle leaves its tile.
+    /// In a Hextile rectangle, a tile's mask may not stand there, or a subrectangle leaves its
+    /// tile.
     #[error("Hextile data that are refused")]
     BadHextile,
     /// The area from which a CopyRect rectangle is copied leaves the screen.
@@ -41,8 +42,8 @@ pub enum WireFault {
 }
 
 impl WireFault {
-    /// The fault's number, by which it is printed: 1 to 7 in the order above, 8 for a pixel format, and 9
-    /// for want of memory.
+    /// The fault's number, by which it is printed: 1 to 7 in the order above, 8 for a pixel format,
+    /// and 9 for want of memory.
     pub fn number(&self) -> u8
         ensures { result ≡ wire_number self.now }
     {

@@ -40,7 +40,8 @@ pub fn encodings_in(alloc: Global, field: &[u8]) -> Result<Encodings, AllocError
     Ok(Encodings::from_vec(numbers))
 }
 
-/// The message of the field behind the type of a FramebufferUpdateRequest (RFC 6143, section 7.5.3).
+/// The message of the field behind the type of a FramebufferUpdateRequest (RFC 6143, section
+/// 7.5.3).
 pub fn request_in(field: &[u8]) -> ClientMessage
     requires { length field.now ≡ 9 }
     ensures { result ≡ ClientMessage.Request (is_flag (slice_index field.now 0))

@@ -82,8 +82,8 @@ fn cut_text(bytes: &[u8]) -> Result<Option<(ClientMessage, &[u8])>, WireFault>
     input(6, length as usize, text)
 }
 
-/// The message that the bytes begin with, and the bytes behind it; `None` where they are too few for
-/// it, and the fault that they begin with. It reads the bytes from their front, while a
+/// The message that the bytes begin with, and the bytes behind it; `None` where they are too few
+/// for it, and the fault that they begin with. It reads the bytes from their front, while a
 /// `ClientReader` takes them in pieces.
 pub fn read_client_message(
     alloc: Global,

@@ -225,7 +225,8 @@ impl Progress {
         Ok(taken)
     }
 
-    // Takes bytes of a piece up to the end of a field, or of what is read over, and answers how many.
+    // Takes bytes of a piece up to the end of a field, or of what is read over, and answers how
+    // many.
     fn turn(
         &mut self,
         alloc: Global,

@@ -12,9 +12,9 @@ use crate::progress::Progress;
 use std::alloc::Global;
 use std::marker::Model;
 
-/// Reads a viewer's messages from its stream, which comes in pieces of any length (RFC 6143, section
-/// 7.5). Each byte is looked at once, and memory is taken for bytes that have come alone; the bytes of
-/// an input message are counted and not kept.
+/// Reads a viewer's messages from its stream, which comes in pieces of any length (RFC 6143,
+/// section 7.5). Each byte is looked at once, and memory is taken for bytes that have come alone;
+/// the bytes of an input message are counted and not kept.
 #[derive(Drop)]
 pub struct ClientReader {
     alloc: Global,

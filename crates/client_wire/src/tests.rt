@@ -1,3 +1,5 @@
+//! What no clause says: messages of a viewer worked by hand, in pieces of every length.
+
 ghost use Rattle.std.specs.Prelude.{◌<◌, length};
 
 use super::*;
@@ -253,8 +255,8 @@ fn input_that_is_written(rt: HostRuntime) -> Result<(), Fail> {
     Ok(())
 }
 
-// Whether the plain function and a reader, which gets one byte at a time, say the same of bytes that
-// begin with at most one message.
+// Whether the plain function and a reader, which gets one byte at a time, say the same of bytes
+// that begin with at most one message.
 fn agree(alloc: Global, bytes: &[u8]) -> bool {
     let (messages, fault) = read(alloc, bytes, 1);
     match read_client_message(alloc, bytes) {

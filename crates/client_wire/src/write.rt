@@ -60,8 +60,8 @@ fn append_encodings(encodings: &[i32], out: &mut Vec<u8>) -> Result<(), NoMemory
     Ok(())
 }
 
-/// Appends a FramebufferUpdateRequest for an area (RFC 6143, section 7.5.3). An incremental one asks
-/// only for what has changed.
+/// Appends a FramebufferUpdateRequest for an area (RFC 6143, section 7.5.3). An incremental one
+/// asks only for what has changed.
 pub fn write_request(incremental: bool, area: Area, out: &mut Vec<u8>) -> Result<(), NoMemory>
     ensures ok { OnOk result (out.new.items ≡ out.old.items ++ request_bytes incremental area) }
     ensures err { OnErr result (out.new.items ≡ out.old.items) }

@@ -16,7 +16,8 @@ IsLeft Held c file = file ≡ c.held
 IsLeft Now c file = file ≡ c.now
 IsLeft (Byte byte) c file = IsOverwritten byte c file
 
--- the same of the present moment, or of the one before it, if the present one is a write that a stop met
+-- the same of the present moment, or of the one before it, if the present one is a write that a
+-- stop met
 abbrev pub IsLeftBehind : Fill → History → Bool → List ℕ → Type 0
 IsLeftBehind fill h ends_in_stopped_write file =
     IsLeft fill (present h) file ⊎ (IsTrue ends_in_stopped_write × IsLeft fill (h.at (h.moment - 1)) file)

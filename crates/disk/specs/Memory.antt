@@ -1,4 +1,5 @@
--- The moments of a memory disk, from its file and its record of writes and syncs: undoing gives the past.
+-- The moments of a memory disk, from its file and its record of writes and syncs: undoing gives the
+-- past.
 use Rattle.std.specs.Prelude.{◌≡◌, ℕ, ◌-◌, min, zero, suc, Bool, false, ◌||◌, List, [], ◌∷◌, length, take, drop}
 use Rattle.disk.specs.Overwrite.{Overwrite}
 use Rattle.disk.specs.Contents.{Contents, put, is_between}
@@ -6,7 +7,8 @@ use Rattle.disk.specs.History.{History}
 use Rattle.disk.specs.declared.memory.Event.{Event}
 use Rattle.disk.specs.declared.memory.Event.TheVariants.{Wrote, Synced}
 
--- the file, what was written and synced since it was made (the newest first), and how many calls have failed
+-- the file, what was written and synced since it was made (the newest first), and how many calls
+-- have failed
 pub record Kept : Type 0 where
   pub bytes : List ℕ
   pub events : List Event
@@ -16,8 +18,8 @@ pub record Kept : Type 0 where
 abbrev pub noted_write : ℕ → List ℕ → List ℕ → Overwrite
 noted_write place bytes file = record { place = place; count = length bytes; length_before = length file; replaced = take (length bytes) (drop place file) }
 
--- The file before this write: what it replaced is put back, and what it added is gone. Undoing never makes a file
--- longer, whatever the note says.
+-- The file before this write: what it replaced is put back, and what it added is gone. Undoing
+-- never makes a file longer, whatever the note says.
 unfoldable pub before_write : Overwrite → List ℕ → List ℕ
 before_write w file = take (min w.length_before (length file)) (put file w.place (take w.count w.replaced))
 

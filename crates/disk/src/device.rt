@@ -1,20 +1,23 @@
-// The trait, with the rules of a disk that may crash.
+//! The trait, with the rules of a disk that may crash.
+
 ghost use Rattle.std.specs.Prelude.{◌≡◌, ◌⊎◌, ◌+◌, ◌-◌, ◌<◌, ◌≤◌, ◌^◌, List, ℕ, length, take, drop, IfOk, OnOk, OnErr};
 ghost use Rattle.disk.specs.Contents.{CountsFailure};
 
 use thiserror::Error;
 
-/// The device failed in this call. What the call leaves is said at each one; the disk may be used again.
+/// The device failed in this call. What the call leaves is said at each one; the disk may be used
+/// again.
 #[derive(Clone, Copy, Debug, PartialEq, Eq, Error)]
 #[error("the device failed")]
 pub struct DiskFault;
 
 /// A disk with one file, whose bytes may be read, overwritten and added to. There is no cut.
 ///
-/// Its rules are those of a disk that may crash at any moment, in the middle of a call too. Contracts see three
-/// things at each moment: `now`, what reads give; `held`, what stood at the last successful sync; `touched`, the places
-/// written since. A crash leaves a file of a length between, with held's byte at each untouched place. Each clause has
-/// as its premise that the type is such a disk (`is_modelled`): of a real file nothing is said.
+/// Its rules are those of a disk that may crash at any moment, in the middle of a call too.
+/// Contracts see three things at each moment: `now`, what reads give; `held`, what stood at the
+/// last successful sync; `touched`, the places written since. A crash leaves a file of a length
+/// between, with held's byte at each untouched place. Each clause has as its premise that the type
+/// is such a disk (`is_modelled`): of a real file nothing is said.
 pub trait Disk {
     ghost use Rattle.disk.specs.Contents.{IsWritten, IsWithinWrite, IsSynced, CountsFailure, Agrees};
     ghost use Rattle.disk.specs.History.{History, present, GoesOn};
@@ -42,8 +45,9 @@ pub trait Disk {
         ensures same { is_modelled → history self.new ≡ history self.old }
         ensures counts { is_modelled → CountsFailure (failures self.old) (failures self.new) result };
 
-    /// Writes over what is there, and past the end. Until a sync, a crash may leave any bytes in the range; after a
-    /// fault the range may have any bytes, and the length is between the old one and that of a whole write.
+    /// Writes over what is there, and past the end. Until a sync, a crash may leave any bytes in
+    /// the range; after a fault the range may have any bytes, and the length is between the old one
+    /// and that of a whole write.
     fn write_at(&mut self, place: u64, bytes: &[u8]) -> Result<(), DiskFault>
         requires fits { place + length bytes.now < 2 ^ 64 }
         requires within { is_modelled → place ≤ length (present (history self.old)).now }
@@ -51,7 +55,8 @@ pub trait Disk {
         ensures goes_on { is_modelled → GoesOn (history self.old) (history self.new) (IsWithinWrite place (length bytes.now) (present (history self.old))) }
         ensures counts { is_modelled → CountsFailure (failures self.old) (failures self.new) result };
 
-    /// Brings all that was written through a later crash. A fault leaves what was touched as it was.
+    /// Brings all that was written through a later crash. A fault leaves what was touched as it
+    /// was.
     fn sync(&mut self) -> Result<(), DiskFault>
         ensures synced { is_modelled → OnOk result (IsSynced (present (history self.old)) (present (history self.new))) }
         ensures failed { is_modelled → OnErr result (present (history self.new) ≡ present (history self.old)) }

@@ -1,12 +1,13 @@
-// A disk with one call that fails.
+//! A disk with one call that fails.
+
 ghost use Rattle.std.specs.Prelude.{◌≡◌};
 
 use crate::device::{Disk, DiskFault, counted, one_more_failed};
 use crate::switch::Switch;
 use std::marker::Model;
 
-/// A disk on which one call fails, the one after as many more as its `Switch` says, and does nothing. It goes on after
-/// that.
+/// A disk on which one call fails, the one after as many more as its `Switch` says, and does
+/// nothing. It goes on after that.
 #[derive(Drop)]
 pub struct FailingDisk<D: Disk> {
     pub(crate) disk: D,

@@ -1,4 +1,5 @@
-// A disk that stops.
+//! A disk that stops.
+
 ghost use Rattle.std.specs.Prelude.{◌≡◌, ◌+◌, ◌<◌, ◌≤◌, ◌^◌, false, [], length, OnOk};
 ghost use Rattle.disk.specs.Contents.{MayLeave, IsWritten, IsWithinWrite, CountsFailure};
 ghost use Rattle.disk.specs.Crash.{IsLeftBehind};
@@ -11,11 +12,12 @@ use crate::memory::{Fill, MemoryDisk};
 use crate::switch::Switch;
 use std::marker::Model;
 
-/// A disk in memory that stops: as many calls pass as its `Switch` says, and then each call fails. What a crash then
-/// leaves of it is `left`.
+/// A disk in memory that stops: as many calls pass as its `Switch` says, and then each call fails.
+/// What a crash then leaves of it is `left`.
 ///
-/// The first write that the stop meets was under way as the device stopped: it fails, and is one of the disk's moments
-/// all the same, so that what is left may have it. Where there is no memory for it, the device stopped before it.
+/// The first write that the stop meets was under way as the device stopped: it fails, and is one of
+/// the disk's moments all the same, so that what is left may have it. Where there is no memory for
+/// it, the device stopped before it.
 #[derive(Drop)]
 pub struct FusedDisk {
     disk: FailingDisk<MemoryDisk>,
@@ -53,8 +55,8 @@ impl FusedDisk {
 
     /// What a crash now leaves, as a sound disk with an empty record. It takes no memory.
     ///
-    /// A stopped write that a later arming has forgotten is taken back, if nothing was written or synced since: what
-    /// is left is then filled as the disk was before it.
+    /// A stopped write that a later arming has forgotten is taken back, if nothing was written or
+    /// synced since: what is left is then filled as the disk was before it.
     pub fn left(self, fill: Fill) -> MemoryDisk
         ensures allowed { MayLeave (present (history_of self.disk.disk)) result.bytes }
         ensures filled { IsLeftBehind fill (history_of self.disk.disk) self.ends_in_stopped_write result.bytes }

@@ -1,4 +1,5 @@
-// A disk in memory, which can tell its past.
+//! A disk in memory, which can tell its past.
+
 ghost use Rattle.std.specs.Prelude.{◌≡◌, ◌+◌, ◌<◌, ◌≤◌, ◌^◌, [], ◌∷◌, ◌++◌, length, take, drop, IsOk, IfOk, OnOk, OnErr};
 ghost use Rattle.disk.specs.Contents.{put, IsOnDisk, CountsFailure};
 ghost use Rattle.disk.specs.History.{present};
@@ -39,8 +40,9 @@ enum Event {
     Synced,
 }
 
-/// A disk whose file is in memory. It keeps a record of every write, with the bytes that it replaced, and of every
-/// sync, so that contracts can read what is held, what was touched and each moment of the past.
+/// A disk whose file is in memory. It keeps a record of every write, with the bytes that it
+/// replaced, and of every sync, so that contracts can read what is held, what was touched and each
+/// moment of the past.
 ///
 /// A call fails where it finds no memory, and does nothing then.
 #[derive(Drop)]

@@ -1,13 +1,16 @@
-// When the disks of a drill fail.
+//! When the disks of a drill fail.
+
 use std::alloc::{AllocError, Global};
 use std::sync::Arc;
 use std::sync::atomic::{AtomicBool, AtomicU64, Ordering};
 
-/// Says when a `FailingDisk` and a `FusedDisk` fail. It is handed to them as they are made, and what holds a clone of
-/// it arms them also while something else has the disk. Each disk counts every call made to it, `len` and `read_at`
-/// too. An arming takes the place of the last one of its kind.
+/// Says when a `FailingDisk` and a `FusedDisk` fail. It is handed to them as they are made, and
+/// what holds a clone of it arms them also while something else has the disk. Each disk counts
+/// every call made to it, `len` and `read_at` too. An arming takes the place of the last one of its
+/// kind.
 ///
-/// A word in memory that threads share tells a contract nothing: that calls fail when they should is tested.
+/// A word in memory that threads share tells a contract nothing: that calls fail when they should
+/// is tested.
 #[derive(Clone, Drop)]
 pub struct Switch {
     arms: Arc<Arms>,
@@ -15,7 +18,8 @@ pub struct Switch {
 
 #[derive(Drop)]
 struct Arms {
-    /// How many calls of a `FailingDisk` there are up to the one that fails; 0 when none is to fail.
+    /// How many calls of a `FailingDisk` there are up to the one that fails; 0 when none is to
+    /// fail.
     calls_to_failure: AtomicU64,
     /// The same up to the first call that a `FusedDisk` stops; 1 from then on.
     calls_to_stop: AtomicU64,
@@ -36,14 +40,15 @@ impl Switch {
         })
     }
 
-    /// After this many more calls, one call fails. (The largest number counts as one less: no run gets there.)
+    /// After this many more calls, one call fails. (The largest number counts as one less: no run
+    /// gets there.)
     pub fn fail_after(&self, calls: u64) {
         let failing = calls.saturating_add(1);
         self.arms.calls_to_failure.store(failing, Ordering::SeqCst);
     }
 
-    /// After this many more calls, each call fails. A write that an earlier stop met is forgotten. (The largest number
-    /// counts as one less: no run gets there.)
+    /// After this many more calls, each call fails. A write that an earlier stop met is forgotten.
+    /// (The largest number counts as one less: no run gets there.)
     pub fn stop_after(&self, calls: u64) {
         let stopping = calls.saturating_add(1);
         self.arms.has_stopped_write.store(false, Ordering::SeqCst);

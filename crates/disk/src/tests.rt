@@ -1,5 +1,6 @@
-// What no clause says: that calls succeed where there is memory, and when the calls of an armed disk fail. The bytes
-// that a crash leaves are worked out by hand from the rules.
+//! What no clause says: that calls succeed where there is memory, and when the calls of an armed
+//! disk fail. The bytes that a crash leaves are worked out by hand from the rules.
+
 use crate::{Disk, DiskFault, FailingDisk, Fill, FusedDisk, MemoryDisk, Switch};
 use std::alloc::{AllocError, Global};
 use std::test::Fail;

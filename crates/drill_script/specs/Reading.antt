@@ -16,7 +16,8 @@ use Rattle.drill_script.specs.declared.line.Start.TheVariants as starts
 use Rattle.drill_script.specs.declared.line.Line.{Line}
 use Rattle.drill_script.specs.Grammar.{Command, command_of, NewCommand, HostCommand, TakeCommand, BodyCommand, GateCommand, OpenCommand, PixelCommand, FailCommand, StopCommand, JoinCommand, NextCommand, SeekCommand, LeaveCommand, decimal}
 
--- What a call that takes no memory answered, seen by view, and the words that it left, are what reading gives.
+-- What a call that takes no memory answered, seen by view, and the words that it left, are what
+-- reading gives.
 abbrev pub Reads : {A B : Type 0} → (A → B) → Result A LineFault → List (List ℕ) → Option (B × List (List ℕ)) → Type 0
 Reads view (Ok x) after read = read ≡ Some (view x, after)
 Reads view (Err Bad) after read = read ≡ None

@@ -261,9 +261,9 @@ fn line(alloc: Global, text: &[u8]) -> Result<Line, LineFault>
 /// Reads one line, without its newline.
 ///
 /// A line is words with single spaces between them: a space at either end, or two together, make it
-/// bad. Numbers are decimal digits alone and fit their type. HEX is one word of hexadecimal digits or
-/// more, joined before they are judged. A name is one word of any bytes. What follows the first word
-/// is as the variants of [`Line`] say.
+/// bad. Numbers are decimal digits alone and fit their type. HEX is one word of hexadecimal digits
+/// or more, joined before they are judged. A name is one word of any bytes. What follows the first
+/// word is as the variants of [`Line`] say.
 ///
 /// Only a text that begins with `new` or `host` takes memory.
 pub fn read_line(alloc: Global, text: &[u8]) -> Result<Line, LineFault>

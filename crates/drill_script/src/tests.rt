@@ -1,3 +1,5 @@
+//! What no clause says: lines of drills, worked by hand.
+
 use super::*;
 use std::test::Fail;
 

@@ -23,8 +23,8 @@ is_in x y w h column row is = rw (le-leb x column is.left, lt-ltb column (x + w)
 pub not_in : (x y w h column row : ℕ) → (IsIn x y w h column row → ⊥) → covers x y w h column row ≡ false
 not_in x y w h column row out = false_from_ne_true (covers x y w h column row) (λ e. out (in_is x y w h column row e))
 
--- a part of a rectangle covers the same places, whether they count from the canvas's corner or from the
--- rectangle's
+-- a part of a rectangle covers the same places, whether they count from the canvas's corner or from
+-- the rectangle's
 pub shifted : (x y a b w h column row : ℕ) → x ≤ column → y ≤ row
     → covers (x + a) (y + b) w h column row ≡ covers a b w h (column - x) (row - y)
 shifted x y a b w h column row left top =

@@ -1,5 +1,5 @@
--- What is refused has a mask that may not stand there or a subrectangle outside its tile, and what is
--- measured is data.
+-- What is refused has a mask that may not stand there or a subrectangle outside its tile, and what
+-- is measured is data.
 use Rattle.std.proofs.Common.{◌≡◌, ℕ, zero, suc, ◌+◌, ◌-◌, ◌*◌, ◌<◌, ◌≤◌, ◌⊎◌, inl, inr, Bool, true, false, List, [], ◌∷◌, ◌++◌, length, take, refl, sym, ap, ◌∙◌, subst, arith, append_assoc, length-append, cond, Ok, Err}
 use Rattle.std.specs.Prelude.{nat_lt, slice_index, Result, IfOk}
 use Rattle.std.proofs.lemmas.List.{take_at}

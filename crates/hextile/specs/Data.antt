@@ -1,5 +1,5 @@
--- What the data of a Hextile rectangle are (RFC 6143, section 7.7.4): a relation between a pixel format,
--- the rectangle's size, bytes, and the tiles that they say.
+-- What the data of a Hextile rectangle are (RFC 6143, section 7.7.4): a relation between a pixel
+-- format, the rectangle's size, bytes, and the tiles that they say.
 use Rattle.std.specs.Prelude.{◌≡◌, ℕ, ◌+◌, ◌*◌, ◌/◌, ◌%◌, ◌<◌, ◌≤◌, ◌⊎◌, List, [], ◌∷◌, ◌++◌, length, Option, Some, None, Bool, true, false}
 use Rattle.pixel_format.specs.declared.Color.{Color}
 use Rattle.pixel_format.specs.Format.{Format, pixel_bytes}
@@ -29,8 +29,8 @@ foreground_of (Parts background (Some color) parts ∷ before) = Some color
 abbrev pub IsNamed : Option Color → Type 0
 IsNamed named = (color : Color) × (named ≡ Some color)
 
--- What a mask of a tile that isn't raw has to keep to, behind the tiles before it, the latest of which
--- stands first.
+-- What a mask of a tile that isn't raw has to keep to, behind the tiles before it, the latest of
+-- which stands first.
 pub record IsAllowed (before : List Tile) (byte : ℕ) (m : Mask) : Type 0 where
   pub known : byte < 32
   pub apart : m.foreground ≡ true → m.colored ≡ true → ⊥
@@ -85,8 +85,8 @@ AreSubrectangles f colored w h (s ∷ others) bytes =
     (first : List ℕ) × (rest : List ℕ) × (bytes ≡ first ++ rest) × AreBytesOf f colored s first × LiesWithin w h s
     × AreSubrectangles f colored w h others rest
 
--- what stands between the mask and the subrectangles: the pixels of the background and the foreground,
--- and how many subrectangles follow
+-- what stands between the mask and the subrectangles: the pixels of the background and the
+-- foreground, and how many subrectangles follow
 pub record IsHead (f : Format) (m : Mask) (background foreground : Option Color) (count : ℕ) (head : List ℕ) : Type 0 where
   pub first : List ℕ
   pub second : List ℕ

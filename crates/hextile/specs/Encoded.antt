@@ -1,5 +1,5 @@
--- What an encoder makes of colours by rows: tiles of parts of one colour each over a background, or of
--- pixels.
+-- What an encoder makes of colours by rows: tiles of parts of one colour each over a background, or
+-- of pixels.
 use Rattle.std.specs.Prelude.{◌≡◌, ℕ, ◌+◌, ◌*◌, ◌/◌, ◌%◌, ◌<◌, ◌≤◌, List, [], ◌∷◌, ◌++◌, length, reverse, map, All, slice_index_or, Option, Some, None, Bool, true, false, if◌then◌else◌}
 use Rattle.pixel_format.specs.declared.Color.{Color}
 use Rattle.pixel_format.specs.Format.{Format}
@@ -29,12 +29,13 @@ pub record Shows (f : Format) (w h : ℕ) (colors : List Color) (bytes : List �
 
 -- ---- how the encoder goes on
 
--- the first so many colours of a tile of width tw are those of the rectangle, whose rows have w places
+-- the first so many colours of a tile of width tw are those of the rectangle, whose rows have w
+-- places
 abbrev pub AreTileColors : List Color → ℕ → ℕ → ℕ → ℕ → List Color → ℕ → Type 0
 AreTileColors colors w left top tw tile count = (k : ℕ) → k < count → nth tile k ≡ nth colors ((top + k / tw) * w + (left + k % tw))
 
--- a part lies within a tile of w by h, all of whose places that it covers have its colour, which keeps to
--- the format's maxima
+-- a part lies within a tile of w by h, all of whose places that it covers have its colour, which
+-- keeps to the format's maxima
 pub record IsPart (f : Format) (w h : ℕ) (s : Part) : Type 0 where
   pub columns : s.x + s.w ≤ w
   pub rows : s.y + s.h ≤ h
@@ -96,8 +97,8 @@ Grows = Appends (λ _. Unit {0})
 
 -- ---- a tile of parts
 
--- A mask for so many parts over a background, where `ink` is the one colour that they have, if they have
--- one. Only what is known isn't named.
+-- A mask for so many parts over a background, where `ink` is the one colour that they have, if they
+-- have one. Only what is known isn't named.
 pub record IsMaskFor (known : Known) (background : Color) (ink : Option Color) (count : ℕ) (m : Mask) : Type 0 where
   pub raw : m.raw ≡ false
   pub back : m.background ≡ false → known.background ≡ Some background

@@ -1,5 +1,5 @@
--- The data of a Hextile rectangle (RFC 6143, section 7.7.4), read from the front of a list of bytes.
--- Each field is judged once it is whole.
+-- The data of a Hextile rectangle (RFC 6143, section 7.7.4), read from the front of a list of
+-- bytes. Each field is judged once it is whole.
 use Rattle.std.specs.Prelude.{ℕ, zero, suc, ◌+◌, ◌-◌, ◌*◌, ◌/◌, ◌%◌, List, [], ◌∷◌, take, drop, slice_index, Option, Some, None, is_some, Bool, false, not, ◌&&◌, ◌||◌, nat_eq, nat_le, nat_lt, bit_and, if◌then◌else◌}
 use Rattle.pixel_format.specs.declared.Color.{Color}
 use Rattle.pixel_format.specs.Format.{Format, pixel_bytes}
@@ -10,8 +10,8 @@ use Rattle.hextile.specs.declared.fields.Mask.{Mask}
 use Rattle.hextile.specs.declared.fields.Named.{Named}
 use Rattle.hextile.specs.Tiles.{tile_count, tile_width, tile_height}
 
--- What a tile says: the colour of each of its places, by rows; or the background and the foreground that
--- it names, and subrectangles in their order.
+-- What a tile says: the colour of each of its places, by rows; or the background and the foreground
+-- that it names, and subrectangles in their order.
 pub data Tile : Type 0 where
   Raw : List Color → Tile
   Parts : Option Color → Option Color → List Subrectangle → Tile
@@ -55,8 +55,8 @@ unfoldable pub colors_of : Format → ℕ → List ℕ → List Color
 colors_of f zero bytes = []
 colors_of f (suc count) bytes = pixel_color f (take (pixel_bytes f) bytes) ∷ colors_of f count (drop (pixel_bytes f) bytes)
 
--- Behind the mask of a tile that isn't raw stand the background's pixel, the foreground's, and the number
--- of subrectangles, each where the mask says so.
+-- Behind the mask of a tile that isn't raw stand the background's pixel, the foreground's, and the
+-- number of subrectangles, each where the mask says so.
 abbrev pub head_bytes : Format → Mask → ℕ
 head_bytes f m = pixel_if f m.background + pixel_if f m.foreground + (if m.subrectangles then 1 else 0)
 
@@ -69,8 +69,8 @@ foreground_in f m head = color_if f m.foreground (drop (pixel_if f m.background)
 unfoldable pub count_in : Format → Mask → List ℕ → ℕ
 count_in f m head = if m.subrectangles then slice_index head (pixel_if f m.background + pixel_if f m.foreground) else 0
 
--- A subrectangle is a pixel, where it has a colour of its own, and then two bytes: x and y, and width and
--- height less one. Its corner counts from the tile's corner.
+-- A subrectangle is a pixel, where it has a colour of its own, and then two bytes: x and y, and
+-- width and height less one. Its corner counts from the tile's corner.
 abbrev pub subrectangle_bytes : Format → Bool → ℕ
 subrectangle_bytes f colored = pixel_if f colored + 2
 

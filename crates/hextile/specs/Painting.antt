@@ -48,7 +48,8 @@ pixel_at f bytes k = pixel_color f (take (pixel_bytes f) (drop (k * pixel_bytes 
 abbrev pub pixel_rows : Format → ℕ → List ℕ → Picture
 pixel_rows f w bytes column row = pixel_at f bytes (row * w + column)
 
--- subrectangles of a tile whose upper left corner is (x, y), over a picture; the latest stands first
+-- subrectangles of a tile whose upper left corner is (x, y), over a picture; the latest stands
+-- first
 abbrev pub parts_over : ℕ → ℕ → Color → List Subrectangle → Picture → Picture
 parts_over x y foreground [] before column row = before column row
 parts_over x y foreground (s ∷ others) before column row =

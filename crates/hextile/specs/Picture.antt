@@ -1,5 +1,5 @@
--- The picture of a Hextile rectangle (RFC 6143, section 7.7.4). Places count from the rectangle's corner,
--- and in a tile from the tile's.
+-- The picture of a Hextile rectangle (RFC 6143, section 7.7.4). Places count from the rectangle's
+-- corner, and in a tile from the tile's.
 use Rattle.std.specs.Prelude.{ℕ, ◌+◌, ◌-◌, ◌*◌, ◌%◌, Bool, List, [], ◌∷◌, length, reverse, slice_index_or, unwrap_or, nat_eq, if◌then◌else◌}
 use Rattle.pixel_format.specs.declared.Color.{Color}
 use Rattle.pixel_format.specs.Canvas.{Picture, covers}
@@ -21,14 +21,14 @@ first_covering background foreground [] column row = background
 first_covering background foreground (s ∷ others) column row =
     if is_covered s column row then unwrap_or s.color foreground else first_covering background foreground others column row
 
--- The picture of a tile of width w, over this background and with this foreground: its pixels, or the
--- colour of the last subrectangle that covers the place, else the background.
+-- The picture of a tile of width w, over this background and with this foreground: its pixels, or
+-- the colour of the last subrectangle that covers the place, else the background.
 abbrev pub tile_picture : ℕ → Color → Color → Tile → Picture
 tile_picture w background foreground (Raw colors) column row = slice_index_or colors (row * w + column) black
 tile_picture w background foreground (Parts named other parts) column row = first_covering background foreground (reverse parts) column row
 
--- The picture of the latest of some tiles, which stands first. Its background and its foreground are those
--- of the last one, itself included, that names them.
+-- The picture of the latest of some tiles, which stands first. Its background and its foreground
+-- are those of the last one, itself included, that names them.
 abbrev pub latest_picture : ℕ → List Tile → Picture
 latest_picture w [] column row = black
 latest_picture w (t ∷ before) column row =
@@ -39,8 +39,8 @@ abbrev pub upto : ℕ → List Tile → List Tile
 upto number [] = []
 upto number (t ∷ before) = if nat_eq number (length before) then t ∷ before else upto number before
 
--- the picture of tiles of a rectangle of width w, the latest of which stands first: at each place that of
--- the tile in which it lies
+-- the picture of tiles of a rectangle of width w, the latest of which stands first: at each place
+-- that of the tile in which it lies
 abbrev pub tiles_picture : ℕ → List Tile → Picture
 tiles_picture w latest column row =
     latest_picture (tile_width w (tile_number w column row)) (upto (tile_number w column row) latest) (column % 16) (row % 16)

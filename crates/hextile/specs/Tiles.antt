@@ -1,6 +1,6 @@
--- The tiles of a rectangle (RFC 6143, section 7.7.4): 16 by 16 places each, from the left and by rows
--- from the top. Those of the last column are narrower, and those of the last row lower, where 16
--- doesn't divide the rectangle's width or height. Tiles have numbers, from 0 on.
+-- The tiles of a rectangle (RFC 6143, section 7.7.4): 16 by 16 places each, from the left and by
+-- rows from the top. Those of the last column are narrower, and those of the last row lower, where
+-- 16 doesn't divide the rectangle's width or height. Tiles have numbers, from 0 on.
 use Rattle.std.specs.Prelude.{ℕ, ◌+◌, ◌-◌, ◌*◌, ◌/◌, ◌%◌, min}
 
 -- how many tiles cover so many places side by side

@@ -144,8 +144,8 @@ fn covers_place(part: Part, column: usize, row: usize) -> bool
     x <= column && column < x + part.w as usize && y <= row && row < y + part.h as usize
 }
 
-// Gives the places of a part its colour, in a tile of width w. It looks at the places from the part's
-// first one to its last one.
+// Gives the places of a part its colour, in a tile of width w. It looks at the places from the
+// part's first one to its last one.
 fn show(shown: &mut [Color], w: u8, part: Part)
     requires width { 0 < w }
     requires across { 0 < part.w }
@@ -169,7 +169,8 @@ fn chosen(here: bool, color: Color, before: Color) -> Color
     if here { color } else { before }
 }
 
-// Sees to it that a place is shown, by a part more where it isn't. Answers whether there was room for it.
+// Sees to it that a place is shown, by a part more where it isn't. Answers whether there was room
+// for it.
 fn show_place(
     w: u8,
     h: u8,
@@ -222,8 +223,8 @@ fn parts_over(
     Some(parts)
 }
 
-/// Parts of one colour each that, over the background, give every place of a tile of w by h its colour;
-/// `None` where they would be too many.
+/// Parts of one colour each that, over the background, give every place of a tile of w by h its
+/// colour; `None` where they would be too many.
 pub(crate) fn cover(
     w: u8,
     h: u8,

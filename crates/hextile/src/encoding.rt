@@ -83,8 +83,8 @@ fn parts_size(format: &PixelFormat, mask: Mask, count: usize) -> usize
     1 + head + count * (pixel_size(format, mask.colored) + 2)
 }
 
-// Appends a tile of w by h: the shorter one of parts over a background and of pixels. Answers what the
-// next tile need not name.
+// Appends a tile of w by h: the shorter one of parts over a background and of pixels. Answers what
+// the next tile need not name.
 fn append_tile(
     format: &PixelFormat,
     known: Known,
@@ -141,11 +141,11 @@ fn append_tiles(
 }
 
 /// Appends data of a rectangle of w by h that has these colours, by rows from the top and each from
-/// the left, in a format to whose maxima they keep (RFC 6143, section 7.7.4). Each tile is the shorter
-/// one of subrectangles over a background, which have the foreground's colour where they have one
-/// colour, and of pixels. A background and a foreground are named where the tile before didn't have
-/// them, and in the first tile behind a raw or coloured one. It takes memory for the bytes alone. Want
-/// of memory leaves `bytes` as it was.
+/// the left, in a format to whose maxima they keep (RFC 6143, section 7.7.4). Each tile is the
+/// shorter one of subrectangles over a background, which have the foreground's colour where they
+/// have one colour, and of pixels. A background and a foreground are named where the tile before
+/// didn't have them, and in the first tile behind a raw or coloured one. It takes memory for the
+/// bytes alone. Want of memory leaves `bytes` as it was.
 pub fn encode(
     format: &PixelFormat,
     w: u16,

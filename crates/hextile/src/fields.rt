@@ -5,7 +5,8 @@ ghost use Rattle.hextile.specs.Grammar.{mask_of, is_allowed, pixel_if, subrectan
 
 use pixel_format::{Color, PixelFormat};
 
-/// A part of a tile that has one colour. Its corner (x, y) counts from the tile's upper left corner.
+/// A part of a tile that has one colour. Its corner (x, y) counts from the tile's upper left
+/// corner.
 #[derive(Clone, Copy, Debug, PartialEq, Eq)]
 pub struct Subrectangle {
     pub x: u8,

@@ -9,9 +9,9 @@ use crate::fields::{
 use crate::position::{Position, TileHead, count_tiles};
 use pixel_format::PixelFormat;
 
-/// Which field of a rectangle's data comes next: what stands for the part that is judged. Data that come
-/// in pieces are judged by taking [`wants`](Measuring::wants) bytes for each [`step`](Measuring::step),
-/// from [`start`](Measuring::start) on, and no byte twice.
+/// Which field of a rectangle's data comes next: what stands for the part that is judged. Data that
+/// come in pieces are judged by taking [`wants`](Measuring::wants) bytes for each
+/// [`step`](Measuring::step), from [`start`](Measuring::start) on, and no byte twice.
 #[derive(Clone, Copy, Debug, PartialEq, Eq)]
 pub enum Measuring {
     /// A tile's mask.
@@ -94,8 +94,8 @@ fn next_field(tile: Position, mask: Mask) -> Option<Measuring>
 }
 
 impl Measuring {
-    /// The field with which the data of a rectangle of w by h begin, `None` where it has no places and
-    /// so no data.
+    /// The field with which the data of a rectangle of w by h begin, `None` where it has no places
+    /// and so no data.
     pub fn start(w: u16, h: u16) -> Option<Measuring>
         ensures { (format : Format) → (more : List ℕ) → go_on format result more ≡ judged (data_at format w h more) }
     {
@@ -135,7 +135,8 @@ impl Measuring {
     }
 
     /// Judges the field, which is whole. Answers the next one, `None` where the data end, and
-    /// `Measure::Bad` at a mask that may not stand there and at a subrectangle that leaves its tile.
+    /// `Measure::Bad` at a mask that may not stand there and at a subrectangle that leaves its
+    /// tile.
     pub fn step(self, format: &PixelFormat, field: &[u8]) -> Result<Option<Measuring>, Measure>
         requires { length field.now ≡ wants_of format.now self }
         ensures goes { IfOk result (λ next. (more : List ℕ)
@@ -190,10 +191,10 @@ fn measure_by_fields(format: &PixelFormat, w: u16, h: u16, bytes: &[u8]) -> Resu
     Ok(bytes.len() - rest.len())
 }
 
-/// The length of the data of a rectangle of w by h that begin the bytes (RFC 6143, section 7.7.4); of a
-/// rectangle of no area it is 0. `Measure::Bad` comes at the byte of the first mask that may not stand
-/// there, or at the last byte of the first subrectangle that leaves its tile, whichever comes first, and
-/// `Measure::NeedMore` for all other bytes that no data begin. It takes no memory.
+/// The length of the data of a rectangle of w by h that begin the bytes (RFC 6143, section 7.7.4);
+/// of a rectangle of no area it is 0. `Measure::Bad` comes at the byte of the first mask that may
+/// not stand there, or at the last byte of the first subrectangle that leaves its tile, whichever
+/// comes first, and `Measure::NeedMore` for all other bytes that no data begin. It takes no memory.
 pub fn measure(format: &PixelFormat, w: u16, h: u16, bytes: &[u8]) -> Result<usize, Measure>
     ensures value { result ≡ measured (length bytes.now) (data_at format.now w h bytes.now) }
     ensures ok { IfOk result (λ n. (n ≤ length bytes.now) × AreData format.now w h (take n bytes.now)) }

@@ -177,8 +177,9 @@ fn paint_tile<'a, 'b, 'c, 'd, C: Canvas>(
 }
 
 /// Paints a rectangle of w by h whose upper left corner is the place (x, y) of the canvas, from its
-/// data: the bytes that [`measure`](crate::measure) takes whole (RFC 6143, section 7.7.4). The other
-/// places stay as they were. The canvas can have the colours of the format's pixels. It takes no memory.
+/// data: the bytes that [`measure`](crate::measure) takes whole (RFC 6143, section 7.7.4). The
+/// other places stay as they were. The canvas can have the colours of the format's pixels. It takes
+/// no memory.
 pub fn paint<C: Canvas>(
     format: &PixelFormat,
     x: u16,

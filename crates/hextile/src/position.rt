@@ -20,8 +20,8 @@ pub struct Position {
     pub ghost down: { 0 < h },
 }
 
-/// A tile of which the fields behind the mask come next: its background's pixel, its foreground's, and the
-/// number of its subrectangles, one of them at least.
+/// A tile of which the fields behind the mask come next: its background's pixel, its foreground's,
+/// and the number of its subrectangles, one of them at least.
 #[derive(Clone, Copy, Debug, PartialEq, Eq)]
 pub struct TileHead {
     pub tile: Position,

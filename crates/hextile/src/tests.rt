@@ -1,3 +1,5 @@
+//! What no clause says: Hextile data and pictures worked by hand, and data that a host sent.
+
 ghost use Rattle.std.specs.Prelude.{◌≡◌, ℕ, IfOk, All, ◌/◌, ◌%◌, length, ◌<◌, ◌≤◌, ◌+◌, ◌*◌, slice_index_or, if◌then◌else◌};
 ghost use Rattle.pixel_format.specs.Canvas.{covers};
 ghost use Rattle.pixel_format.specs.Pixel.{IsWithin, IsScreenColor};
@@ -91,7 +93,8 @@ fn painted(format: &PixelFormat, w: u16, h: u16, bytes: &[u8]) -> Result<Sheet, 
     Ok(sheet)
 }
 
-// 17 by 17 places: a red tile, one of the same background, a blue one, and one of the same background.
+// 17 by 17 places: a red tile, one of the same background, a blue one, and one of the same
+// background.
 const FOUR_TILES: [u8; 12] = [2, 0, 0, 255, 0, 0, 2, 255, 0, 0, 0, 0];
 
 #[test]
@@ -145,8 +148,8 @@ fn measured_in_pieces(
     Err(Measure::NeedMore)
 }
 
-// What is answered to the bytes, whole and in pieces; `None` where the two differ, or where a beginning
-// of theirs is answered otherwise than that more is needed.
+// What is answered to the bytes, whole and in pieces; `None` where the two differ, or where a
+// beginning of theirs is answered otherwise than that more is needed.
 fn answer(w: u16, h: u16, bytes: &[u8]) -> Option<Result<usize, Measure>> {
     let host = PixelFormat::host();
     for n in 0..bytes.len() {
@@ -166,7 +169,8 @@ fn answer(w: u16, h: u16, bytes: &[u8]) -> Option<Result<usize, Measure>> {
 #[test]
 fn masks_refused_at_once(rt: HostRuntime) {
     let bad = Some(Err(Measure::Bad));
-    // no background; bits that mean nothing; a foreground beside coloured subrectangles; no foreground
+    // no background; bits that mean nothing; a foreground beside coloured subrectangles; no
+    // foreground
     for mask in [0, 4, 8, 12, 16, 24, 34, 66, 130, 22, 30, 10] {
         assert_eq!(rt; answer(3, 2, &[mask]), bad);
     }

@@ -58,7 +58,8 @@ fn append_pixel_if(
     Ok(())
 }
 
-/// Appends what stands between a mask and the subrectangles. Want of memory may leave some of the bytes.
+/// Appends what stands between a mask and the subrectangles. Want of memory may leave some of the
+/// bytes.
 fn append_head(
     format: &PixelFormat,
     mask: Mask,

@@ -1,8 +1,8 @@
 //! Reads Hextile rectangles that a host sent, measures them whole and in pieces, and paints them.
 //!
-//! Each word names a file of rectangles in the host format, one behind the other: width and height, of two
-//! bytes each with the higher first, and the rectangle's data. For each rectangle a line is printed:
-//! width, height, how many bytes the data have, and a number of all its colours.
+//! Each word names a file of rectangles in the host format, one behind the other: width and height,
+//! of two bytes each with the higher first, and the rectangle's data. For each rectangle a line is
+//! printed: width, height, how many bytes the data have, and a number of all its colours.
 #![tactic(auto)]
 
 mod rectangle;

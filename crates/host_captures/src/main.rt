@@ -1,8 +1,9 @@
 //! Reads the streams of two VNC hosts, whole and in pieces, and paints them.
 //!
-//! Each word names a file: what a host of 320 by 240 places sent behind its ServerInit, in the host format. Printed are
-//! the type and length of each recorded message, the colour of some places, and the SHA-256 of some screens, which are
-//! three bytes for each place, red, green and blue, by rows. They are compared with what an independent painter made.
+//! Each word names a file: what a host of 320 by 240 places sent behind its ServerInit, in the host
+//! format. Printed are the type and length of each recorded message, the colour of some places, and
+//! the SHA-256 of some screens, which are three bytes for each place, red, green and blue, by rows.
+//! They are compared with what an independent painter made.
 #![tactic(auto)]
 
 mod painting;

@@ -89,7 +89,8 @@ fn print_after(rt: &HostRuntime, screen: &Screen, count: usize, last: bool) -> i
     Ok(())
 }
 
-/// Paints the messages in their order, and prints their types and lengths and what is due after each.
+/// Paints the messages in their order, and prints their types and lengths and what is due after
+/// each.
 pub(crate) fn print_screens(rt: &HostRuntime, messages: &[HostMessage]) -> io::Result<()> {
     let mut screen = Screen::black(rt.alloc(), WIDTH, HEIGHT)?;
     for (number, message) in messages.iter().enumerate() {

@@ -40,7 +40,8 @@ last_painted bytes rectangles i before lt =
 
 -- ---- screens
 
--- the picture of data depends on the places of the screen alone; those of a CopyRect are the source's
+-- the picture of data depends on the places of the screen alone; those of a CopyRect are the
+-- source's
 shown_same : (width height : ℕ) (encoding : Encoding) (area : Area) (bytes : List ℕ) (p q : Picture) → AreData host_format width height encoding area bytes → Agree width height p q
     → (x y : ℕ) → IsIn area x y → picture_of encoding area bytes p x y ≡ picture_of encoding area bytes q x y
 unfolding copied_picture source_of

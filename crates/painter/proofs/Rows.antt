@@ -75,7 +75,8 @@ off_row old new width area picture row x y w across off =
       | inr after ↦ w.behind (y * width + x) (past_row width area row x y w.columns off across after)
     ]
 
--- One row more: where an area and the row make up another, and the one is painted, then so is the other.
+-- One row more: where an area and the row make up another, and the one is painted, then so is the
+-- other.
 row_joined : (old new : List Pixel) (width : ℕ) (area done more : Area) (picture : Picture) (color : Color) (row x y : ℕ) → WritesRow old new width area picture row → x < width
     → (IsIn (row_of area row) x y → IsIn more x y) → (IsIn done x y → IsIn more x y) → (IsIn more x y → (IsIn (row_of area row) x y → ⊥) → IsIn done x y)
     → color_in old width x y ≡ cond (is_in done x y) (picture x y) color → color_in new width x y ≡ cond (is_in more x y) (picture x y) color

@@ -26,12 +26,13 @@ is_in area x y = covers area.x area.y area.w area.h x y
 abbrev pub pixel_at : List ℕ → ℕ → List ℕ
 pixel_at bytes n = take 4 (drop (4 * n) bytes)
 
--- The picture of a Raw rectangle: the pixels stand by rows, from the top and the left (section 7.7.1).
+-- The picture of a Raw rectangle: the pixels stand by rows, from the top and the left (section
+-- 7.7.1).
 unfoldable pub raw_picture : Area → List ℕ → Picture
 raw_picture area bytes x y = host_color (pixel_at bytes ((y - area.y) * area.w + (x - area.x)))
 
--- The picture of a CopyRect rectangle: what stood in the area that is copied, in the picture that was there
--- before (section 7.7.2).
+-- The picture of a CopyRect rectangle: what stood in the area that is copied, in the picture that
+-- was there before (section 7.7.2).
 unfoldable pub copied_picture : Area → Area → Picture → Picture
 copied_picture source area before x y = before (source.x + (x - area.x)) (source.y + (y - area.y))
 

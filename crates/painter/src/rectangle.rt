@@ -40,7 +40,8 @@ pub(crate) fn fill_area(pixels: &mut [Pixel], width: u16, area: Area, pixel: Pix
     }
 }
 
-// Copies so many places to others, which they may overlap. Where they don't, the copy is one of memory.
+// Copies so many places to others, which they may overlap. Where they don't, the copy is one of
+// memory.
 fn copy_row(pixels: &mut [Pixel], from: usize, to: usize, count: usize)
     requires source { from + count ≤ length pixels.old }
     requires destination { to + count ≤ length pixels.old }
@@ -100,8 +101,8 @@ fn copy_down(pixels: &mut [Pixel], width: u16, source: Area, area: Area)
     }
 }
 
-/// Copies an area of the same size to this one, as if it were read as a whole before anything is written (RFC
-/// 6143, section 7.7.2).
+/// Copies an area of the same size to this one, as if it were read as a whole before anything is
+/// written (RFC 6143, section 7.7.2).
 pub(crate) fn copy_area(pixels: &mut [Pixel], width: u16, source: Area, area: Area)
     requires columns { area.x + area.w ≤ width }
     requires rows { (area.y + area.h) * width ≤ length pixels.old }

@@ -61,8 +61,8 @@ impl Screen {
         (self.width, self.height)
     }
 
-    /// The colour at a place: column x of row y, counted from 0 at the left and the top. Its channels are at
-    /// most 255.
+    /// The colour at a place: column x of row y, counted from 0 at the left and the top. Its
+    /// channels are at most 255.
     pub fn color(&self, x: u16, y: u16) -> Color
         requires column { x < self.now.width }
         requires row { y < self.now.height }
@@ -93,8 +93,8 @@ impl Screen {
         }
     }
 
-    /// Paints a message of this size: its rectangles in their order, each over what the ones before it left
-    /// (RFC 6143, section 7.7). It takes no memory.
+    /// Paints a message of this size: its rectangles in their order, each over what the ones before
+    /// it left (RFC 6143, section 7.7). It takes no memory.
     pub fn paint(&mut self, message: &HostMessage)
         requires width { message.now.width ≡ self.old.width }
         requires height { message.now.height ≡ self.old.height }

@@ -1,3 +1,5 @@
+//! What no clause says: screens that were painted by hand.
+
 ghost use Rattle.std.specs.Prelude.{◌≡◌, IfOk};
 
 use super::*;
@@ -66,7 +68,8 @@ const TILES: [u8; 28] = [
     0, 0, 0, 1, 0, 0, 0, 0, 0, 17, 0, 17, 0, 0, 0, 5, 2, 0, 0, 255, 0, 0, 2, 255, 0, 0, 0, 0,
 ];
 
-// A black background with red places and green ones over it, and a blue subrectangle of no area: RRE.
+// A black background with red places and green ones over it, and a blue subrectangle of no area:
+// RRE.
 const PARTS: [u8; 60] = [
     0, 0, 0, 1, 0, 0, 0, 0, 0, 4, 0, 4, 0, 0, 0, 2, 0, 0, 0, 3, 0, 0, 0, 0, 0, 0, 255, 0, 0, 0, 0,
     0, 0, 3, 0, 3, 0, 255, 0, 0, 0, 2, 0, 2, 0, 2, 0, 2, 255, 0, 0, 0, 0, 1, 0, 0, 0, 0, 0, 4,

@@ -2,7 +2,8 @@
 use Rattle.std.specs.Prelude.{◌≡◌, ℕ, ◌+◌, ◌<◌, ◌&&◌, nat_le, nat_lt, Bool, if◌then◌else◌}
 use Rattle.pixel_format.specs.declared.Color.{Color}
 
--- a picture: the colour at each place, from its column and its row, counted from the left and the top
+-- a picture: the colour at each place, from its column and its row, counted from the left and the
+-- top
 abbrev pub Picture : Type 0
 Picture = ℕ → ℕ → Color
 

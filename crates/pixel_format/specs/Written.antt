@@ -1,5 +1,5 @@
--- A pixel format as 16 bytes (RFC 6143, section 7.4): bits of a pixel, depth, the big-endian flag, the
--- true-color flag, three maxima of two bytes, three shifts, and three bytes of padding.
+-- A pixel format as 16 bytes (RFC 6143, section 7.4): bits of a pixel, depth, the big-endian flag,
+-- the true-color flag, three maxima of two bytes, three shifts, and three bytes of padding.
 use Rattle.std.specs.Prelude.{ℕ, zero, suc, ◌+◌, ◌*◌, ◌/◌, ◌%◌, ◌^◌, List, [], ◌∷◌, slice_index, Bool, not, ◌&&◌, ◌||◌, nat_eq, nat_lt, bit_and, Result, Ok, Err, if◌then◌else◌}
 use Rattle.pixel_format.specs.Format.{Channel, Format, mask}
 use Rattle.pixel_format.specs.declared.fault.FormatFault.{FormatFault}

@@ -18,8 +18,8 @@ pub trait Canvas {
     /// The colour at each of its places; past its edges it says nothing.
     ghost picture: { Self → Picture };
 
-    /// Gives the places of an area of the canvas one colour that they can have, and leaves the others
-    /// alone. The area has its upper left corner at (x, y), and may be empty.
+    /// Gives the places of an area of the canvas one colour that they can have, and leaves the
+    /// others alone. The area has its upper left corner at (x, y), and may be empty.
     fn fill(&mut self, x: u16, y: u16, w: u16, h: u16, color: Color)
         requires columns { x + w ≤ width self.old }
         requires rows { y + h ≤ height self.old }

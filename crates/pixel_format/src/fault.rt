@@ -5,8 +5,8 @@ ghost use Rattle.pixel_format.specs.Fault.{fault_number};
 
 use thiserror::Error;
 
-/// The first test that a pixel format fails; they stand here in their order. Each is made of all three
-/// channels before the next one.
+/// The first test that a pixel format fails; they stand here in their order. Each is made of all
+/// three channels before the next one.
 #[derive(Debug, Clone, Copy, PartialEq, Eq, Error)]
 pub enum FormatFault {
     /// A pixel has other than 8, 16 or 32 bits.

@@ -1,3 +1,5 @@
+//! A pixel format (RFC 6143, section 7.4): its bytes, its pixels and their colours.
+
 ghost use Rattle.std.specs.Prelude.{◌≡◌, ℕ, ◌/◌, ◌%◌, ◌+◌, ◌*◌, ◌^◌, ◌<◌, ◌≤◌, ◌⊎◌, ◌||◌, ◌&&◌, nat_eq, nat_lt, bit_and, [], ◌∷◌, length, Ok};
 ghost use Rattle.pixel_format.specs.Format.{Format, pixel_bytes, host_format};
 ghost use Rattle.pixel_format.specs.Written.{channel_at, format_of, format_at, format_bytes, is_ones};
@@ -77,8 +79,8 @@ impl PixelFormat {
         }
     }
 
-    /// The format that 16 bytes say (RFC 6143, section 7.4), or the first test that they fail. A flag
-    /// is true when it is not 0; depth is kept and plays no part.
+    /// The format that 16 bytes say (RFC 6143, section 7.4), or the first test that they fail. A
+    /// flag is true when it is not 0; depth is kept and plays no part.
     pub fn read(bytes: &[u8; 16]) -> Result<PixelFormat, FormatFault>
         ensures { result ≡ format_at bytes.now }
     {
@@ -109,8 +111,8 @@ impl PixelFormat {
         })
     }
 
-    /// The format's 16 bytes (RFC 6143, section 7.4). A flag that is true is written as 1, padding as
-    /// 0.
+    /// The format's 16 bytes (RFC 6143, section 7.4). A flag that is true is written as 1, padding
+    /// as 0.
     pub fn write(&self) -> [u8; 16]
         ensures bytes { result ≡ format_bytes self.now }
         ensures read { format_at result ≡ Ok self.now }

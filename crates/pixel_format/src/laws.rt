@@ -10,8 +10,8 @@ pub fn valid_formats()
         → (format_at bytes ≡ Ok f) ↔ ((f ≡ format_of bytes) × (0 < slice_index bytes 3) × IsValid f) }
 {}
 
-/// What is accepted is written as it was read, but for flags, which are written as 1, and padding, as
-/// 0.
+/// What is accepted is written as it was read, but for flags, which are written as 1, and padding,
+/// as 0.
 pub fn written_as_read()
     ensures { (bits depth order color red_high red_low green_high green_low blue_high blue_low r g b : ℕ) → (padding : List ℕ) → (f : Format)
         → red_low < 256 → green_low < 256 → blue_low < 256

@@ -1,3 +1,5 @@
+//! What no clause says: formats and pixels worked by hand.
+
 use super::*;
 use std::test::Fail;
 

@@ -1,4 +1,4 @@
-// The command line.
+//! The command line.
 
 use crate::drill;
 use clap::Command;
@@ -67,9 +67,9 @@ fn run<I: Read + Drop, O: Write, E: Write>(
     Ok(status)
 }
 
-/// Runs the program: the words of its command line (the first is its own name), its input, and its two outputs. Answers
-/// the exit status: 0 where it is done, 1 where it is refused, where memory for its own work is, or where a stream can't be
-/// read or written, and 2 for a bad command line.
+/// Runs the program: the words of its command line (the first is its own name), its input, and its
+/// two outputs. Answers the exit status: 0 where it is done, 1 where it is refused, where memory
+/// for its own work is, or where a stream can't be read or written, and 2 for a bad command line.
 pub fn command<I: Read + Drop, O: Write, E: Write>(
     alloc: Global,
     words: &[String],

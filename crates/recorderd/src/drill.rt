@@ -1,4 +1,4 @@
-// A drill: a script's lines, run over one disk in memory, which fails when the script says so.
+//! A drill: a script's lines, run over one disk in memory, which fails when the script says so.
 
 use crate::answer::Answer;
 use crate::fuse::Fuse;
@@ -12,7 +12,8 @@ use std::alloc::{AllocError, Global};
 use std::io::{BufRead, BufReader, Read, Write};
 use std::{io, mem};
 
-/// What a drill has: nothing before the first `new`, then a disk, and a desk on it unless `new` or `open` was refused.
+/// What a drill has: nothing before the first `new`, then a disk, and a desk on it unless `new` or
+/// `open` was refused.
 #[derive(Drop)]
 enum Bench {
     Empty,
@@ -67,7 +68,8 @@ impl Drill {
         }
     }
 
-    // Ends the desk and its book, and opens what its disk holds: after a stop, what the stop leaves.
+    // Ends the desk and its book, and opens what its disk holds: after a stop, what the stop
+    // leaves.
     fn open(&mut self) -> Result<Answer, AllocError> {
         let left = self.fuse.disarm();
         let disk = match mem::replace(&mut self.bench, Bench::Empty) {
@@ -142,8 +144,8 @@ fn run_line<O: Write>(
     Ok(true)
 }
 
-/// Runs a script, and writes an answer for each line that isn't empty. A bad line ends the run: the answer is whether
-/// there was none. An error is of the input, the output, or of memory.
+/// Runs a script, and writes an answer for each line that isn't empty. A bad line ends the run: the
+/// answer is whether there was none. An error is of the input, the output, or of memory.
 pub fn run<I: Read + Drop, O: Write>(alloc: Global, input: I, out: &mut O) -> io::Result<bool> {
     let mut drill = Drill {
         alloc,

@@ -1,4 +1,4 @@
-// How the disk of a drill is made to fail, or to stop.
+//! How the disk of a drill is made to fail, or to stop.
 
 use disk::{FailingDisk, FusedDisk, MemoryDisk, Switch};
 use drill_script::Fill;

@@ -1,4 +1,5 @@
-// The steps of a drill on its desk.
+//! The steps of a drill on its desk.
+
 ghost use Rattle.std.specs.Prelude.{◌≡◌};
 ghost use Rattle.broadcast.specs.Steps.{IsSizedStep};
 
@@ -10,8 +11,8 @@ use drill_script::Line;
 use rfb_wire::HostMessage;
 use std::alloc::{AllocError, Global};
 
-/// The answer to a line of a desk. `new` and `open` are none. Only want of memory for the list of a step, or of its reply,
-/// is an error.
+/// The answer to a line of a desk. `new` and `open` are none. Only want of memory for the list of a
+/// step, or of its reply, is an error.
 pub fn answer(
     alloc: Global,
     desk: &mut Desk<FusedDisk>,
@@ -62,7 +63,8 @@ fn start_of(start: drill_script::Start) -> Start {
     }
 }
 
-// The seat that a step moves, and how many messages are to stand before its next one: 0 where the step names none.
+// The seat that a step moves, and how many messages are to stand before its next one: 0 where the
+// step names none.
 fn place_of(step: &Step) -> (u32, u64) {
     match step {
         Step::Seek(seat, count) => (*seat, *count),
@@ -87,8 +89,9 @@ fn step(alloc: Global, desk: &mut Desk<FusedDisk>, step: Step) -> Result<Answer,
     }
 }
 
-// What a reply says. That to `seek` or `leave` has no number in it, so theirs are those of the line. A desk's slice ends at
-// a count of committed messages, so no sum is cut at the limit of its type.
+// What a reply says. That to `seek` or `leave` has no number in it, so theirs are those of the
+// line. A desk's slice ends at a count of committed messages, so no sum is cut at the limit of its
+// type.
 fn answer_of(reply: Reply, seat: u32, count: u64) -> Answer {
     match reply {
         Reply::Host(Ok(number)) => Answer::Accepted(number),

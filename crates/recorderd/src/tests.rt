@@ -1,3 +1,5 @@
+//! Whole drills: what a script prints, and how it ends.
+
 use crate::answer::Answer;
 use crate::command::command;
 use crate::fuse::Fuse;
@@ -494,8 +496,9 @@ fn faults_of_an_opening_are_printed(rt: HostRuntime) -> Result<(), Fail> {
     Ok(())
 }
 
-// A script, what it answers on a sound disk and with ample memory, and how an answer to one of its lines says that memory
-// was wanting. A disk in memory that can't grow, or can't note a sync, has failed as a device.
+// A script, what it answers on a sound disk and with ample memory, and how an answer to one of its
+// lines says that memory was wanting. A disk in memory that can't grow, or can't note a sync, has
+// failed as a device.
 const SMALL: &str =
     "new 1 1 4 x; host 0 02; host 1 02; take; body; gate; open; pixel 2 0 0; join 1; next 0 8; seek 0 0; next 0 8; leave 0";
 
@@ -518,7 +521,8 @@ const LACKS: [&str; 13] = [
     "next refused 1",
 ];
 
-// Whether these are the answers of the small script, or the first of them that is another says that memory was wanting.
+// Whether these are the answers of the small script, or the first of them that is another says that
+// memory was wanting.
 fn says_what_was_wanting(alloc: Global, script: &str) -> Result<bool, Fail> {
     let (status, text) = drilled(alloc, script)?;
     let text = text.replace(alloc, "\n", "; ")?;

@@ -1,5 +1,5 @@
--- What the data of a rectangle of w by h show (RFC 6143, section 7.7). Places count from the rectangle's
--- corner.
+-- What the data of a rectangle of w by h show (RFC 6143, section 7.7). Places count from the
+-- rectangle's corner.
 use Rattle.std.specs.Prelude.{◌≡◌, ℕ, ◌+◌, ◌*◌, ◌<◌, List, length, take, drop}
 use Rattle.pixel_format.specs.declared.Color.{Color}
 use Rattle.pixel_format.specs.Format.{Format, pixel_bytes}

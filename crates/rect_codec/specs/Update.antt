@@ -10,13 +10,14 @@ use Rattle.rect_codec.specs.declared.encoding.Encoding.TheVariants as encodings
 use Rattle.rect_codec.specs.Encoding.{number_of}
 use Rattle.rect_codec.specs.Picture.{Shows}
 
--- type 0, a byte of padding, the number of rectangles, and the rectangle's header: x, y, width, height, and
--- the number of its encoding
+-- type 0, a byte of padding, the number of rectangles, and the rectangle's header: x, y, width,
+-- height, and the number of its encoding
 abbrev pub update_head : Area → Encoding → List ℕ
 update_head a encoding = 0 ∷ 0 ∷ 0 ∷ 1
     ∷ a.x / 256 ∷ a.x % 256 ∷ a.y / 256 ∷ a.y % 256 ∷ a.w / 256 ∷ a.w % 256 ∷ a.h / 256 ∷ a.h % 256 ∷ u32_bytes (number_of encoding)
 
--- an update of one rectangle in this encoding, whose data show the colours, by rows, at the places of its area
+-- an update of one rectangle in this encoding, whose data show the colours, by rows, at the places
+-- of its area
 pub record IsUpdate (f : Format) (area : Area) (colors : List Color) (encoding : Encoding) (bytes : List ℕ) : Type 0 where
   pub body : List ℕ
   pub bytes_are : bytes ≡ update_head area encoding ++ body

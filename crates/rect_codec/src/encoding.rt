@@ -27,9 +27,9 @@ impl Encoding {
     }
 }
 
-/// The encoding for a viewer that sent these numbers, its most wanted first (RFC 6143, section 7.5.2): the
-/// first of 0, 2 and 5 that stands in the list, and `Raw` where none of them does. Other numbers play
-/// no part.
+/// The encoding for a viewer that sent these numbers, its most wanted first (RFC 6143, section
+/// 7.5.2): the first of 0, 2 and 5 that stands in the list, and `Raw` where none of them does.
+/// Other numbers play no part.
 pub fn pick(numbers: &[i32]) -> Encoding
     ensures first { (encoding : Encoding) → StandsFirst numbers.now encoding → result ≡ encoding }
     ensures given { StandsFirst numbers.now result ⊎ (All IsOther numbers.now × (result ≡ Encoding.Raw)) }

@@ -1,5 +1,5 @@
-//! Framebuffer updates as they are written: one rectangle, in an encoding that the viewer takes (RFC 6143,
-//! sections 7.6.1 and 7.7).
+//! Framebuffer updates as they are written: one rectangle, in an encoding that the viewer takes
+//! (RFC 6143, sections 7.6.1 and 7.7).
 #![tactic(auto)]
 
 mod encoding;

@@ -21,8 +21,8 @@ fn put_pixels(format: &PixelFormat, colors: &[Color], pixels: &mut [u8])
     }
 }
 
-/// Appends the pixels of colours, one behind the other (RFC 6143, section 7.7.1). Want of memory leaves
-/// `out` as it was.
+/// Appends the pixels of colours, one behind the other (RFC 6143, section 7.7.1). Want of memory
+/// leaves `out` as it was.
 pub(crate) fn append_pixels(
     format: &PixelFormat,
     colors: &[Color],

@@ -1,3 +1,5 @@
+//! What no clause says: updates worked by hand.
+
 ghost use Rattle.std.specs.Prelude.{◌≡◌, ℕ, IfOk, All, ◌/◌, ◌%◌, length, ◌<◌, ◌≤◌, ◌+◌, ◌*◌, slice_index_or, if◌then◌else◌};
 ghost use Rattle.pixel_format.specs.Canvas.{covers};
 ghost use Rattle.pixel_format.specs.Pixel.{IsWithin, IsScreenColor};
@@ -77,8 +79,8 @@ fn pixel_color(format: &PixelFormat, data: &[u8], number: usize) -> Option<Color
     Some(format.pixel(&data[start..end]))
 }
 
-// What an update paints on a white sheet; refused where it isn't an update of one rectangle on the sheet,
-// or has bytes behind it.
+// What an update paints on a white sheet; refused where it isn't an update of one rectangle on the
+// sheet, or has bytes behind it.
 fn painted(format: &PixelFormat, update: &[u8]) -> Result<Sheet, Measure> {
     let [
         0,
@@ -292,7 +294,8 @@ const SIXTEEN: [u8; 16] = [16, 16, 1, 1, 0, 31, 0, 63, 0, 31, 11, 5, 0, 0, 0, 0]
 
 const EIGHT: [u8; 16] = [8, 8, 0, 1, 0, 7, 0, 7, 0, 3, 0, 3, 6, 0, 0, 0];
 
-// In each format a flat picture is written in the encoding that is asked for, and one of many colours in Raw.
+// In each format a flat picture is written in the encoding that is asked for, and one of many
+// colours in Raw.
 #[test]
 fn written_and_painted(rt: HostRuntime) -> Result<(), Fail> {
     let formats = [

@@ -85,11 +85,11 @@ fn append_update(
     Ok(())
 }
 
-/// Appends a FramebufferUpdate of one rectangle (RFC 6143, section 7.6.1) that gives the places of its area
-/// these colours, by rows from the top and each from the left, in a format to whose maxima they keep.
-/// It is written in the encoding that is asked for where that makes it shorter than Raw, and else in
-/// Raw: so it never has more bytes than 16 and a pixel for each place. Want of memory leaves `out` as it
-/// was.
+/// Appends a FramebufferUpdate of one rectangle (RFC 6143, section 7.6.1) that gives the places of
+/// its area these colours, by rows from the top and each from the left, in a format to whose maxima
+/// they keep. It is written in the encoding that is asked for where that makes it shorter than Raw,
+/// and else in Raw: so it never has more bytes than 16 and a pixel for each place. Want of memory
+/// leaves `out` as it was.
 pub fn write_update(
     alloc: Global,
     format: &PixelFormat,

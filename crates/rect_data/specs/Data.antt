@@ -1,5 +1,5 @@
--- What the data of a rectangle are (RFC 6143, section 7.7): a relation between the pixel format, the size of the screen, an
--- encoding, the rectangle's area, and bytes.
+-- What the data of a rectangle are (RFC 6143, section 7.7): a relation between the pixel format,
+-- the size of the screen, an encoding, the rectangle's area, and bytes.
 use Rattle.std.specs.Prelude.{◌≡◌, ℕ, ◌+◌, ◌*◌, ◌≤◌, List, length}
 use Rattle.pixel_format.specs.Format.{Format, pixel_bytes}
 use Rattle.client_wire.specs.declared.message.Area.{Area}
@@ -21,7 +21,8 @@ pub record LiesWithin (width height : ℕ) (a : Area) : Type 0 where
   pub columns : a.x + a.w ≤ width
   pub rows : a.y + a.h ≤ height
 
--- x and y, of two bytes each, of an area as large as the rectangle and within the screen (section 7.7.2)
+-- x and y, of two bytes each, of an area as large as the rectangle and within the screen (section
+-- 7.7.2)
 pub record IsSource (width height : ℕ) (area : Area) (bytes : List ℕ) : Type 0 where
   pub size : length bytes ≡ 4
   pub within : LiesWithin width height (source_of area bytes)

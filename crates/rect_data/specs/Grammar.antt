@@ -1,5 +1,5 @@
--- The data of a rectangle (RFC 6143, section 7.7), read from the front of a list of bytes. Each field is
--- judged once it is whole.
+-- The data of a rectangle (RFC 6143, section 7.7), read from the front of a list of bytes. Each
+-- field is judged once it is whole.
 use Rattle.std.specs.Prelude.{ℕ, ◌+◌, ◌-◌, ◌*◌, List, Bool, ◌&&◌, nat_le, nat_eq, Option, Some, None, Result, Ok, Err, length, if◌then◌else◌}
 use Rattle.pixel_format.specs.Format.{Format, pixel_bytes}
 use Rattle.pixel_format.specs.Reading.{Reading, Got, More, Bad, ◌>>=◌, field, guard}
@@ -29,7 +29,8 @@ is_inside width height a = nat_le (a.x + a.w) width && nat_le (a.y + a.h) height
 unfoldable pub raw_at : Format → Area → List ℕ → Reading Unit WireFault
 raw_at f area bytes = field (pixel_bytes f * (area.w * area.h)) bytes >>= λ pixels rest. Got tt rest
 
--- the area that is copied: x and y stand in four bytes, and it is as large as the rectangle (section 7.7.2)
+-- the area that is copied: x and y stand in four bytes, and it is as large as the rectangle
+-- (section 7.7.2)
 unfoldable pub source_of : Area → List ℕ → Area
 source_of area place = record { x = u16_at place 0; y = u16_at place 2; w = area.w; h = area.h }
 

@@ -12,8 +12,8 @@ pub enum Encoding {
     CopyRect,
     /// A background, and subrectangles over it (section 7.7.3).
     Rre,
-    /// Tiles of 16 by 16 places, each with its own background and subrectangles, or its pixels (section
-    /// 7.7.4).
+    /// Tiles of 16 by 16 places, each with its own background and subrectangles, or its pixels
+    /// (section 7.7.4).
     Hextile,
 }
 

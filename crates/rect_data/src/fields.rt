@@ -13,8 +13,8 @@ pub fn lies_inside(area: Area, width: u16, height: u16) -> bool
     area.x as u32 + area.w as u32 <= width as u32 && area.y as u32 + area.h as u32 <= height as u32
 }
 
-/// The area that is copied to a rectangle of this area: x and y stand in four bytes, the higher byte of
-/// each first, and it is as large as the rectangle (RFC 6143, section 7.7.2).
+/// The area that is copied to a rectangle of this area: x and y stand in four bytes, the higher
+/// byte of each first, and it is as large as the rectangle (RFC 6143, section 7.7.2).
 #[tactic(auto, unfolding(crate::specs::Grammar::source_of))]
 pub fn source_at(area: Area, place: &[u8]) -> Area
     requires { length place.now ≡ 4 }

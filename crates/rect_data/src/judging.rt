@@ -10,9 +10,9 @@ use crate::fields::{lies_inside, source_at};
 use client_wire::{Area, WireFault};
 use pixel_format::PixelFormat;
 
-/// Which field of a rectangle's data comes next: what stands for the part that is judged. Data that come
-/// in pieces are judged by taking [`wants`](Judging::wants) bytes for each [`step`](Judging::step), from
-/// [`start`](Judging::start) on, and no byte twice.
+/// Which field of a rectangle's data comes next: what stands for the part that is judged. Data that
+/// come in pieces are judged by taking [`wants`](Judging::wants) bytes for each
+/// [`step`](Judging::step), from [`start`](Judging::start) on, and no byte twice.
 #[derive(Clone, Copy)]
 pub enum Judging {
     /// The pixels of a Raw rectangle of this area.
@@ -76,7 +76,8 @@ fn hextile_step(
 }
 
 impl Judging {
-    /// The field with which the data of a rectangle of this area begin, `None` where it has no data.
+    /// The field with which the data of a rectangle of this area begin, `None` where it has no
+    /// data.
     pub fn start(format: &PixelFormat, encoding: Encoding, area: Area) -> Option<Judging>
         ensures goes { (width height : ℕ) → (more : List ℕ)
             → go_on format.now width height result more ≡ data_at format.now width height encoding area more }
@@ -110,10 +111,10 @@ impl Judging {
         }
     }
 
-    /// Judges the field, which is whole, on a screen of this size. Answers the next one, `None` where the
-    /// data end; or `SourceOutside` at the place of a CopyRect rectangle's source, `BadRre` at a subrectangle
-    /// that leaves an RRE rectangle, and `BadHextile` at a mask that may not stand in a Hextile rectangle
-    /// and at a subrectangle that leaves its tile.
+    /// Judges the field, which is whole, on a screen of this size. Answers the next one, `None`
+    /// where the data end; or `SourceOutside` at the place of a CopyRect rectangle's source,
+    /// `BadRre` at a subrectangle that leaves an RRE rectangle, and `BadHextile` at a mask that may
+    /// not stand in a Hextile rectangle and at a subrectangle that leaves its tile.
     pub fn step(
         self,
         format: &PixelFormat,

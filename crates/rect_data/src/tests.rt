@@ -1,3 +1,5 @@
+//! What no clause says: data of rectangles worked by hand.
+
 use super::*;
 use pixel_format::PixelFormat;
 

@@ -1,4 +1,5 @@
-// Why no screen is answered, with the numbers that programs print.
+//! Why no screen is answered, with the numbers that programs print.
+
 ghost use Rattle.std.specs.Prelude.{◌≡◌};
 ghost use Rattle.replay.specs.Faults.{replay_number};
 ghost use Rattle.replay.specs.declared.fault.ReplayFault.TheVariants.{NoMemory as ReplayNoMemory};

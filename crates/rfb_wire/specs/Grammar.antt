@@ -59,8 +59,9 @@ update_at width height bytes = field 1 bytes >>= λ type head. field 3 head >>= 
 unfoldable pub read_over : ℕ → List ℕ → Reading Message WireFault
 read_over n bytes = field n bytes >>= λ skipped rest. Got ReadOver rest
 
--- SetColorMapEntries, behind its type 1: a byte of padding, the first colour, the number of colours, and
--- six bytes for each (section 7.6.2). It is read over, since pixels of a true-color format need no map.
+-- SetColorMapEntries, behind its type 1: a byte of padding, the first colour, the number of
+-- colours, and six bytes for each (section 7.6.2). It is read over, since pixels of a true-color
+-- format need no map.
 unfoldable pub color_map_at : List ℕ → Reading Message WireFault
 color_map_at bytes = field 5 bytes >>= λ f rest. read_over (6 * u16_at f 3) rest
 
@@ -72,13 +73,14 @@ text_limit = 65536
 unfoldable pub text_data_at : ℕ → List ℕ → Reading Message WireFault
 text_data_at n bytes = field n bytes >>= λ text rest. Got (Recorded []) rest
 
--- ServerCutText, behind its type 3: three bytes of padding, the text's length, and the text (section
--- 7.6.4)
+-- ServerCutText, behind its type 3: three bytes of padding, the text's length, and the text
+-- (section 7.6.4)
 unfoldable pub text_at : List ℕ → Reading Message WireFault
 text_at bytes = field 7 bytes >>= λ f rest.
     if nat_lt text_limit (u32_at f 3) then read_over (u32_at f 3) rest else text_data_at (u32_at f 3) rest
 
--- what follows the type of a message that is no update; Bell, type 2, has no more bytes (section 7.6.3)
+-- what follows the type of a message that is no update; Bell, type 2, has no more bytes (section
+-- 7.6.3)
 unfoldable pub other_at : ℕ → List ℕ → Reading Message WireFault
 other_at type bytes =
     if nat_eq type 1 then color_map_at bytes
@@ -86,8 +88,8 @@ other_at type bytes =
     else (if nat_eq type 3 then text_at bytes
     else Bad faults.UnknownType))
 
--- The message that bytes begin with, by its type (section 7.6), for a screen of this size. An update
--- has at most `limit` bytes.
+-- The message that bytes begin with, by its type (section 7.6), for a screen of this size. An
+-- update has at most `limit` bytes.
 unfoldable pub message_at : ℕ → ℕ → ℕ → List ℕ → Reading Message WireFault
 message_at limit width height bytes = field 1 bytes >>= λ type rest.
     if nat_eq (slice_index type 0) 0 then within limit faults.TooLong (update_at width height) bytes

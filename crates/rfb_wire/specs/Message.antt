@@ -1,5 +1,5 @@
--- What a recorded message of a host is (RFC 6143, sections 7.6 and 7.7): a relation between the size
--- of a screen, the message's bytes, and where its rectangles stand in them.
+-- What a recorded message of a host is (RFC 6143, sections 7.6 and 7.7): a relation between the
+-- size of a screen, the message's bytes, and where its rectangles stand in them.
 use Rattle.std.specs.Prelude.{◌≡◌, ℕ, ◌+◌, ◌*◌, ◌≤◌, List, [], ◌∷◌, ◌++◌, length, max, ◌⊎◌}
 use Rattle.pixel_format.specs.Format.{host_format}
 use Rattle.rfb_wire.specs.declared.message.Rectangle.{Rectangle}
@@ -7,8 +7,8 @@ use Rattle.rect_data.specs.Data.{number_of, AreData}
 use Rattle.client_wire.specs.Number.{u32_at}
 use Rattle.rfb_wire.specs.Grammar.{area_of, encoding_number, text_limit}
 
--- A rectangle that begins at a place of its message: a header of 12 bytes, which names an area within
--- the screen and an encoding, and the data (section 7.6.1).
+-- A rectangle that begins at a place of its message: a header of 12 bytes, which names an area
+-- within the screen and an encoding, and the data (section 7.6.1).
 pub record IsRectangle (width height at : ℕ) (r : Rectangle) (bytes : List ℕ) : Type 0 where
   pub header : List ℕ
   pub content : List ℕ
@@ -29,8 +29,8 @@ AreRectangles width height at (r ∷ rs) bytes =
     (first : List ℕ) × (rest : List ℕ) × (bytes ≡ first ++ rest)
     × IsRectangle width height at r first × AreRectangles width height r.end rs rest
 
--- FramebufferUpdate: type 0, a byte of padding, the number of rectangles, and the rectangles (section
--- 7.6.1)
+-- FramebufferUpdate: type 0, a byte of padding, the number of rectangles, and the rectangles
+-- (section 7.6.1)
 pub record IsUpdate (width height : ℕ) (bytes : List ℕ) (rs : List Rectangle) : Type 0 where
   pub padding : ℕ
   pub high : ℕ
@@ -44,8 +44,8 @@ pub record IsUpdate (width height : ℕ) (bytes : List ℕ) (rs : List Rectangle
 abbrev pub IsBell : List ℕ → Type 0
 IsBell bytes = bytes ≡ 2 ∷ []
 
--- ServerCutText: type 3, three bytes of padding, the text's length in four bytes, and the text (section
--- 7.6.4). Longer ones are not recorded.
+-- ServerCutText: type 3, three bytes of padding, the text's length in four bytes, and the text
+-- (section 7.6.4). Longer ones are not recorded.
 pub record IsCutText (bytes : List ℕ) : Type 0 where
   pub head : List ℕ
   pub text : List ℕ

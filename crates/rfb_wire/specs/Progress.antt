@@ -60,8 +60,8 @@ others_at width height count at bytes =
 abbrev pub ended : Begun → ℕ → Rectangle
 ended b end = record { area = b.area; encoding = b.encoding; start = b.start; end = end }
 
--- Behind the data of a rectangle, as they are judged, others follow. All the bytes reach up to this place
--- of the message.
+-- Behind the data of a rectangle, as they are judged, others follow. All the bytes reach up to this
+-- place of the message.
 abbrev pub behind_data : ℕ → ℕ → Begun → ℕ → ℕ → Reading Unit WireFault → Reading Message WireFault
 behind_data width height b others reach r = r >>= λ content rest.
     behind (ended b (reach - length rest) ∷ []) (others_at width height others (reach - length rest) rest)
@@ -115,8 +115,8 @@ NextIsOfKind (nexts.Field stage) bytes = IsOfKind stage bytes
 NextIsOfKind nexts.End bytes = Unit {0}
 NextIsOfKind (nexts.ReadOver n) bytes = Unit {0}
 
--- The reader stands at a field that has begun. What the message says, whatever comes, is what the bytes
--- from the field on say, behind the rectangles that are whole.
+-- The reader stands at a field that has begun. What the message says, whatever comes, is what the
+-- bytes from the field on say, behind the rectangles that are whole.
 pub record Linked (limit width height : ℕ) (bytes : List ℕ) (rectangles : List Rectangle) (stage : Stage) : Type 0 where
   pub link : (more : List ℕ) → unlimited_at width height (bytes ++ more)
       ≡ behind rectangles (resume width height stage (drop (start_of stage) bytes ++ more))
@@ -129,8 +129,8 @@ pub record IsInField (limit width height : ℕ) (p : Progress) : Type 0 where
   pub linked : Linked limit width height p.bytes.items p.rectangles.items p.stage
   pub unfinished : length p.bytes.items < start_of p.stage + wants_of p.stage
 
--- The reader stands in bytes that are read over. Behind what is kept and as many bytes as have passed,
--- whichever they were, those that are left come to the message's end.
+-- The reader stands in bytes that are read over. Behind what is kept and as many bytes as have
+-- passed, whichever they were, those that are left come to the message's end.
 pub record IsOver (limit width height : ℕ) (bytes : List ℕ) (o : Over) : Type 0 where
   pub link : (skipped more : List ℕ) → length skipped ≡ o.passed
       → message_at limit width height ((bytes ++ skipped) ++ more) ≡ read_over o.left more

@@ -2,8 +2,8 @@
 use Rattle.std.specs.Prelude.{ℕ, List, Option}
 use Rattle.client_wire.specs.declared.fault.WireFault.{WireFault}
 
--- The screen's size; of an unfinished message the bytes that are kept and the number of those that are
--- read over; and the fault that was met, if one was.
+-- The screen's size; of an unfinished message the bytes that are kept and the number of those that
+-- are read over; and the fault that was met, if one was.
 pub record Reader : Type 0 where
   pub width : ℕ
   pub height : ℕ

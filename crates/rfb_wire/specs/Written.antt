@@ -11,8 +11,8 @@ abbrev pub two_bytes : ℕ → List ℕ
 two_bytes n = n / 256 ∷ n % 256 ∷ []
 
 -- FramebufferUpdate of one rectangle: type 0, a byte of padding, the number of rectangles, and the
--- header of the rectangle: x, y, width, height, and the number of the encoding, Raw (RFC 6143, sections
--- 7.6.1 and 7.7.1)
+-- header of the rectangle: x, y, width, height, and the number of the encoding, Raw (RFC 6143,
+-- sections 7.6.1 and 7.7.1)
 abbrev pub raw_head : Area → List ℕ
 raw_head a = 0 ∷ 0 ∷ 0 ∷ 1 ∷ two_bytes a.x ++ two_bytes a.y ++ two_bytes a.w ++ two_bytes a.h ++ 0 ∷ 0 ∷ 0 ∷ 0 ∷ []
 
@@ -24,8 +24,8 @@ raw_update_bytes a pixels = raw_head a ++ pixels
 abbrev pub raw_rectangle : Area → Rectangle
 raw_rectangle a = record { area = a; encoding = encodings.Raw; start = 16; end = 16 + 4 * (a.w * a.h) }
 
--- SetColorMapEntries: type 1, a byte of padding, the number of the first colour, how many there are, and
--- red, green and blue of each (section 7.6.2)
+-- SetColorMapEntries: type 1, a byte of padding, the number of the first colour, how many there
+-- are, and red, green and blue of each (section 7.6.2)
 abbrev pub color_map_head : ℕ → ℕ → List ℕ
 color_map_head first count = 1 ∷ 0 ∷ two_bytes first ++ two_bytes count
 
@@ -39,7 +39,8 @@ color_map_bytes first colors = color_map_head first (length colors) ++ flat_map 
 abbrev pub bell_bytes : List ℕ
 bell_bytes = 2 ∷ []
 
--- the head of a ServerCutText: type 3, three bytes of padding, and the text's length (section 7.6.4)
+-- the head of a ServerCutText: type 3, three bytes of padding, and the text's length (section
+-- 7.6.4)
 abbrev pub text_head : ℕ → List ℕ
 text_head n = 3 ∷ 0 ∷ 0 ∷ 0 ∷ n / 16777216 ∷ n / 65536 % 256 ∷ n / 256 % 256 ∷ n % 256 ∷ []
 

@@ -1,3 +1,5 @@
+//! What no clause says: messages of a host worked by hand, in pieces of every length.
+
 ghost use Rattle.std.specs.Prelude.{◌<◌, length};
 
 use super::*;
@@ -138,8 +140,8 @@ fn bytes_that_are_no_message(rt: HostRuntime) {
     assert_eq!(rt; BytesFault::NotOne.number(), 0);
 }
 
-// The messages that a reader of a screen of 1 by 1 makes of the bytes, in one piece and byte by byte,
-// are this one.
+// The messages that a reader of a screen of 1 by 1 makes of the bytes, in one piece and byte by
+// byte, are this one.
 fn is_one_message(alloc: Global, bytes: &[u8], expected: &[u8]) -> bool {
     for length in [1, 7, 200_000] {
         let (messages, fault) = read(alloc, bytes, length);
@@ -257,8 +259,8 @@ fn messages_that_are_written(rt: HostRuntime) -> Result<(), Fail> {
     Ok(())
 }
 
-// Whether the plain function and a reader, which gets one byte at a time, say the same of bytes that
-// begin with at most one message.
+// Whether the plain function and a reader, which gets one byte at a time, say the same of bytes
+// that begin with at most one message.
 fn agree(alloc: Global, bytes: &[u8]) -> bool {
     let (messages, fault) = read(alloc, bytes, 1);
     match read_message(alloc, 1, 1, bytes) {

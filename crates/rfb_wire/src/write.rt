@@ -11,8 +11,8 @@ ghost use Rattle.rfb_wire.specs.Written.{raw_head, raw_update_bytes, raw_rectang
 use client_wire::Area;
 use pixel_format::{Color, NoMemory};
 
-/// Appends a host's FramebufferUpdate of one Raw rectangle (RFC 6143, sections 7.6.1 and 7.7.1): its
-/// area, and the pixels of the area by rows, in the viewer's format.
+/// Appends a host's FramebufferUpdate of one Raw rectangle (RFC 6143, sections 7.6.1 and 7.7.1):
+/// its area, and the pixels of the area by rows, in the viewer's format.
 pub fn write_raw_update(area: Area, pixels: &[u8], out: &mut Vec<u8>) -> Result<(), NoMemory>
     ensures ok { OnOk result (out.new.items ≡ out.old.items ++ raw_update_bytes area pixels.now) }
     ensures err { OnErr result (out.new.items ≡ out.old.items) }
@@ -144,8 +144,9 @@ fn write_text_head(count: u32, out: &mut Vec<u8>) -> Result<(), NoMemory>
     Ok(())
 }
 
-/// An update of one Raw rectangle that is written is read as a recorded message with that rectangle,
-/// where the area lies within the screen and has four bytes for each place. (A law: it does nothing.)
+/// An update of one Raw rectangle that is written is read as a recorded message with that
+/// rectangle, where the area lies within the screen and has four bytes for each place. (A law: it
+/// does nothing.)
 pub fn written_update_is_read()
     ensures { (limit width height : ℕ) → (area : AreaValue) → (pixels : List ℕ)
         → IsTrue (is_inside width height area) → length pixels ≡ 4 * (area.w * area.h)

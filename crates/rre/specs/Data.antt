@@ -1,5 +1,5 @@
--- What the data of an RRE rectangle are (RFC 6143, section 7.7.3): a relation between a pixel format,
--- the rectangle's size, bytes, and the background and subrectangles that they say.
+-- What the data of an RRE rectangle are (RFC 6143, section 7.7.3): a relation between a pixel
+-- format, the rectangle's size, bytes, and the background and subrectangles that they say.
 use Rattle.std.specs.Prelude.{◌≡◌, ℕ, ◌+◌, ◌<◌, ◌≤◌, List, [], ◌∷◌, ◌++◌, length}
 use Rattle.pixel_format.specs.Format.{Format, pixel_bytes}
 use Rattle.pixel_format.specs.Pixel.{pixel_color}
@@ -51,8 +51,8 @@ pub record IsData (f : Format) (w h : ℕ) (bytes : List ℕ) (content : Content
 abbrev pub AreData : Format → ℕ → ℕ → List ℕ → Type 0
 AreData f w h bytes = (content : Content) × IsData f w h bytes content
 
--- The bytes begin with a subrectangle that leaves the rectangle, behind the head and the subrectangles
--- before it.
+-- The bytes begin with a subrectangle that leaves the rectangle, behind the head and the
+-- subrectangles before it.
 pub record IsRefused (f : Format) (w h : ℕ) (bytes : List ℕ) : Type 0 where
   pub head : List ℕ
   pub pixel : List ℕ

@@ -1,5 +1,5 @@
--- The data of an RRE rectangle (RFC 6143, section 7.7.3), read from the front of a list of bytes. Each
--- field is judged once it is whole.
+-- The data of an RRE rectangle (RFC 6143, section 7.7.3), read from the front of a list of bytes.
+-- Each field is judged once it is whole.
 use Rattle.std.specs.Prelude.{ℕ, zero, suc, ◌+◌, ◌*◌, List, [], ◌∷◌, take, drop, slice_index, Bool, ◌&&◌, nat_le}
 use Rattle.pixel_format.specs.declared.Color.{Color}
 use Rattle.pixel_format.specs.Format.{Format, pixel_bytes}
@@ -23,8 +23,8 @@ pub record Content : Type 0 where
 pub data Fault : Type 0 where
   Outside : Fault
 
--- A subrectangle is a pixel, and then x, y, width and height of two bytes each. Its corner counts from
--- the rectangle's corner.
+-- A subrectangle is a pixel, and then x, y, width and height of two bytes each. Its corner counts
+-- from the rectangle's corner.
 unfoldable pub subrectangle_of : Format → List ℕ → Subrectangle
 subrectangle_of f bytes = record {
   x = u16_at (drop (pixel_bytes f) bytes) 0;

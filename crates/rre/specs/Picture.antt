@@ -1,4 +1,5 @@
--- The picture of an RRE rectangle (RFC 6143, section 7.7.3). Places count from the rectangle's corner.
+-- The picture of an RRE rectangle (RFC 6143, section 7.7.3). Places count from the rectangle's
+-- corner.
 use Rattle.std.specs.Prelude.{ℕ, ◌-◌, Bool, List, [], ◌∷◌, reverse, if◌then◌else◌}
 use Rattle.pixel_format.specs.declared.Color.{Color}
 use Rattle.pixel_format.specs.Canvas.{Picture, covers}

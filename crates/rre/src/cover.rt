@@ -84,7 +84,8 @@ fn has_color(colors: &[Color], start: usize, width: u16, color: Color) -> bool
     true
 }
 
-// The end of the run of places of one colour that begins at a column, up to a place that is covered.
+// The end of the run of places of one colour that begins at a column, up to a place that is
+// covered.
 fn run_end(colors: &[Color], start: usize, column: u16, row: u16, reach: &[u16]) -> u16
     requires some { column < length reach.now }
     requires narrow { length reach.now < 65536 }
@@ -174,8 +175,8 @@ fn cover_row(
     Ok(())
 }
 
-/// Subrectangles of one colour each that, over the background, give every place of colours by rows its
-/// colour. Each place is looked at a bounded number of times.
+/// Subrectangles of one colour each that, over the background, give every place of colours by rows
+/// its colour. Each place is looked at a bounded number of times.
 pub(crate) fn cover(
     alloc: Global,
     w: u16,

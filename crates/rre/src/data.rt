@@ -6,8 +6,8 @@ ghost use Rattle.rre.specs.Grammar.{subrectangle_of, subrectangle_bytes, is_insi
 
 use pixel_format::{Color, PixelFormat};
 
-/// A part of a rectangle that has one colour. Its corner (x, y) counts from the rectangle's upper left
-/// corner.
+/// A part of a rectangle that has one colour. Its corner (x, y) counts from the rectangle's upper
+/// left corner.
 #[derive(Clone, Copy, Debug, PartialEq, Eq)]
 pub struct Subrectangle {
     pub x: u16,

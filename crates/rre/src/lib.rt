@@ -1,5 +1,5 @@
-//! The RRE encoding of rectangles: rise-and-run-length encoding (RFC 6143, section 7.7.3). The data of
-//! a rectangle are a background, and subrectangles of one colour each which are painted over it.
+//! The RRE encoding of rectangles: rise-and-run-length encoding (RFC 6143, section 7.7.3). The data
+//! of a rectangle are a background, and subrectangles of one colour each which are painted over it.
 #![tactic(auto)]
 
 mod append;

@@ -10,8 +10,8 @@ use crate::fault::Measure;
 use pixel_format::PixelFormat;
 
 /// Which field of a rectangle's data comes next: what stands for the part that is judged. Data that
-/// come in pieces are judged by taking [`wants`](Measuring::wants) bytes for each [`step`](Measuring::step),
-/// from `Head` on, and no byte twice.
+/// come in pieces are judged by taking [`wants`](Measuring::wants) bytes for each
+/// [`step`](Measuring::step), from `Head` on, and no byte twice.
 #[derive(Clone, Copy, Debug, PartialEq, Eq)]
 pub enum Measuring {
     /// The number of subrectangles, and the background's pixel.
@@ -48,8 +48,8 @@ impl Measuring {
         }
     }
 
-    /// Judges the field, which is whole, in a rectangle of w by h. Answers the next one, `None` where
-    /// the data end, and `Measure::Bad` at a subrectangle that leaves the rectangle.
+    /// Judges the field, which is whole, in a rectangle of w by h. Answers the next one, `None`
+    /// where the data end, and `Measure::Bad` at a subrectangle that leaves the rectangle.
     pub fn step(
         self,
         format: &PixelFormat,

@@ -11,8 +11,9 @@ use crate::data::read_subrectangle;
 use pixel_format::{Canvas, PixelFormat};
 
 /// Paints a rectangle of w by h whose upper left corner is the place (x, y) of the canvas, from its
-/// data: the bytes that [`measure`](crate::measure) takes whole (RFC 6143, section 7.7.3). The other
-/// places stay as they were. The canvas can have the colours of the format's pixels. It takes no memory.
+/// data: the bytes that [`measure`](crate::measure) takes whole (RFC 6143, section 7.7.3). The
+/// other places stay as they were. The canvas can have the colours of the format's pixels. It takes
+/// no memory.
 pub fn paint<C: Canvas>(
     format: &PixelFormat,
     x: u16,

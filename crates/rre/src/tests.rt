@@ -1,3 +1,5 @@
+//! What no clause says: RRE data and pictures worked by hand.
+
 ghost use Rattle.std.specs.Prelude.{◌≡◌, ℕ, IfOk, All, ◌/◌, ◌%◌, length, ◌<◌, ◌≤◌, ◌+◌, ◌*◌, ◌∷◌, [], slice_index_or, if◌then◌else◌};
 ghost use Rattle.pixel_format.specs.Canvas.{covers};
 ghost use Rattle.pixel_format.specs.Pixel.{IsWithin, IsScreenColor};
@@ -125,8 +127,8 @@ fn whole_at_the_last_byte(rt: HostRuntime) {
     no_data_begin_others();
 }
 
-// The second subrectangle, which ends at byte 32, is the first to leave a rectangle of 3 columns, or
-// of 3 rows.
+// The second subrectangle, which ends at byte 32, is the first to leave a rectangle of 3 columns,
+// or of 3 rows.
 #[test]
 fn refused_at_the_last_byte(rt: HostRuntime) {
     let host = PixelFormat::host();

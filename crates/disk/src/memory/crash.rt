@@ -1,4 +1,5 @@
-// What a crash leaves of a disk in memory.
+//! What a crash leaves of a disk in memory.
+
 ghost use Rattle.std.specs.Prelude.{◌≡◌, ℕ, ◌⊎◌, ◌<◌, ◌∷◌, ◌++◌, [], length, reverse, take, slice_index, if◌then◌else◌};
 ghost use Rattle.disk.specs.Contents.{MayLeave, is_between};
 ghost use Rattle.disk.specs.History.{present};

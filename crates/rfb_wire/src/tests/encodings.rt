@@ -1,4 +1,5 @@
-// Updates of every encoding.
+//! Updates of every encoding.
+
 ghost use Rattle.std.specs.Prelude.{◌≡◌, ◌<◌, ◌+◌, length, IfOk};
 
 use super::*;
@@ -20,8 +21,8 @@ fn update(
     Ok(bytes)
 }
 
-// A reader of a screen of this size gives the bytes as one message, in pieces of any length, and nothing
-// before the last byte.
+// A reader of a screen of this size gives the bytes as one message, in pieces of any length, and
+// nothing before the last byte.
 fn is_whole(alloc: Global, size: (u16, u16), bytes: &[u8]) -> bool
     requires { 0 < length bytes.now }
 {
@@ -41,8 +42,8 @@ fn is_whole(alloc: Global, size: (u16, u16), bytes: &[u8]) -> bool
     true
 }
 
-// Two tiles across and two down: the first and the third name their background, red and blue, and the others
-// have that of the tile before.
+// Two tiles across and two down: the first and the third name their background, red and blue, and
+// the others have that of the tile before.
 const HEXTILE: [u8; 12] = [2, 0, 0, 255, 0, 0, 2, 255, 0, 0, 0, 0];
 
 // A black background and three subrectangles: red, green, and one of no area.

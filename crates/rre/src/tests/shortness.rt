@@ -1,6 +1,8 @@
-// How many subrectangles the encoder lists, against libvncserver's RRE encoder as it is described: the background is
-// a colour at the most places; by rows, from each place of another colour that isn't covered, it takes the larger of
-// two rectangles, the run to the right as far down as it goes, and the run down as far to the right as it goes.
+//! How many subrectangles the encoder lists, against libvncserver's RRE encoder as it is described:
+//! the background is a colour at the most places; by rows, from each place of another colour that
+//! isn't covered, it takes the larger of two rectangles, the run to the right as far down as it
+//! goes, and the run down as far to the right as it goes.
+
 ghost use Rattle.std.specs.Prelude.{◌≡◌, ◌*◌, length, IfOk};
 
 use super::{
@@ -96,8 +98,8 @@ fn times(color: Color, colors: &[Color]) -> usize {
     colors.iter().filter(|other| **other == color).count()
 }
 
-// Encodes a picture in the host format: no colour is more frequent than the background, and libvncserver would list
-// no fewer subrectangles over it.
+// Encodes a picture in the host format: no colour is more frequent than the background, and
+// libvncserver would list no fewer subrectangles over it.
 fn compare(rt: &impl Abort, alloc: Global, w: u16, h: u16, picture: &[Color]) -> Result<(), Fail>
     requires { length picture.now ≡ h * w }
 {
