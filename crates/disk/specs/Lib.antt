@@ -10,3 +10,4 @@ pub mod MemoryLaws
 pub mod Overwrite
 pub mod Put
 pub mod Wrapped
+pub mod Stopped

@@ -57,6 +57,11 @@ moments_of file events = record { moment = length events; at = λ m. contents_be
 abbrev pub history_of : Kept → History
 history_of d = moments_of d.bytes d.events
 
+-- A call has changed neither the file nor the record.
+pub record IsAsBefore (old new : Kept) : Type 0 where
+  pub bytes : new.bytes ≡ old.bytes
+  pub events : new.events ≡ old.events
+
 -- The newest event was a write, and is undone.
 pub record IsTakenBack (old new : Kept) : Type 0 where
   pub write : Overwrite

@@ -31,10 +31,15 @@ pub trait Disk {
     /// How many calls have failed, up to 2^64 - 1.
     ghost failures: { Self → ℕ };
 
+    /// What a call that failed leaves, from the disk before it and after it. The rules allow much of
+    /// it; a type may say more.
+    ghost after_fault: { Self → Self → Type 0 };
+
     /// The number of bytes that reads give.
     fn len(&mut self) -> Result<u64, DiskFault>
         ensures length { is_modelled → IfOk result (λ n. n ≡ length (present (history self.old)).now) }
         ensures same { is_modelled → history self.new ≡ history self.old }
+        ensures fault { OnErr result (after_fault self.old self.new) }
         ensures counts { is_modelled → CountsFailure (failures self.old) (failures self.new) result };
 
     /// Fills the buffer with the bytes from this place on.
@@ -43,6 +48,7 @@ pub trait Disk {
         requires within { is_modelled → place + length buffer.old ≤ length (present (history self.old)).now }
         ensures read { is_modelled → OnOk result (buffer.new ≡ take (length buffer.old) (drop place (present (history self.old)).now)) }
         ensures same { is_modelled → history self.new ≡ history self.old }
+        ensures fault { OnErr result (after_fault self.old self.new) }
         ensures counts { is_modelled → CountsFailure (failures self.old) (failures self.new) result };
 
     /// Writes over what is there, and past the end. Until a sync, a crash may leave any bytes in
@@ -53,6 +59,7 @@ pub trait Disk {
         requires within { is_modelled → place ≤ length (present (history self.old)).now }
         ensures written { is_modelled → OnOk result (IsWritten place bytes.now (present (history self.old)) (present (history self.new))) }
         ensures goes_on { is_modelled → GoesOn (history self.old) (history self.new) (IsWithinWrite place (length bytes.now) (present (history self.old))) }
+        ensures fault { OnErr result (after_fault self.old self.new) }
         ensures counts { is_modelled → CountsFailure (failures self.old) (failures self.new) result };
 
     /// Brings all that was written through a later crash. A fault leaves what was touched as it
@@ -62,6 +69,7 @@ pub trait Disk {
         ensures failed { is_modelled → OnErr result (present (history self.new) ≡ present (history self.old)) }
         ensures goes_on { is_modelled → GoesOn (history self.old) (history self.new)
             (λ c. (c ≡ present (history self.old)) ⊎ IsSynced (present (history self.old)) c) }
+        ensures fault { OnErr result (after_fault self.old self.new) }
         ensures counts { is_modelled → CountsFailure (failures self.old) (failures self.new) result };
 
     /// What reads give is one of the files that a crash now may leave.

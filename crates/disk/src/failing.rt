@@ -1,6 +1,6 @@
 //! A disk with one call that fails.
 
-ghost use Rattle.std.specs.Prelude.{◌≡◌};
+ghost use Rattle.std.specs.Prelude.{◌≡◌, ◌⊎◌};
 
 use crate::device::{Disk, DiskFault, counted, one_more_failed};
 use crate::switch::Switch;
@@ -54,6 +54,9 @@ impl<D: Disk> Disk for FailingDisk<D> {
     ghost history = { λ d. D.history d.disk };
 
     ghost failures = { λ d. d.failures };
+
+    // A call that this disk fails does nothing; else it is the disk inside that failed.
+    ghost after_fault = { λ old new. (new.disk ≡ old.disk) ⊎ D.after_fault old.disk new.disk };
 
     fn len(&mut self) -> Result<u64, DiskFault> {
         if self.switch.fails_call() {

@@ -1,7 +1,7 @@
 //! A disk that stops.
 
-ghost use Rattle.std.specs.Prelude.{◌≡◌, ◌+◌, ◌<◌, ◌≤◌, ◌^◌, false, [], length, OnOk};
-ghost use Rattle.disk.specs.Contents.{MayLeave, IsWritten, IsWithinWrite, CountsFailure};
+ghost use Rattle.std.specs.Prelude.{◌≡◌, ◌⊎◌, ◌+◌, ◌<◌, ◌≤◌, ◌^◌, false, [], length, take, drop, IfOk, OnOk, OnErr};
+ghost use Rattle.disk.specs.Contents.{MayLeave, IsSynced, IsWritten, IsWithinWrite, CountsFailure};
 ghost use Rattle.disk.specs.Crash.{IsLeftBehind};
 ghost use Rattle.disk.specs.History.{present, GoesOn};
 ghost use Rattle.disk.specs.Memory.{history_of};
@@ -79,6 +79,7 @@ impl FusedDisk {
 impl Disk for FusedDisk {
     ghost use Rattle.disk.specs.MemoryLaws.{Agrees-moments_of};
     ghost use Rattle.disk.specs.Memory.{history_of};
+    ghost use Rattle.disk.specs.Stopped.{IsAfterFault, IsAsBeforeStop, EndsInStoppedWrite};
 
     ghost is_modelled = { Unit {0} };
 
@@ -86,7 +87,16 @@ impl Disk for FusedDisk {
 
     ghost failures = { λ d. d.failures };
 
-    fn len(&mut self) -> Result<u64, DiskFault> {
+    // A call that fails does nothing, but that the write which the stop met may be noted whole.
+    ghost after_fault = { IsAfterFault };
+
+    fn len(&mut self) -> Result<u64, DiskFault>
+        ensures length { IfOk result (λ n. n ≡ length (present (history_of self.old.disk.disk)).now) }
+        ensures same { history_of self.new.disk.disk ≡ history_of self.old.disk.disk }
+        ensures fault { OnErr result (IsAfterFault self.old self.new) }
+        ensures counts { CountsFailure self.old.failures self.new.failures result }
+        ensures flag { self.new.ends_in_stopped_write ≡ self.old.ends_in_stopped_write }
+    {
         if self.switch.stops_call() {
             return Err(one_more_failed(&mut self.failures));
         }
@@ -94,7 +104,16 @@ impl Disk for FusedDisk {
         counted(&mut self.failures, outcome)
     }
 
-    fn read_at(&mut self, place: u64, buffer: &mut [u8]) -> Result<(), DiskFault> {
+    fn read_at(&mut self, place: u64, buffer: &mut [u8]) -> Result<(), DiskFault>
+        requires fits { place + length buffer.old < 2 ^ 64 }
+        requires within { place + length buffer.old ≤ length (present (history_of self.old.disk.disk)).now }
+        ensures read { OnOk result
+            (buffer.new ≡ take (length buffer.old) (drop place (present (history_of self.old.disk.disk)).now)) }
+        ensures same { history_of self.new.disk.disk ≡ history_of self.old.disk.disk }
+        ensures fault { OnErr result (IsAfterFault self.old self.new) }
+        ensures counts { CountsFailure self.old.failures self.new.failures result }
+        ensures flag { self.new.ends_in_stopped_write ≡ self.old.ends_in_stopped_write }
+    {
         if self.switch.stops_call() {
             return Err(one_more_failed(&mut self.failures));
         }
@@ -109,22 +128,41 @@ impl Disk for FusedDisk {
             OnOk result (IsWritten place bytes.now (present before) (present (history_of self.new.disk.disk))) }
         ensures goes_on { let before = history_of self.old.disk.disk in
             GoesOn before (history_of self.new.disk.disk) (IsWithinWrite place (length bytes.now) (present before)) }
+        ensures fault { OnErr result (IsAfterFault self.old self.new) }
+        ensures stopped { OnErr result (IsAsBeforeStop self.old self.new ⊎ EndsInStoppedWrite place bytes.now self.old self.new) }
         ensures counts { CountsFailure self.old.failures self.new.failures result }
         ensures passed { OnOk result (self.new.ends_in_stopped_write ≡ false) }
     {
         if self.switch.stops_call() {
-            if self.switch.stops_first_write() {
-                let failing = &mut self.disk;
-                self.ends_in_stopped_write |= failing.disk.write_at(place, bytes).is_ok();
+            let fault = one_more_failed(&mut self.failures);
+            if !self.switch.stops_first_write() {
+                return Err(fault);
             }
-            return Err(one_more_failed(&mut self.failures));
+            let failing = &mut self.disk;
+            return match failing.disk.write_at(place, bytes) {
+                Ok(()) => {
+                    self.ends_in_stopped_write = true;
+                    Err(fault)
+                }
+                Err(_) => Err(fault),
+            };
         }
         let outcome = self.disk.write_at(place, bytes);
         self.ends_in_stopped_write &= outcome.is_err();
         counted(&mut self.failures, outcome)
     }
 
-    fn sync(&mut self) -> Result<(), DiskFault> {
+    fn sync(&mut self) -> Result<(), DiskFault>
+        ensures synced { let before = history_of self.old.disk.disk in
+            OnOk result (IsSynced (present before) (present (history_of self.new.disk.disk))) }
+        ensures failed { OnErr result (present (history_of self.new.disk.disk) ≡ present (history_of self.old.disk.disk)) }
+        ensures goes_on { let before = history_of self.old.disk.disk in
+            GoesOn before (history_of self.new.disk.disk) (λ c. (c ≡ present before) ⊎ IsSynced (present before) c) }
+        ensures fault { OnErr result (IsAfterFault self.old self.new) }
+        ensures stopped { OnErr result (IsAsBeforeStop self.old self.new) }
+        ensures counts { CountsFailure self.old.failures self.new.failures result }
+        ensures passed { OnOk result (self.new.ends_in_stopped_write ≡ false) }
+    {
         if self.switch.stops_call() {
             return Err(one_more_failed(&mut self.failures));
         }

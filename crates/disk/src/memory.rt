@@ -1,9 +1,9 @@
 //! A disk in memory, which can tell its past.
 
 ghost use Rattle.std.specs.Prelude.{◌≡◌, ◌+◌, ◌<◌, ◌≤◌, ◌^◌, [], ◌∷◌, ◌++◌, length, take, drop, IsOk, IfOk, OnOk, OnErr};
-ghost use Rattle.disk.specs.Contents.{put, IsOnDisk, CountsFailure};
-ghost use Rattle.disk.specs.History.{present};
-ghost use Rattle.disk.specs.Memory.{history_of, noted_write};
+ghost use Rattle.disk.specs.Contents.{put, IsOnDisk, IsWritten, IsWithinWrite, CountsFailure};
+ghost use Rattle.disk.specs.History.{present, GoesOn};
+ghost use Rattle.disk.specs.Memory.{IsAsBefore, history_of, noted_write};
 
 mod crash;
 
@@ -140,9 +140,13 @@ impl Disk for MemoryDisk {
 
     ghost failures = { λ d. d.failures };
 
+    // A call that fails does nothing: the file and the record stay as they were.
+    ghost after_fault = { IsAsBefore };
+
     fn len(&mut self) -> Result<u64, DiskFault>
         ensures length { IfOk result (λ n. n ≡ length (present (history_of self.old)).now) }
         ensures same { history_of self.new ≡ history_of self.old }
+        ensures fault { OnErr result (IsAsBefore self.old self.new) }
         ensures counts { CountsFailure self.old.failures self.new.failures result }
         ensures never_fails { IsOk result }
     {
@@ -155,6 +159,7 @@ impl Disk for MemoryDisk {
         ensures read { OnOk result
             (buffer.new ≡ take (length buffer.old) (drop place (present (history_of self.old)).now)) }
         ensures same { history_of self.new ≡ history_of self.old }
+        ensures fault { OnErr result (IsAsBefore self.old self.new) }
         ensures counts { CountsFailure self.old.failures self.new.failures result }
         ensures never_fails { IsOk result }
     {
@@ -163,7 +168,20 @@ impl Disk for MemoryDisk {
         Ok(())
     }
 
-    fn write_at(&mut self, place: u64, bytes: &[u8]) -> Result<(), DiskFault> {
+    fn write_at(&mut self, place: u64, bytes: &[u8]) -> Result<(), DiskFault>
+        requires fits { place + length bytes.now < 2 ^ 64 }
+        requires within { place ≤ length (present (history_of self.old)).now }
+        ensures written { OnOk result (IsWritten place bytes.now (present (history_of self.old)) (present (history_of self.new))) }
+        ensures goes_on { GoesOn (history_of self.old) (history_of self.new)
+            (IsWithinWrite place (length bytes.now) (present (history_of self.old))) }
+        ensures fault { OnErr result (IsAsBefore self.old self.new) }
+        ensures noted { OnOk result (self.new ≡ record {
+          bytes = put self.old.bytes place bytes.now;
+          events = Event.Wrote (noted_write place bytes.now self.old.bytes) ∷ self.old.events;
+          failures = self.old.failures;
+        }) }
+        ensures counts { CountsFailure self.old.failures self.new.failures result }
+    {
         match write(&mut self.bytes, &mut self.events, place as usize, bytes) {
             Ok(()) => Ok(()),
             Err(_) => Err(one_more_failed(&mut self.failures)),
