@@ -200,6 +200,71 @@ fn a_disk_that_fails_or_stops(rt: HostRuntime) -> Result<(), Fail> {
     Ok(())
 }
 
+// What a `new`, an `open`, a `fail` or a `stop` does to the ones before it.
+#[test]
+fn a_line_ends_what_another_began(rt: HostRuntime) -> Result<(), Fail> {
+    let alloc = rt.alloc();
+    let taken = "new 1 1 4 x; host 0 02; take";
+    let accepted = "recording 1 1 4; accepted 0; taken 0 1";
+    for (script, expected) in [
+        // A second stop takes the first one's place: the gate is left as its fill says.
+        (
+            "; body; stop 1 00; stop 1 4f; gate; open",
+            "; written; set; set; gate refused 2; opened 1; ",
+        ),
+        (
+            "; body; stop 1 4f; stop 1 00; gate; open",
+            "; written; set; set; gate refused 2; opened 0; ",
+        ),
+        // A second fail takes the first one's place.
+        ("; fail 0; fail 1; body", "; set; set; body refused 2; "),
+        (
+            "; fail 0; fail 2; body; gate",
+            "; set; set; written; gate refused 2; ",
+        ),
+        // What was armed and never met ends at `open`, which takes what the stop leaves all the same.
+        (
+            "; fail 9; open; host 0 02; take; body; gate",
+            "; set; opened 0; accepted 0; taken 0 1; written; committed 1; ",
+        ),
+        (
+            "; body; gate; stop 9 4f; open; host 0 02",
+            "; written; committed 1; set; opened 1; accepted 1; ",
+        ),
+        // `new` ends both before it touches the disk, and begins again with an empty one.
+        (
+            "; body; gate; fail 0; new 2 1 4 y; open",
+            "; written; committed 1; set; recording 2 1 4; opened 0; ",
+        ),
+        (
+            "; stop 0 4f; new 2 1 4 y; host 0 02; take; body",
+            "; set; recording 2 1 4; accepted 0; taken 0 1; written; ",
+        ),
+        // After a refused `new` there is no desk. The disk is empty, and is tried at each `open`.
+        ("; new 1 1 0 x; take", "; new refused 2; line 5: bad; "),
+        (
+            "; new 1 1 0 x; open; open; new 1 1 4 x; open",
+            "; new refused 2; open refused journal 1; open refused journal 1; recording 1 1 4; opened 0; ",
+        ),
+        (
+            "; new 1 1 0 x; open; host 0 02",
+            "; new refused 2; open refused journal 1; line 6: bad; ",
+        ),
+        // Bad bytes are refused as such also where the book is broken.
+        (
+            "; fail 0; body; host 0 09; host 0 02",
+            "; set; body refused 2; bytes refused 1; host refused 3; ",
+        ),
+        // A carriage return is part of its word.
+        ("; body\r", "; line 4: bad; "),
+    ] {
+        let whole = format!(in alloc; "{taken}{script}")?;
+        let answered = format!(in alloc; "{accepted}{expected}")?;
+        assert_eq!(rt; answers(alloc, &whole)?.as_str(), answered.as_str());
+    }
+    Ok(())
+}
+
 #[test]
 fn viewers_are_seated(rt: HostRuntime) -> Result<(), Fail> {
     let alloc = rt.alloc();
