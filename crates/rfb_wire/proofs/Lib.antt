@@ -10,3 +10,4 @@ pub mod Others
 pub mod FromFront
 pub mod FrontMessage
 pub mod FrontOthers
+pub mod UpdatesTold
