@@ -11,3 +11,4 @@ pub mod FromFront
 pub mod FrontMessage
 pub mod FrontOthers
 pub mod UpdatesTold
+pub mod Short

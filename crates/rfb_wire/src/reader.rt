@@ -4,6 +4,7 @@ ghost use Rattle.std.specs.Prelude.{◌≡◌, ℕ, List, [], ◌++◌, Option, 
 ghost use Rattle.client_wire.specs.declared.fault.WireFault.{WireFault};
 ghost use Rattle.client_wire.specs.Stream.{StandsFor, Goes, Stops, FaultOf, Grows};
 ghost use Rattle.rfb_wire.specs.Grammar.{message_at, message_limit};
+ghost use Rattle.rfb_wire.specs.Reader.{IsShort};
 ghost use Rattle.rfb_wire.specs.Stream.{given};
 
 use crate::message::HostMessage;
@@ -89,6 +90,8 @@ impl ServerReader {
         ensures for_good { (f : WireFault) → self.old.fault ≡ Some f
             → (result ≡ Err f) × (self.new ≡ self.old) × (out.new.items ≡ out.old.items) }
         ensures emptied { OnErr result (self.old.fault ≡ None → self.new.kept ≡ []) }
+        // What is read over is counted and not kept.
+        ensures short { IsShort message_limit self.new.width self.new.height self.new.kept }
         ensures size { (self.new.width ≡ self.old.width) × (self.new.height ≡ self.old.height) }
     {
         if let Some(fault) = self.fault {
