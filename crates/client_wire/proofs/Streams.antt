@@ -2,11 +2,12 @@
 -- reading.
 use Rattle.std.proofs.Common.{◌≡◌, ℕ, List, [], ◌∷◌, ◌++◌, length, refl, sym, ap, ◌∙◌, subst, arith, append_assoc}
 use Rattle.std.specs.List.{flat_map, AllByRecursion}
-use Rattle.std.proofs.lemmas.List.{append-nil, append_cancel_right}
+use Rattle.std.proofs.lemmas.List.{append-nil, append_cancel_right, length-replicate}
+use Rattle.std.specs.Prelude.{replicate}
 use Rattle.pixel_format.specs.Reading.{Reading, Got, More, Bad, IsLocal}
 use Rattle.client_wire.specs.declared.fault.WireFault.{WireFault}
 use Rattle.client_wire.specs.Fault.{UnlessMemory}
-use Rattle.client_wire.specs.Stream.{Part, bytes_of, IsPart, Reads, BeginsNone, FaultOf, StandsFor, given_of, Gives, Moves, Stops}
+use Rattle.client_wire.specs.Stream.{Part, bytes_of, IsPart, Reads, BeginsNone, FaultOf, StandsFor, given_of, Gives, Grows, Moves, Stops}
 
 -- a list made of those of two lists
 pub flat_append : {A B : Type 0} (f : A → List B) (a b : List A) → flat_map f (a ++ b) ≡ flat_map f a ++ flat_map f b
@@ -24,6 +25,18 @@ gives_none read give old new stream rest same is = record {
   given = same ∙ sym (append-nil old);
   reads = record { each = tt; stream_is = is };
 }
+
+-- what is given is appended
+pub given_grows : {M G : Type 0} (read : List ℕ → Reading M WireFault) (give : M → List ℕ → List G) (old new : List G) (stream rest : List ℕ)
+    → Gives read give old new stream rest → Grows old new
+given_grows read give old new stream rest g = record { more = given_of give g.parts; new_is = g.given }
+
+pub same_grows : {G : Type 0} (old new : List G) → new ≡ old → Grows old new
+same_grows old new same = record { more = []; new_is = same ∙ sym (append-nil old) }
+
+-- a reader stands for some rest, whatever it is
+pub some_rest : (kept : List ℕ) (passed : ℕ) → StandsFor kept passed (kept ++ replicate passed 0)
+some_rest kept passed = record { skipped = replicate passed 0; count = length-replicate passed 0; is = refl }
 
 pub gives_one : {M G : Type 0} (read : List ℕ → Reading M WireFault) (give : M → List ℕ → List G) (old new : List G) (m : M) (stream : List ℕ)
     → read stream ≡ Got m [] → new ≡ old ++ give m stream → Gives read give old new stream []

@@ -73,6 +73,11 @@ pub record Stops {M G : Type 0} (read : List ℕ → Reading M WireFault) (give 
   pub gives : Gives read give old new stream rest
   pub fault : UnlessMemory f (read rest ≡ Bad f)
 
+-- all that stood in a list stays in front of what was appended
+pub record Grows {G : Type 0} (old new : List G) : Type 0 where
+  pub more : List G
+  pub new_is : new ≡ old ++ more
+
 -- of a message, itself is given, without its bytes
 abbrev pub itself : {M : Type 0} → M → List ℕ → List M
 itself m bytes = m ∷ []

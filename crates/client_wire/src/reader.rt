@@ -4,7 +4,7 @@ ghost use Rattle.std.specs.Prelude.{◌≡◌, ℕ, List, [], ◌++◌, ◌<◌,
 ghost use Rattle.client_wire.specs.declared.fault.WireFault.{WireFault};
 ghost use Rattle.client_wire.specs.Grammar.{message_at};
 ghost use Rattle.client_wire.specs.Reader.{kept_limit};
-ghost use Rattle.client_wire.specs.Stream.{Goes, Stops, FaultOf, StandsFor, itself};
+ghost use Rattle.client_wire.specs.Stream.{Goes, Stops, FaultOf, StandsFor, Grows, itself};
 
 use crate::fault::WireFault;
 use crate::message::ClientMessage;
@@ -66,6 +66,8 @@ impl ClientReader {
         ensures faults { IfErr result (λ f. self.old.fault ≡ None → (rest : List ℕ)
             → StandsFor self.old.kept self.old.passed rest
             → Stops message_at itself f out.old.items out.new.items (rest ++ piece.now)) }
+        // What was given before stays in front.
+        ensures grows { Grows out.old.items out.new.items }
         ensures going { OnOk result (self.new.fault ≡ None) }
         ensures stopped { IfErr result (λ f. self.new.fault ≡ Some f) }
         ensures for_good { (f : WireFault) → self.old.fault ≡ Some f

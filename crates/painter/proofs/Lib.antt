@@ -2,3 +2,4 @@ pub mod Places
 pub mod Order
 pub mod Rows
 pub mod Screens
+pub mod Same

@@ -24,6 +24,11 @@ pub record SameSize (old new : Framebuffer) : Type 0 where
 abbrev pub Has : Framebuffer → Picture → Type 0
 Has screen picture = (x y : ℕ) → x < screen.width → y < screen.height → color_at screen x y ≡ picture x y
 
+-- two screens of one size, with the same colour at each place
+pub record IsSame (one other : Framebuffer) : Type 0 where
+  pub size : SameSize one other
+  pub colors : Has one (color_at other)
+
 -- the screen shows what the messages paint
 abbrev pub Shows : Framebuffer → List Host → Type 0
 Shows screen messages = Has screen (painted messages)

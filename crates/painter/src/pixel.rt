@@ -8,7 +8,7 @@ ghost use Rattle.painter.specs.Picture.{pixel_at};
 use pixel_format::{Color, host_pixel};
 
 /// The colour of a place, a byte for each channel.
-#[derive(Clone, Copy)]
+#[derive(Clone, Copy, PartialEq)]
 pub(crate) struct Pixel {
     pub(crate) r: u8,
     pub(crate) g: u8,

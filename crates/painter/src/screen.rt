@@ -1,9 +1,9 @@
 //! Screens.
 
-ghost use Rattle.std.specs.Prelude.{◌≡◌, ◌<◌, ◌≤◌, ◌+◌, ℕ, ◌++◌, ◌∷◌, [], IfOk, List};
+ghost use Rattle.std.specs.Prelude.{◌≡◌, ◌↔◌, ◌<◌, ◌≤◌, ◌+◌, ℕ, ◌++◌, ◌∷◌, [], IsTrue, IfOk, List};
 ghost use Rattle.rfb_wire.specs.Host.{Host};
 ghost use Rattle.pixel_format.specs.Pixel.{IsScreenColor};
-ghost use Rattle.painter.specs.Framebuffer.{Framebuffer, color_at, SameSize, Has, Shows};
+ghost use Rattle.painter.specs.Framebuffer.{Framebuffer, color_at, SameSize, Has, IsSame, Shows};
 ghost use Rattle.painter.specs.Picture.{black, painted_data, painted_message};
 ghost use Rattle.pixel_format.specs.Format.{host_format};
 ghost use Rattle.rect_data.specs.Data.{AreData};
@@ -71,6 +71,13 @@ impl Screen {
     {
         let place = usize::from(y) * usize::from(self.width) + usize::from(x);
         color_of_pixel(self.pixels[place])
+    }
+
+    /// Whether the other screen is the same: it has this size, and the same colour at each place.
+    pub fn same(&self, other: &Screen) -> bool
+        ensures { IsTrue result ↔ IsSame self.now other.now }
+    {
+        self.width == other.width && self.height == other.height && self.pixels == other.pixels
     }
 
     // Paints a rectangle of this area from its data.

@@ -41,6 +41,17 @@ fn one_pixel(rt: HostRuntime) -> Result<(), Fail> {
 }
 
 #[test]
+fn screens_told_apart(rt: HostRuntime) -> Result<(), Fail> {
+    let black = Screen::black(rt.alloc(), 1, 1)?;
+    let mut red = Screen::black(rt.alloc(), 1, 1)?;
+    assert!(rt; red.same(&black));
+    red.paint(&HostMessage::from_bytes(rt.alloc(), 1, 1, &PIXEL)?);
+    assert!(rt; !red.same(&black));
+    assert!(rt; !black.same(&Screen::black(rt.alloc(), 1, 2)?));
+    Ok(())
+}
+
+#[test]
 fn one_row(rt: HostRuntime) -> Result<(), Fail> {
     let mut screen = Screen::black(rt.alloc(), 3, 1)?;
     screen.paint(&HostMessage::from_bytes(rt.alloc(), 3, 1, &ROW)?);

@@ -10,3 +10,5 @@ pub mod Others
 pub mod FromFront
 pub mod FrontMessage
 pub mod FrontOthers
+pub mod UpdatesTold
+pub mod Short

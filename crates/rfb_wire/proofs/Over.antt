@@ -1,5 +1,5 @@
 -- Bytes that are read over.
-use Rattle.std.proofs.Common.{◌≡◌, ℕ, ◌+◌, ◌-◌, ◌<◌, ◌^◌, List, [], ◌∷◌, ◌++◌, length, take, drop, nat_eq, replicate, true, false, refl, sym, ap, ◌∙◌, subst, inl, inr, arith, append_assoc, length-append}
+use Rattle.std.proofs.Common.{◌≡◌, ℕ, ◌+◌, ◌-◌, ◌<◌, ◌≤◌, ◌^◌, List, [], ◌∷◌, ◌++◌, length, take, drop, nat_eq, replicate, true, false, refl, sym, ap, ◌∙◌, subst, inl, inr, arith, append_assoc, length-append}
 use Rattle.std.specs.Prelude.{Option, Some, None, MatchOption, nat_lt}
 use Rattle.std.proofs.lemmas.Bool.{ltb-true, ltb-false, lt-ltb, le-ltb}
 use Rattle.std.proofs.lemmas.List.{length-replicate, append-nil, take-append-drop, length-take-le, length-drop}
@@ -12,6 +12,7 @@ use Rattle.rfb_wire.specs.declared.progress.Progress.{Progress}
 use Rattle.client_wire.specs.Number.{u16_at}
 use Rattle.rfb_wire.specs.Grammar.{Recorded, ReadOver, message_at, update_at, rectangles_at, read_over}
 use Rattle.rfb_wire.specs.Host.{Host}
+use Rattle.rfb_wire.specs.Reader.{head_limit}
 use Rattle.rfb_wire.specs.Progress.{IsAt, IsInField, IsOver, passed_in, unlimited_at}
 use Rattle.client_wire.specs.Stream.{StandsFor, Moves}
 use Rattle.rfb_wire.specs.Stream.{given}
@@ -45,7 +46,7 @@ unfolding read_over
 read_over_waits n some = rw (field-short {E = WireFault} n [] some) refl
 
 -- an update is not read over
-update_never : (width height : ℕ) (bytes rest : List ℕ) → update_at width height bytes ≡ Got ReadOver rest → ⊥
+pub update_never : (width height : ℕ) (bytes rest : List ℕ) → update_at width height bytes ≡ Got ReadOver rest → ⊥
 unfolding update_at
 update_never width height bytes rest e =
     let b = bind_got (field 1 bytes) (λ type head. field 3 head >>= λ f body. rectangles_at width height (u16_at f 1) 4 body >>= λ rectangles after. Got (Recorded rectangles) after) ReadOver rest e in
@@ -73,14 +74,15 @@ over_begins limit width height n (b ∷ bytes) some link more = elim (true_or_fa
 append_empty : (bytes skipped : List ℕ) → length skipped ≡ 0 → bytes ++ skipped ≡ bytes
 append_empty bytes skipped none = ap (λ z. bytes ++ z) (empty_list skipped none) ∙ append-nil bytes
 
-pub over_starts : (limit width height n : ℕ) (bytes : List ℕ) → 0 < length bytes → ((more : List ℕ) → unlimited_at width height (bytes ++ more) ≡ read_over n more)
+pub over_starts : (limit width height n : ℕ) (bytes : List ℕ) → 0 < length bytes → length bytes ≤ head_limit → ((more : List ℕ) → unlimited_at width height (bytes ++ more) ≡ read_over n more)
     → 0 < n → n < 2 ^ 32 → IsOver limit width height bytes (record { passed = 0; left = n })
-over_starts limit width height n bytes head link some bound = record {
+over_starts limit width height n bytes head short link some bound = record {
   link = λ skipped more none.
       let empty : bytes ++ skipped ≡ bytes = append_empty bytes skipped none in
       ap (λ z. message_at limit width height (z ++ more)) empty ∙ over_begins limit width height n bytes head link more;
   some = some;
   bound = omega arith;
+  short = short;
 }
 
 -- one that has no more bytes
@@ -106,6 +108,7 @@ over_goes limit width height n bytes o is few = record {
       ∙ ap (λ k. read_over k (b ++ more)) left ∙ read_over_more (o.left - n) b more;
   some = omega arith;
   bound = omega (arith, is.bound);
+  short = is.short;
 }
 
 -- where bytes pass, nothing is given

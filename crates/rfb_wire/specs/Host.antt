@@ -1,5 +1,5 @@
 -- One recorded message of a host.
-use Rattle.std.specs.Prelude.{◌≡◌, ℕ, ◌+◌, ◌≤◌, List, [], length, slice_range}
+use Rattle.std.specs.Prelude.{◌≡◌, ℕ, ◌+◌, ◌≤◌, Bool, false, nat_eq, List, [], ◌∷◌, length, slice_range}
 use Rattle.pixel_format.specs.Format.{host_format}
 use Rattle.pixel_format.specs.Reading.{Got}
 use Rattle.rfb_wire.specs.declared.message.Rectangle.{Rectangle}
@@ -16,6 +16,11 @@ pub record Host : Type 0 where
 abbrev pub host_of : ℕ → ℕ → List ℕ → List Rectangle → Host
 host_of width height bytes rectangles =
     record { width = width; height = height; bytes = bytes; rectangles = rectangles }
+
+-- A message is told to be an update by its first byte, the type (RFC 6143, section 7.6.1).
+abbrev pub is_update : List ℕ → Bool
+is_update [] = false
+is_update (type ∷ bytes) = nat_eq type 0
 
 -- the bytes are one recorded message, of these rectangles, and of at most so many bytes if it is an
 -- update

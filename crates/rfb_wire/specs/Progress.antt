@@ -17,6 +17,7 @@ use Rattle.rfb_wire.specs.declared.progress.Step.{Step}
 use Rattle.rfb_wire.specs.declared.progress.Progress.{Progress}
 use Rattle.client_wire.specs.Number.{u16_at}
 use Rattle.rfb_wire.specs.Grammar.{Message, Recorded, ReadOver, rectangles_at, update_at, other_at, color_map_at, text_at, text_data_at, read_over, message_at, text_limit}
+use Rattle.rfb_wire.specs.Reader.{head_limit}
 
 -- how many bytes the field has
 abbrev pub wants_of : Stage → ℕ
@@ -94,7 +95,7 @@ pub record BeginsAt (at : ℕ) (stage : Stage) : Type 0 where
 abbrev pub NextBegins : ℕ → Next → Type 0
 NextBegins at (nexts.Field stage) = BeginsAt at stage
 NextBegins at nexts.End = Unit {0}
-NextBegins at (nexts.ReadOver n) = n < 2 ^ 32
+NextBegins at (nexts.ReadOver n) = (n < 2 ^ 32) × (at ≤ head_limit)
 
 -- the bytes of an update
 abbrev pub IsOfUpdate : List ℕ → Type 0
@@ -136,6 +137,7 @@ pub record IsOver (limit width height : ℕ) (bytes : List ℕ) (o : Over) : Typ
       → message_at limit width height ((bytes ++ skipped) ++ more) ≡ read_over o.left more
   pub some : 0 < o.left
   pub bound : o.passed + o.left < 2 ^ 32
+  pub short : length bytes ≤ head_limit
 
 -- where the reader stands
 abbrev pub IsAt : ℕ → ℕ → ℕ → Progress → Type 0
@@ -150,4 +152,4 @@ passed_in (Some o) = o.passed
 abbrev pub After : ℕ → ℕ → ℕ → List ℕ → Progress → Next → Type 0
 After limit width height bytes p (nexts.Field stage) = IsInField limit width height p
 After limit width height bytes p nexts.End = unlimited_at width height bytes ≡ Got (Recorded p.rectangles.items) []
-After limit width height bytes p (nexts.ReadOver n) = (n < 2 ^ 32) × ((more : List ℕ) → unlimited_at width height (bytes ++ more) ≡ read_over n more)
+After limit width height bytes p (nexts.ReadOver n) = (n < 2 ^ 32) × (length bytes ≤ head_limit) × ((more : List ℕ) → unlimited_at width height (bytes ++ more) ≡ read_over n more)

@@ -1,6 +1,6 @@
 //! Recorded messages of a host.
 
-ghost use Rattle.std.specs.Prelude.{◌≡◌, ◌≤◌, All, IfOk, Err, MatchResult, length};
+ghost use Rattle.std.specs.Prelude.{◌≡◌, ◌↔◌, ◌≤◌, All, IsTrue, IfOk, Err, MatchResult, length};
 
 use crate::fault::BytesFault;
 use crate::reader::ServerReader;
@@ -54,7 +54,8 @@ impl Model for HostMessage {
 impl HostMessage {
     ghost use Rattle.client_wire.specs.declared.fault.WireFault.{WireFault};
     ghost use Rattle.rfb_wire.specs.Grammar.{message_at, message_limit};
-    ghost use Rattle.rfb_wire.specs.Host.{Host, host_of, IsRecorded, IsPlaced};
+    ghost use Rattle.rfb_wire.specs.Host.{Host, host_of, is_update, IsRecorded, IsPlaced};
+    ghost use Rattle.rfb_wire.specs.Message.{IsUpdate};
     ghost use Rattle.client_wire.specs.Fault.{UnlessMemory};
     ghost use Rattle.client_wire.specs.Stream.{FaultOf};
     ghost use Rattle.rfb_wire.specs.Stream.{IsFor};
@@ -122,6 +123,28 @@ impl HostMessage {
         ensures { result ≡ (self.now.width, self.now.height) }
     {
         (self.width, self.height)
+    }
+
+    /// Whether the message is a FramebufferUpdate (RFC 6143, section 7.6.1).
+    pub fn is_update(&self) -> bool
+        ensures value { result ≡ is_update self.now.bytes }
+        ensures update { IsTrue result
+            ↔ IsUpdate self.now.width self.now.height self.now.bytes self.now.rectangles }
+    {
+        match self.bytes.as_slice() {
+            [kind, ..] => *kind == 0,
+            [] => false,
+        }
+    }
+
+    /// Whether the other message is the same: its bytes are the same, for a screen of the same size.
+    pub fn same(&self, other: &HostMessage) -> bool
+        ensures equal { IsTrue result ↔ (self.now ≡ other.now) }
+        // Size and bytes determine a message.
+        ensures parts { IsTrue result ↔ ((self.now.width ≡ other.now.width)
+            × (self.now.height ≡ other.now.height) × (self.now.bytes ≡ other.now.bytes)) }
+    {
+        self.width == other.width && self.height == other.height && self.bytes == other.bytes
     }
 
     /// Does nothing: its contract is what the type keeps.

@@ -5,6 +5,7 @@ ghost use Rattle.std.specs.Option.{option_to_list};
 ghost use Rattle.pixel_format.specs.Reading.{Got, Bad};
 ghost use Rattle.rfb_wire.specs.Grammar.{message_at, Recorded, message_limit};
 ghost use Rattle.rfb_wire.specs.Host.{Host, host_of, IsRecorded};
+ghost use Rattle.rfb_wire.specs.Reader.{head_limit};
 ghost use Rattle.client_wire.specs.Fault.{UnlessMemory};
 ghost use Rattle.client_wire.specs.Stream.{StandsFor, Moves, Stops};
 ghost use Rattle.rfb_wire.specs.Stream.{given};
@@ -166,6 +167,7 @@ impl Progress {
     fn read_over(&mut self, alloc: Global, width: u16, height: u16, left: u64)
         requires bound { left < 2 ^ 32 }
         requires head { 0 < length self.old.bytes.items }
+        requires short { length self.old.bytes.items ≤ head_limit }
         requires link { (more : List ℕ) → unlimited_at width height (self.old.bytes.items ++ more) ≡ read_over left more }
         ensures at { IsAt message_limit width height self.new }
         ensures moves { (old : List Host) → Moves (message_at message_limit width height) (given width height) self.new.bytes.items (passed_in self.new.over) old old self.old.bytes.items }

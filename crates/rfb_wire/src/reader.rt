@@ -2,8 +2,9 @@
 
 ghost use Rattle.std.specs.Prelude.{◌≡◌, ℕ, List, [], ◌++◌, Option, Some, None, Ok, Err, OnOk, IfErr, OnErr};
 ghost use Rattle.client_wire.specs.declared.fault.WireFault.{WireFault};
-ghost use Rattle.client_wire.specs.Stream.{StandsFor, Goes, Stops, FaultOf};
+ghost use Rattle.client_wire.specs.Stream.{StandsFor, Goes, Stops, FaultOf, Grows};
 ghost use Rattle.rfb_wire.specs.Grammar.{message_at, message_limit};
+ghost use Rattle.rfb_wire.specs.Reader.{IsShort};
 ghost use Rattle.rfb_wire.specs.Stream.{given};
 
 use crate::message::HostMessage;
@@ -57,6 +58,13 @@ impl ServerReader {
         }
     }
 
+    /// The width and height of the screen.
+    pub fn size(&self) -> (u16, u16)
+        ensures { result ≡ (self.now.width, self.now.height) }
+    {
+        (self.width, self.height)
+    }
+
     /// Takes the next piece of the stream, and appends each message that is whole now. A fault is
     /// answered at the last byte of the field that holds it, once the messages before it are
     /// appended; from then on each call answers the same fault and does nothing else, also where
@@ -75,11 +83,15 @@ impl ServerReader {
             → StandsFor self.old.kept self.old.passed rest
             → Stops (message_at message_limit self.old.width self.old.height) (given self.old.width self.old.height) f
             out.old.items out.new.items (rest ++ piece.now)) }
+        // What was given before stays in front.
+        ensures grows { Grows out.old.items out.new.items }
         ensures going { OnOk result (self.new.fault ≡ None) }
         ensures stopped { IfErr result (λ f. self.new.fault ≡ Some f) }
         ensures for_good { (f : WireFault) → self.old.fault ≡ Some f
             → (result ≡ Err f) × (self.new ≡ self.old) × (out.new.items ≡ out.old.items) }
         ensures emptied { OnErr result (self.old.fault ≡ None → self.new.kept ≡ []) }
+        // What is read over is counted and not kept.
+        ensures short { IsShort message_limit self.new.width self.new.height self.new.kept }
         ensures size { (self.new.width ≡ self.old.width) × (self.new.height ≡ self.old.height) }
     {
         if let Some(fault) = self.fault {

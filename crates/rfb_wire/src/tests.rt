@@ -60,6 +60,20 @@ fn rectangle_of_an_update(rt: HostRuntime) -> Result<(), Fail> {
     Ok(())
 }
 
+#[test]
+fn messages_told_apart(rt: HostRuntime) -> Result<(), Fail> {
+    let red = HostMessage::from_bytes(rt.alloc(), 1, 1, &RED)?;
+    let bell = HostMessage::from_bytes(rt.alloc(), 1, 1, &[2])?;
+    let other = HostMessage::from_bytes(rt.alloc(), 2, 1, &[2])?;
+    assert!(rt; red.is_update());
+    assert!(rt; !bell.is_update());
+    assert!(rt; red.same(&red.copy(rt.alloc())?));
+    assert!(rt; !red.same(&bell));
+    assert!(rt; !bell.same(&other));
+    assert_eq!(rt; ServerReader::new(rt.alloc(), 3, 2).size(), (3, 2));
+    Ok(())
+}
+
 // The fault stands at the last of the bytes: one byte less has none, and the reader keeps it.
 fn faults_at_the_end(alloc: Global, bytes: &[u8], expected: WireFault) -> bool
     requires { 0 < length bytes.now }

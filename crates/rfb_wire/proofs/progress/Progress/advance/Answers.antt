@@ -1,10 +1,11 @@
-use Rattle.std.proofs.Common.{◌≡◌, ℕ, List, ◌++◌, ◌-◌, ◌+◌, ◌<◌, ◌^◌, ◌∙◌, sym, ap, refl, length, take, drop, arith}
+use Rattle.std.proofs.Common.{◌≡◌, ℕ, List, ◌++◌, ◌-◌, ◌+◌, ◌<◌, ◌≤◌, ◌^◌, ◌∙◌, sym, ap, refl, length, take, drop, arith}
 use Rattle.std.proofs.lemmas.List.{take_rest, length-drop}
 use Rattle.std.proofs.lemmas.Result.{err_from_is_err_and}
 use Rattle.rfb_wire.specs.Progress.{resume, start_of, BeginsAt, IsOfKind}
 use Rattle.client_wire.proofs.Fronts.{unless_memory}
 use Rattle.rfb_wire.proofs.Turns.{field_goes, whole_ends, whole_goes, whole_over, field_faults}
 use Rattle.rfb_wire.specs.Grammar.{message_limit}
+use Rattle.rfb_wire.specs.Reader.{head_limit}
 use Rattle.rfb_wire.proofs.progress.Progress.advance.Goals as goal
 
 -- the field of a stage, as the code takes it
@@ -51,5 +52,8 @@ returns-in-ReadOver-clause-goes c =
     let over = whole_over c.args.width c.args.height s.bytes.items c.append.new.rectangles.items c.in_ok-whole.whole.next c.in-ReadOver.field-0
     (field_goes message_limit c.args.width c.args.height s.bytes.items s.rectangles.items c.append.new.rectangles.items s.stage c.in_ok-whole.whole c.requires.linked
     (λ more. ap (λ f. resume c.args.width c.args.height s.stage (f ++ more)) (sym field) ∙ c.in_ok-whole.ensures.goes more) c.in_ok-append.ensures.ok) c.in-ReadOver.is in
-    let small : c.in-ReadOver.field-0 < 2 ^ 32 = rw c.in-ReadOver.is at c.in_ok-whole.ensures.begins in
-    rw c.in-ReadOver.is (small, over)
+    let begins : (c.in-ReadOver.field-0 < 2 ^ 32) × (start_of s.stage + length (drop (start_of s.stage) s.bytes.items) ≤ head_limit) =
+    rw (← field) (rw c.in-ReadOver.is at c.in_ok-whole.ensures.begins) in
+    let end : start_of s.stage + length (drop (start_of s.stage) s.bytes.items) ≡ length s.bytes.items = rw length-drop (omega (arith, c.requires.linked.begun)) in
+    let short : length s.bytes.items ≤ head_limit = omega (arith, begins.1, end) in
+    rw c.in-ReadOver.is (begins.0, short, over)

@@ -12,4 +12,4 @@ returns-then-left-eq0-clause-moves c = λ old.
 
 pub returns-else-left-eq0-clause-at : goal.returns-else-left-eq0-clause-at
 returns-else-left-eq0-clause-at c =
-    over_starts message_limit c.args.width c.args.height c.args.left c.args.self.now.bytes.items c.requires.head c.requires.link (omega arith) c.requires.bound
+    over_starts message_limit c.args.width c.args.height c.args.left c.args.self.now.bytes.items c.requires.head c.requires.short c.requires.link (omega arith) c.requires.bound

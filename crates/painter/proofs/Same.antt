@@ -1,0 +1,76 @@
+-- Two screens of one size that agree at each place have the same pixels.
+use Rattle.std.proofs.Common.{◌≡◌, ℕ, zero, suc, ◌+◌, ◌*◌, ◌/◌, ◌%◌, ◌<◌, Bool, true, false, ◌&&◌, List, length, get_or, Decides, refl, sym, subst, ap, ◌∙◌, arith}
+use Rattle.std.specs.Prelude.{nat_eq, ◌↔◌}
+use Rattle.std.proofs.lemmas.Bool.{eq-eqb, eqb-true}
+use Rattle.std.proofs.lemmas.List.{ext_get_or}
+use Rattle.std.proofs.Math.Nat.{mod-lt, mod-add-div, div-lt_iff_lt-mul}
+use Rattle.pixel_format.specs.declared.Color.{Color}
+use Rattle.painter.specs.declared.pixel.Pixel.{Pixel}
+use Rattle.painter.specs.Framebuffer.{Framebuffer, color_at, Has, IsSame}
+use Rattle.painter.specs.Pixels.{black_pixel, color_of, pixel_color_at}
+use Rattle.painter.proofs.Screens.{screen_of, color_is}
+
+-- a pixel is known by its colour
+pixel_of : (p q : Pixel) → color_of p ≡ color_of q → p ≡ q
+pixel_of p q e =
+    let r : p.r ≡ q.r = ap (λ (c : Color). c.r) e in
+    let g : p.g ≡ q.g = ap (λ (c : Color). c.g) e in
+    let b : p.b ≡ q.b = ap (λ (c : Color). c.b) e in
+    let made : ℕ → ℕ → ℕ → Pixel = λ x y z. record { r = x; g = y; b = z } in
+    ap (λ x. made x p.g p.b) r ∙ ap (λ y. made q.r y p.b) g ∙ ap (made q.r q.g) b
+
+positive : (i height width : ℕ) → i < height * width → 0 < width
+positive i height zero less = absurd (omega arith)
+positive i height (suc width) less = omega arith
+
+row_below : (i height width : ℕ) → i < height * width → 0 < width → i / width < height
+row_below i height width less some = (div-lt_iff_lt-mul some).1 less
+
+pub same_pixels : (width height : ℕ) (ps qs : List Pixel) → length ps ≡ height * width → length qs ≡ height * width
+    → Has (screen_of width height ps) (color_at (screen_of width height qs)) → ps ≡ qs
+same_pixels width height ps qs long also same =
+    ext_get_or black_pixel ps qs (long ∙ sym also) (λ i less.
+    let within : i < height * width = omega (arith, less, long) in
+    let some = positive i height width within in
+    let at : i / width * width + i % width ≡ i = omega (arith, mod-add-div i width) in
+    let here = same (i % width) (i / width) (mod-lt i some) (row_below i height width within some) in
+    let colors : pixel_color_at ps i ≡ pixel_color_at qs i =
+    ap (pixel_color_at ps) (sym at) ∙ sym (color_is ps (i / width * width + i % width)) ∙ here ∙ color_is qs (i / width * width + i % width) ∙ ap (pixel_color_at qs) at in
+    pixel_of (get_or ps i black_pixel) (get_or qs i black_pixel) colors)
+
+both : (a b : Bool) → (a && b) ≡ true → (a ≡ true) × (b ≡ true)
+both true b e = (refl, e)
+both false b e = absurd (cc)
+
+together : (a b : Bool) → a ≡ true → b ≡ true → (a && b) ≡ true
+together true b e f = f
+together false b e f = absurd (cc)
+
+pub same_by_channels : (p q : Pixel) → Decides (nat_eq p.r q.r && (nat_eq p.g q.g && nat_eq p.b q.b)) (p ≡ q)
+same_by_channels p q = (
+  λ e.
+      let one = both (nat_eq p.r q.r) (nat_eq p.g q.g && nat_eq p.b q.b) e in
+      let two = both (nat_eq p.g q.g) (nat_eq p.b q.b) one.1 in
+      let made : ℕ → ℕ → ℕ → Pixel = λ x y z. record { r = x; g = y; b = z } in
+      ap (λ x. made x p.g p.b) (eqb-true p.r q.r one.0) ∙ ap (λ y. made q.r y p.b) (eqb-true p.g q.g two.0) ∙ ap (made q.r q.g) (eqb-true p.b q.b two.1),
+  λ e. together (nat_eq p.r q.r) (nat_eq p.g q.g && nat_eq p.b q.b) (eq-eqb p.r q.r (ap (λ (k : Pixel). k.r) e))
+      (together (nat_eq p.g q.g) (nat_eq p.b q.b) (eq-eqb p.g q.g (ap (λ (k : Pixel). k.g) e)) (eq-eqb p.b q.b (ap (λ (k : Pixel). k.b) e))),
+)
+
+-- what equal pixels say of screens, by their views
+pub screens_same : (a b : Framebuffer) (width height : ℕ) (ps qs : List Pixel) → screen_of width height ps ≡ a → screen_of width height qs ≡ b
+    → length ps ≡ height * width → length qs ≡ height * width → (ps ≡ qs) ↔ IsSame a b
+screens_same a b width height ps qs is other long also = (
+  λ same.
+      let screens : a ≡ b = sym is ∙ ap (screen_of width height) same ∙ other in
+      record {
+        size = record { width = ap (λ (s : Framebuffer). s.width) (sym screens); height = ap (λ (s : Framebuffer). s.height) (sym screens) };
+        colors = λ x y across down. ap (λ (s : Framebuffer). color_at s x y) screens;
+      },
+  λ same_screen.
+      let has = same_screen.colors in
+      let P : Framebuffer → Type 0 = λ s. Has s (color_at b) in
+      let own : Has (screen_of width height ps) (color_at b) = subst P (sym is) has in
+      let Q : Framebuffer → Type 0 = λ s. Has (screen_of width height ps) (color_at s) in
+      same_pixels width height ps qs long also (subst Q (sym other) own),
+)
