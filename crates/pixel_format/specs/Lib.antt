@@ -1,4 +1,5 @@
 pub mod Reading
+pub mod Talk
 pub mod Format
 pub mod Pixel
 pub mod Canvas
