@@ -3,3 +3,4 @@ pub mod Seats
 pub mod Steps
 pub mod Run
 pub mod Headline
+pub mod Lives

@@ -2,12 +2,14 @@
 #![tactic(auto)]
 
 mod desk;
+mod laws;
 mod refusal;
 mod seat;
 mod seats;
 mod step;
 
 pub use desk::Desk;
+pub use laws::{any_number_of_runs_and_crashes, runs_go_on, steps_only_append};
 pub use refusal::{JoinRefusal, LeaveRefusal, NextRefusal, SeekRefusal};
 pub use seat::{Seat, Seated, Start};
 pub use step::{Reply, Step};
