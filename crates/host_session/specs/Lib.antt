@@ -1,0 +1,11 @@
+pub use Rattle.pixel_format.specs.Reading
+pub use Rattle.pixel_format.specs.Talk
+pub mod Fault
+pub mod Handshake
+pub mod Stage
+pub mod Take
+pub mod Session
+pub mod TakeHandshake
+pub mod Listening
+pub mod Progress
+pub mod Conversation

@@ -1,0 +1,152 @@
+-- A session with a host: what contracts see of it, and what it has made of the host's stream. An
+-- update of more than `limit` bytes is refused.
+use Rattle.std.specs.Prelude.{◌≡◌, ℕ, List, [], ◌++◌, true, Option, None, Some, if◌then◌else◌}
+use Rattle.std.specs.List.{flat_map}
+use Rattle.pixel_format.specs.Reading.{More, Bad}
+use Rattle.client_wire.specs.declared.fault.WireFault.{WireFault}
+use Rattle.client_wire.specs.Stream.{Gives, StandsFor}
+use Rattle.client_wire.specs.Written.{request_bytes}
+use Rattle.rfb_wire.specs.Grammar.{message_at}
+use Rattle.rfb_wire.specs.Host.{Host, is_update}
+use Rattle.rfb_wire.specs.Reader.{Reader}
+use Rattle.rfb_wire.specs.Stream.{given}
+use Rattle.host_session.specs.declared.fault.HostFault.{HostFault}
+use Rattle.host_session.specs.declared.fault.HostFault.TheVariants as faults
+use Rattle.host_session.specs.declared.stage.Stage.TheVariants as stages
+use Rattle.host_session.specs.declared.stage.Position.{Position}
+use Rattle.host_session.specs.declared.stage.Position.TheVariants as positions
+use Rattle.host_session.specs.Fault.{UnlessMemory}
+use Rattle.host_session.specs.Handshake.{Told, whole, handshake_at}
+use Rattle.host_session.specs.Stage.{IsUnfinished, Leads, Ends, Fails, reason_of}
+use Rattle.host_session.specs.Take.{told_at}
+
+-- an update is answered with a request for what has changed on the whole screen
+abbrev pub request_after : ℕ → ℕ → Host → List ℕ
+request_after width height m = if is_update m.bytes then request_bytes true (whole width height) else []
+
+abbrev pub requests_after : ℕ → ℕ → List Host → List ℕ
+requests_after width height messages = flat_map (request_after width height) messages
+
+-- What contracts see of a session: the size that is expected, if one is; in the handshake what comes
+-- next; what is kept of it and, behind the handshake, the host's name; behind the handshake, the reader
+-- of its messages; the bytes that are due to the host; and the fault that was met, if one was.
+pub record Session : Type 0 where
+  pub expected : Option (ℕ × ℕ)
+  pub position : Position
+  pub kept : List ℕ
+  pub reader : Option Reader
+  pub due : List ℕ
+  pub fault : Option HostFault
+
+-- the start of a stream
+abbrev pub start : Position
+start = positions.Field stages.Version
+
+-- The handshake isn't whole: the stream so far, answered with this, leads to where the session stands.
+pub record IsHandshake (expected : Option (ℕ × ℕ)) (position : Position) (kept stream : List ℕ) (messages : List Host) (said : List ℕ) : Type 0 where
+  pub leads : Leads expected start [] stream said position kept
+  -- nothing is refused so far, and all that is due was said
+  pub reads : handshake_at expected stream ≡ record { said = said; heard = More }
+  pub none : messages ≡ []
+
+-- The handshake is whole, and the messages are given of those that follow it, before the tail.
+pub record Gets (limit : ℕ) (expected : Option (ℕ × ℕ)) (width height : ℕ) (name stream : List ℕ) (messages : List Host) (tail : List ℕ) : Type 0 where
+  pub front : List ℕ
+  pub rest : List ℕ
+  pub stream_is : stream ≡ front ++ rest
+  pub answers : List ℕ
+  pub ends : Ends expected start [] front answers (told_at width height name)
+  pub gives : Gives (message_at limit width height) (given width height) [] messages rest tail
+
+-- What was said is the handshake's answers and a request for each update.
+pub record Follows (limit : ℕ) (expected : Option (ℕ × ℕ)) (width height : ℕ) (name stream : List ℕ) (messages : List Host) (said tail : List ℕ) : Type 0 where
+  pub gets : Gets limit expected width height name stream messages tail
+  pub said_is : said ≡ gets.answers ++ requests_after width height messages
+
+-- the reader stands for the tail, an unfinished message
+pub record IsListening (limit : ℕ) (expected : Option (ℕ × ℕ)) (name : List ℕ) (r : Reader) (stream : List ℕ) (messages : List Host) (said : List ℕ) : Type 0 where
+  pub tail : List ℕ
+  pub follows : Follows limit expected r.width r.height name stream messages said tail
+  pub stands : StandsFor r.kept r.passed tail
+  pub waits : message_at limit r.width r.height tail ≡ More
+
+abbrev pub Stands : ℕ → Option (ℕ × ℕ) → Position → List ℕ → Option Reader → List ℕ → List Host → List ℕ → Type 0
+Stands limit expected position kept None stream messages said = IsHandshake expected position kept stream messages said
+Stands limit expected position kept (Some r) stream messages said = IsListening limit expected kept r stream messages said
+
+-- A session that has got this stream, has given these messages, and has put out these bytes. Nothing
+-- in the stream is refused.
+abbrev pub IsAfter : ℕ → Session → List ℕ → List Host → List ℕ → Type 0
+IsAfter limit s stream messages sent = Stands limit s.expected s.position s.kept s.reader stream messages (sent ++ s.due)
+
+-- The stream ends at a fault in the handshake,
+pub record EndsInHandshake (expected : Option (ℕ × ℕ)) (kept stream : List ℕ) (messages : List Host) (said : List ℕ) (f : HostFault) : Type 0 where
+  pub fails : Fails expected start [] stream said f kept
+  pub none : messages ≡ []
+
+-- or at a fault in the messages.
+pub record EndsListening (limit : ℕ) (expected : Option (ℕ × ℕ)) (name : List ℕ) (r : Reader) (stream : List ℕ) (messages : List Host) (said : List ℕ) (f : WireFault) : Type 0 where
+  pub tail : List ℕ
+  pub follows : Follows limit expected r.width r.height name stream messages said tail
+  pub fault : message_at limit r.width r.height tail ≡ Bad f
+
+-- Behind the handshake no fault is met but those of the wire.
+abbrev pub EndsAfter : ℕ → Option (ℕ × ℕ) → List ℕ → Option Reader → List ℕ → List Host → List ℕ → HostFault → Type 0
+EndsAfter limit expected kept None stream messages said f = EndsInHandshake expected kept stream messages said f
+EndsAfter limit expected kept (Some r) stream messages said (faults.Wire f) = EndsListening limit expected kept r stream messages said f
+EndsAfter limit expected kept (Some r) stream messages said faults.Version = ⊥
+EndsAfter limit expected kept (Some r) stream messages said faults.NoneNotOffered = ⊥
+EndsAfter limit expected kept (Some r) stream messages said faults.Failed = ⊥
+EndsAfter limit expected kept (Some r) stream messages said faults.SizeDiffers = ⊥
+EndsAfter limit expected kept (Some r) stream messages said faults.TooLarge = ⊥
+
+-- The messages are given of the stream, whatever stands behind them.
+pub record GetsSome (limit : ℕ) (expected : Option (ℕ × ℕ)) (name : List ℕ) (r : Reader) (stream : List ℕ) (messages : List Host) : Type 0 where
+  pub tail : List ℕ
+  pub gets : Gets limit expected r.width r.height name stream messages tail
+
+abbrev pub AreGiven : ℕ → Option (ℕ × ℕ) → List ℕ → Option Reader → List ℕ → List Host → Type 0
+AreGiven limit expected kept None stream messages = messages ≡ []
+AreGiven limit expected kept (Some r) stream messages = GetsSome limit expected kept r stream messages
+
+-- what holds between calls of a session that goes on
+abbrev pub IsGoing : Option Reader → Position → List ℕ → Type 0
+IsGoing None position kept = IsUnfinished position kept
+IsGoing (Some r) position kept = r.fault ≡ None
+
+abbrev pub IsSound : Option HostFault → Option Reader → Position → List ℕ → Type 0
+IsSound None reader position kept = IsGoing reader position kept
+IsSound (Some f) reader position kept = Unit {0}
+
+-- What feed gives: messages behind those that there were. The session has got the piece too.
+pub record Fed (limit : ℕ) (s : Session) (stream : List ℕ) (messages : List Host) (sent : List ℕ) (old new : List Host) : Type 0 where
+  pub more : List Host
+  pub out : new ≡ old ++ more
+  pub after : IsAfter limit s stream (messages ++ more) sent
+
+-- Or it is stopped, and gives the messages before that place. Unless memory ran out, the stream is
+-- refused there, with this fault.
+pub record Stopped (limit : ℕ) (s : Session) (stream : List ℕ) (messages : List Host) (sent : List ℕ) (f : HostFault) (old new : List Host) : Type 0 where
+  pub more : List Host
+  pub out : new ≡ old ++ more
+  pub given : AreGiven limit s.expected s.kept s.reader stream (messages ++ more)
+  pub ends : UnlessMemory f (EndsAfter limit s.expected s.kept s.reader stream (messages ++ more) (sent ++ s.due) f)
+
+-- what the host has told of its screen, once the handshake is whole
+abbrev pub told_by : Option Reader → List ℕ → Option Told
+told_by None kept = None
+told_by (Some r) kept = Some (told_at r.width r.height kept)
+
+-- the screen's size, and its name, if they are told
+abbrev pub size_of : Option Told → Option (ℕ × ℕ)
+size_of None = None
+size_of (Some told) = Some (told.width, told.height)
+
+abbrev pub name_of : Option Told → List ℕ
+name_of None = []
+name_of (Some told) = told.name
+
+-- the reason is there once the host has refused
+abbrev pub reason_in : Option HostFault → List ℕ → List ℕ
+reason_in None kept = []
+reason_in (Some f) kept = reason_of f kept

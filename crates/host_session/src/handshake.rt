@@ -1,0 +1,158 @@
+//! A host's handshake, heard in pieces.
+
+ghost use Rattle.std.specs.Prelude.{◌≡◌, ℕ, ◌≤◌, List, [], length, IfOk, IfErr, Option};
+ghost use Rattle.host_session.specs.Stage.{wants_of, IsWithin};
+ghost use Rattle.host_session.specs.Take.{IsTurn, IsTaken, IsRefused};
+
+use crate::fault::HostFault;
+use crate::stage::{Position, Stage, behind};
+use std::alloc::Global;
+
+/// Where in the handshake the session stands: what comes next, and the bytes that are kept of it.
+#[derive(Drop)]
+pub struct Handshake {
+    pub position: Position,
+    pub kept: Vec<u8>,
+}
+
+/// What came of some bytes of a piece.
+#[derive(Clone, Copy)]
+pub enum Turn {
+    /// The piece is used up.
+    Waits,
+    /// So many bytes are taken.
+    Goes(usize),
+    /// The handshake is whole behind so many bytes, for a screen of this size.
+    Whole {
+        taken: usize,
+        width: u16,
+        height: u16,
+    },
+}
+
+/// A handshake that is whole behind so many bytes of a piece, for a screen of this size.
+#[derive(Clone, Copy)]
+pub struct Whole {
+    pub taken: usize,
+    pub width: u16,
+    pub height: u16,
+}
+
+impl Handshake {
+    /// The start of a stream.
+    pub fn new(alloc: Global) -> Handshake
+        ensures position { result.position ≡ Position.Field Stage.Version }
+        ensures none { result.kept.items ≡ [] }
+    {
+        Handshake {
+            position: Position::Field(Stage::Version),
+            kept: Vec::new(alloc),
+        }
+    }
+
+    // Takes bytes of a piece up to the end of a field.
+    fn turn_in_field(
+        &mut self,
+        expected: Option<(u16, u16)>,
+        stage: Stage,
+        piece: &[u8],
+        due: &mut Vec<u8>,
+    ) -> Result<Turn, HostFault>
+        requires position { self.old.position ≡ Position.Field stage }
+        requires within { length self.old.kept.items ≤ wants_of stage }
+        ensures turn { IfOk result (λ t. IsTurn expected self.old self.new piece.now
+            due.old.items due.new.items t) }
+        ensures faults { IfErr result (λ f. IsRefused expected self.old self.new piece.now
+            due.old.items due.new.items f) }
+    {
+        let taken = piece.len().min(stage.wants() - self.kept.len());
+        self.kept.extend_from_slice(&piece[..taken])?;
+        if self.kept.len() < stage.wants() {
+            return Ok(Turn::Waits);
+        }
+        let step = behind(expected, stage, &self.kept)?;
+        step.answer.write(due)?;
+        if let Position::Field(_) = step.position {
+            self.kept.clear();
+        }
+        self.position = step.position;
+        Ok(Turn::Goes(taken))
+    }
+
+    // Takes bytes of a piece up to the name's end.
+    fn turn_in_rest(&mut self, width: u16, height: u16, left: u32, piece: &[u8]) -> Turn
+        requires position { self.old.position ≡ Position.Rest width height left }
+        ensures turn { (expected : Option (ℕ × ℕ)) → (due : List ℕ)
+            → IsTurn expected self.old self.new piece.now due due result }
+    {
+        if piece.len() < left as usize {
+            self.position = Position::Rest {
+                width,
+                height,
+                left: left - piece.len() as u32,
+            };
+            return Turn::Waits;
+        }
+        Turn::Whole {
+            taken: left as usize,
+            width,
+            height,
+        }
+    }
+
+    // Takes bytes of a piece up to the end of what comes next.
+    fn turn(
+        &mut self,
+        expected: Option<(u16, u16)>,
+        piece: &[u8],
+        due: &mut Vec<u8>,
+    ) -> Result<Turn, HostFault>
+        requires { IsWithin self.old.position self.old.kept.items }
+        ensures turn { IfOk result (λ t. IsTurn expected self.old self.new piece.now
+            due.old.items due.new.items t) }
+        ensures faults { IfErr result (λ f. IsRefused expected self.old self.new piece.now
+            due.old.items due.new.items f) }
+    {
+        match self.position {
+            Position::Field(stage) => self.turn_in_field(expected, stage, piece, due),
+            Position::Rest {
+                width,
+                height,
+                left,
+            } => Ok(self.turn_in_rest(width, height, left, piece)),
+        }
+    }
+
+    /// Takes a piece, up to the handshake's end.
+    pub fn take(
+        &mut self,
+        expected: Option<(u16, u16)>,
+        piece: &[u8],
+        due: &mut Vec<u8>,
+    ) -> Result<Option<Whole>, HostFault>
+        requires { IsWithin self.old.position self.old.kept.items }
+        ensures taken { IfOk result (λ o. IsTaken expected self.old self.new piece.now
+            due.old.items due.new.items o) }
+        ensures faults { IfErr result (λ f. IsRefused expected self.old self.new piece.now
+            due.old.items due.new.items f) }
+    {
+        let mut rest = piece;
+        'turns: loop {
+            match self.turn(expected, rest, due)? {
+                Turn::Waits => return Ok(None),
+                Turn::Goes(taken) => rest = &rest[taken..],
+                Turn::Whole {
+                    taken,
+                    width,
+                    height,
+                } => {
+                    return Ok(Some(Whole {
+                        taken: piece.len() - rest.len() + taken,
+                        width,
+                        height,
+                    }));
+                }
+            }
+        }
+    }
+}

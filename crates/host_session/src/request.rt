@@ -1,0 +1,53 @@
+//! What a host is asked for.
+
+ghost use Rattle.std.specs.Prelude.{◌≡◌, List, ◌++◌, OnOk};
+ghost use Rattle.host_session.specs.Handshake.{first_requests, whole as whole_area};
+ghost use Rattle.host_session.specs.Session.{requests_after};
+
+use client_wire::{Area, write_request, write_set_encodings, write_set_pixel_format};
+use pixel_format::{NoMemory, PixelFormat};
+use rfb_wire::HostMessage;
+
+// CopyRect, Hextile, RRE and Raw, by their numbers; the host takes the first that it knows.
+const ENCODINGS: [i32; 4] = [1, 5, 2, 0];
+
+// The whole screen.
+fn whole(width: u16, height: u16) -> Area
+    ensures { result ≡ whole_area width height }
+{
+    Area {
+        x: 0,
+        y: 0,
+        w: width,
+        h: height,
+    }
+}
+
+/// Appends a request for what has changed on the whole screen, for each update among messages.
+pub fn write_requests(
+    width: u16,
+    height: u16,
+    messages: &[HostMessage],
+    out: &mut Vec<u8>,
+) -> Result<(), NoMemory>
+    ensures { OnOk result (out.new.items
+        ≡ out.old.items ++ requests_after width height messages.now) }
+{
+    for message in messages {
+        if message.is_update() {
+            write_request(true, whole(width, height), out)?;
+        }
+    }
+    Ok(())
+}
+
+/// Appends what is sent once ServerInit is whole: the host format, the encodings, and a request for
+/// the whole screen.
+pub fn write_first_requests(width: u16, height: u16, out: &mut Vec<u8>) -> Result<(), NoMemory>
+    ensures { OnOk result (out.new.items ≡ out.old.items ++ first_requests width height) }
+{
+    write_set_pixel_format(&PixelFormat::host(), out)?;
+    write_set_encodings(&ENCODINGS, out)?;
+    write_request(false, whole(width, height), out)?;
+    Ok(())
+}

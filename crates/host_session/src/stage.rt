@@ -1,0 +1,291 @@
+//! The fields of a host's handshake.
+
+ghost use Rattle.std.specs.Prelude.{◌≡◌, ℕ, ◌<◌, ◌++◌, min, length, IfOk, IfErr, OnOk, OnErr, Option};
+ghost use Rattle.host_session.specs.Handshake.{is_allowed, is_expected, offers_none, text_limit};
+ghost use Rattle.host_session.specs.Stage.{wants_of, rank_of, answer_bytes, IsStep, IsFault, IsFurther};
+
+use crate::fault::HostFault;
+use pixel_format::NoMemory;
+
+/// A field of the handshake.
+#[derive(Clone, Copy)]
+pub enum Stage {
+    /// The version, 12 bytes.
+    Version,
+    /// How many security types there are.
+    Count,
+    /// So many security types.
+    Types { count: u8 },
+    /// SecurityResult: 0 where the host lets the recorder in.
+    Outcome,
+    /// The length of a reason.
+    ReasonLength,
+    /// A reason of so many bytes, of which the first 1,024 are kept.
+    Reason { count: u32 },
+    /// The screen's width and height.
+    Size,
+    /// Of a screen of this size: the host's format, and the name's length.
+    Head { width: u16, height: u16 },
+    /// A name of so many bytes, of which the first 1,024 are kept.
+    Name { width: u16, height: u16, count: u32 },
+}
+
+/// What a whole field is answered with.
+#[derive(Clone, Copy)]
+pub enum Answer {
+    /// No bytes.
+    Nothing,
+    /// The version that is spoken.
+    Version,
+    /// A byte of 1: None, as the choice of a security type, or a ClientInit that shares the screen.
+    One,
+}
+
+/// What comes next in the handshake.
+#[derive(Clone, Copy)]
+pub enum Position {
+    /// This field.
+    Field(Stage),
+    /// Of a screen of this size, so many bytes of the name that aren't kept.
+    Rest { width: u16, height: u16, left: u32 },
+}
+
+/// What follows from a whole field.
+#[derive(Clone, Copy)]
+pub struct Step {
+    pub answer: Answer,
+    pub position: Position,
+}
+
+// Of a name or a reason, so many bytes are kept.
+const TEXT_LIMIT: u32 = 1024;
+
+// The version that is spoken, and its newline.
+const VERSION: [u8; 12] = *b"RFB 003.008\n";
+
+impl Stage {
+    /// How many bytes the field has, or are kept of it.
+    pub fn wants(self) -> usize
+        ensures value { result ≡ wants_of self }
+        ensures bound { result < 2000 }
+    {
+        match self {
+            Stage::Version => 12,
+            Stage::Count => 1,
+            Stage::Types { count } => count as usize,
+            Stage::Outcome => 4,
+            Stage::ReasonLength => 4,
+            Stage::Reason { count } => count.min(TEXT_LIMIT) as usize,
+            Stage::Size => 4,
+            Stage::Head { .. } => 20,
+            Stage::Name { count, .. } => count.min(TEXT_LIMIT) as usize,
+        }
+    }
+}
+
+// Whether a screen of this size is within the limits.
+fn allows(width: u16, height: u16) -> bool
+    ensures { result ≡ is_allowed width height }
+{
+    1 <= width
+        && width <= 8192
+        && 1 <= height
+        && height <= 8192
+        && width as u32 * height as u32 <= 8_388_608
+}
+
+// Whether this is the size that is expected, if one is.
+fn expects(expected: Option<(u16, u16)>, width: u16, height: u16) -> bool
+    ensures { result ≡ is_expected expected width height }
+{
+    match expected {
+        None => true,
+        Some((w, h)) => w == width && h == height,
+    }
+}
+
+// Whether None is among the security types.
+fn offers(types: &[u8]) -> bool
+    ensures { result ≡ offers_none types.now }
+{
+    for kind in types {
+        if *kind == 1 {
+            return true;
+        }
+    }
+    false
+}
+
+// The field of this stage comes next, and nothing is answered.
+fn next(stage: Stage) -> Step
+    ensures { result ≡ record { answer = Answer.Nothing; position = Position.Field stage } }
+{
+    Step {
+        answer: Answer::Nothing,
+        position: Position::Field(stage),
+    }
+}
+
+// Another version than 003.008 is refused (RFC 6143, section 7.1.1).
+fn behind_version(field: &[u8]) -> Result<Step, HostFault>
+    requires { length field.now ≡ 12 }
+    ensures goes { IfOk result (λ s. (expected : Option (ℕ × ℕ))
+        → IsStep expected Stage.Version field.now s) }
+    ensures falls { IfOk result (λ s. IsFurther 9 s.position) }
+    ensures faults { IfErr result (λ f. (expected : Option (ℕ × ℕ))
+        → IsFault expected Stage.Version field.now f) }
+{
+    if field != VERSION.as_slice() {
+        return Err(HostFault::Version);
+    }
+    Ok(Step {
+        answer: Answer::Version,
+        position: Position::Field(Stage::Count),
+    })
+}
+
+// No security types are followed by a reason (RFC 6143, section 7.1.2).
+fn behind_count(field: &[u8]) -> Step
+    requires { length field.now ≡ 1 }
+    ensures goes { (expected : Option (ℕ × ℕ)) → IsStep expected Stage.Count field.now result }
+    ensures falls { IsFurther 8 result.position }
+{
+    if field[0] == 0 {
+        return next(Stage::ReasonLength);
+    }
+    next(Stage::Types { count: field[0] })
+}
+
+// Of the types None is chosen, and the others aren't looked at.
+fn behind_types(count: u8, field: &[u8]) -> Result<Step, HostFault>
+    requires { length field.now ≡ count }
+    ensures goes { IfOk result (λ s. (expected : Option (ℕ × ℕ))
+        → IsStep expected (Stage.Types count) field.now s) }
+    ensures falls { IfOk result (λ s. IsFurther 7 s.position) }
+    ensures faults { IfErr result (λ f. (expected : Option (ℕ × ℕ))
+        → IsFault expected (Stage.Types count) field.now f) }
+{
+    if !offers(field) {
+        return Err(HostFault::NoneNotOffered);
+    }
+    Ok(Step {
+        answer: Answer::One,
+        position: Position::Field(Stage::Outcome),
+    })
+}
+
+// A failure is followed by a reason (RFC 6143, section 7.1.3), and else ClientInit answers.
+fn behind_outcome(field: &[u8]) -> Step
+    requires { length field.now ≡ 4 }
+    ensures goes { (expected : Option (ℕ × ℕ))
+        → IsStep expected Stage.Outcome field.now result }
+    ensures falls { IsFurther 6 result.position }
+{
+    let outcome = u32::from_be_bytes([field[0], field[1], field[2], field[3]]);
+    if outcome != 0 {
+        return next(Stage::ReasonLength);
+    }
+    Step {
+        answer: Answer::One,
+        position: Position::Field(Stage::Size),
+    }
+}
+
+// The limits are judged first, and then the size that is expected.
+fn behind_size(expected: Option<(u16, u16)>, field: &[u8]) -> Result<Step, HostFault>
+    requires { length field.now ≡ 4 }
+    ensures goes { IfOk result (λ s. IsStep expected Stage.Size field.now s) }
+    ensures falls { IfOk result (λ s. IsFurther 5 s.position) }
+    ensures faults { IfErr result (λ f. IsFault expected Stage.Size field.now f) }
+{
+    let width = u16::from_be_bytes([field[0], field[1]]);
+    let height = u16::from_be_bytes([field[2], field[3]]);
+    if !allows(width, height) {
+        return Err(HostFault::TooLarge);
+    }
+    if !expects(expected, width, height) {
+        return Err(HostFault::SizeDiffers);
+    }
+    Ok(next(Stage::Head { width, height }))
+}
+
+// The reason's length, of which no more is known to be sent.
+fn behind_length(field: &[u8]) -> Step
+    requires { length field.now ≡ 4 }
+    ensures goes { (expected : Option (ℕ × ℕ))
+        → IsStep expected Stage.ReasonLength field.now result }
+    ensures falls { IsFurther 2 result.position }
+{
+    let count = u32::from_be_bytes([field[0], field[1], field[2], field[3]]);
+    next(Stage::Reason { count })
+}
+
+// The host's own format is read over (RFC 6143, section 7.3.2).
+fn behind_head(width: u16, height: u16, field: &[u8]) -> Step
+    requires { length field.now ≡ 20 }
+    ensures goes { (expected : Option (ℕ × ℕ))
+        → IsStep expected (Stage.Head width height) field.now result }
+    ensures falls { IsFurther 4 result.position }
+{
+    let count = u32::from_be_bytes([field[16], field[17], field[18], field[19]]);
+    next(Stage::Name {
+        width,
+        height,
+        count,
+    })
+}
+
+// What is beyond the name's first bytes is read over.
+fn behind_name(width: u16, height: u16, count: u32, field: &[u8]) -> Step
+    requires { length field.now ≡ min count text_limit }
+    ensures goes { (expected : Option (ℕ × ℕ))
+        → IsStep expected (Stage.Name width height count) field.now result }
+    ensures falls { IsFurther 3 result.position }
+{
+    Step {
+        answer: Answer::Nothing,
+        position: Position::Rest {
+            width,
+            height,
+            left: count - count.min(TEXT_LIMIT),
+        },
+    }
+}
+
+/// What follows from the whole field of a stage.
+pub fn behind(expected: Option<(u16, u16)>, stage: Stage, field: &[u8]) -> Result<Step, HostFault>
+    requires { length field.now ≡ wants_of stage }
+    ensures goes { IfOk result (λ s. IsStep expected stage field.now s) }
+    ensures falls { IfOk result (λ s. IsFurther (rank_of stage) s.position) }
+    ensures faults { IfErr result (λ f. IsFault expected stage field.now f) }
+{
+    match stage {
+        Stage::Version => behind_version(field),
+        Stage::Count => Ok(behind_count(field)),
+        Stage::Types { count } => behind_types(count, field),
+        Stage::Outcome => Ok(behind_outcome(field)),
+        Stage::ReasonLength => Ok(behind_length(field)),
+        Stage::Reason { .. } => Err(HostFault::Failed),
+        Stage::Size => behind_size(expected, field),
+        Stage::Head { width, height } => Ok(behind_head(width, height, field)),
+        Stage::Name {
+            width,
+            height,
+            count,
+        } => Ok(behind_name(width, height, count, field)),
+    }
+}
+
+impl Answer {
+    /// Appends its bytes.
+    pub fn write(self, out: &mut Vec<u8>) -> Result<(), NoMemory>
+        ensures ok { OnOk result (out.new.items ≡ out.old.items ++ answer_bytes self) }
+        ensures err { OnErr result (out.new.items ≡ out.old.items) }
+    {
+        match self {
+            Answer::Nothing => Ok(()),
+            Answer::Version => out.extend_from_slice(&VERSION),
+            Answer::One => out.extend_from_slice(&[1]),
+        }
+    }
+}
