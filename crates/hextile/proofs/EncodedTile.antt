@@ -1,13 +1,14 @@
 -- A tile of parts shows the colours that its parts cover.
 use Rattle.std.proofs.Common.{◌≡◌, ℕ, ◌<◌, inl, inr, Bool, true, false, cond, List, [], ◌∷◌, ◌++◌, length, map, get_or, Option, Some, None, refl, sym, ap, subst, ◌∙◌, arith}
-use Rattle.std.specs.Prelude.{reverse, unwrap_or, All, IfSome}
+use Rattle.std.specs.Prelude.{reverse, unwrap_or, is_some, All, IfSome}
+use Rattle.std.specs.List.{flat_map}
 use Rattle.std.proofs.lemmas.Bool.{cases_Bool}
-use Rattle.std.proofs.lemmas.List.{reverse-append, length-map, map-append}
+use Rattle.std.proofs.lemmas.List.{reverse-append, length-map, map-append, append_cancel_left}
 use Rattle.std.proofs.lemmas.List.Elements.{All-head, All-tail}
 use Rattle.pixel_format.specs.declared.Color.{Color}
 use Rattle.pixel_format.specs.Format.{Format}
 use Rattle.pixel_format.specs.Canvas.{covers}
-use Rattle.pixel_format.specs.Pixel.{IsWithin}
+use Rattle.pixel_format.specs.Pixel.{IsWithin, pixel_of}
 use Rattle.hextile.specs.declared.fields.Mask.{Mask}
 use Rattle.hextile.specs.declared.fields.Subrectangle.{Subrectangle}
 use Rattle.hextile.specs.declared.cover.Part.{Part}
@@ -15,7 +16,7 @@ use Rattle.hextile.specs.declared.writing.Known.{Known}
 use Rattle.hextile.specs.Grammar.{Tile, Raw, Parts}
 use Rattle.hextile.specs.Data.{background_of, foreground_of, IsAllowed, IsHead, AreRaw, AreParts}
 use Rattle.hextile.specs.Picture.{black, first_covering}
-use Rattle.hextile.specs.Encoded.{shown_if, drawn, part_picture, IsPart, IsCover, IsKnown, ShowsTile, Appends, IsMaskFor, known_behind, IsWritten}
+use Rattle.hextile.specs.Encoded.{shown_if, drawn, part_picture, has_parts, is_colored, count_if, mask_number, mask_for, tile_bytes, parts_tile_bytes, IsPart, IsCover, IsKnown, ShowsTile, Appends, IsMaskFor, known_behind, IsWritten}
 
 -- ---- pictures
 
@@ -163,11 +164,49 @@ count_as : (there : Bool) (count : ℕ) → (there ≡ false → count ≡ 0) �
 count_as true count none = refl
 count_as false count none = sym (none refl)
 
+-- ---- the bytes
+
+shown_there : (there : Bool) (color : Color) → is_some (shown_if there color) ≡ there
+shown_there true color = refl
+shown_there false color = refl
+
+parts_there : (colored some : Bool) (parts : List Part) → (some ≡ false → length parts ≡ 0) → (some ≡ true → 0 < length parts) → has_parts (map (drawn colored) parts) ≡ some
+parts_there colored true [] none full = absurd (omega (arith, full refl))
+parts_there colored false [] none full = refl
+parts_there colored true (s ∷ parts) none full = refl
+parts_there colored false (s ∷ parts) none full = absurd (omega (arith, none refl))
+
+colors_there : (colored : Bool) (parts : List Part) → (colored ≡ true → 0 < length parts) → is_colored (map (drawn colored) parts) ≡ colored
+colors_there true [] full = absurd (omega (arith, full refl))
+colors_there false [] full = refl
+colors_there colored (s ∷ parts) full = shown_there colored s.color
+
+counted : (colored some : Bool) (parts : List Part) → (some ≡ false → length parts ≡ 0) → (some ≡ true → 0 < length parts)
+    → count_if (map (drawn colored) parts) ≡ cond some (length parts ∷ []) []
+counted colored true [] none full = absurd (omega (arith, full refl))
+counted colored false [] none full = refl
+counted colored true (s ∷ parts) none full = ap (λ n. n ∷ []) (length-map (s ∷ parts) (drawn colored))
+counted colored false (s ∷ parts) none full = absurd (omega (arith, none refl))
+
+tile_bytes_are : (f : Format) (known : Known) (background foreground : Color) (ink : Option Color) (parts : List Part) (m : Mask) → IsMaskFor known background ink (length parts) m
+    → parts_tile_bytes f m background foreground parts ≡ tile_bytes f (tile_of m background foreground parts)
+tile_bytes_are f known background foreground ink parts m mask =
+    let raw = mask.raw in
+    let back = shown_there m.background background in
+    let front = shown_there m.foreground foreground in
+    let some = parts_there m.colored m.subrectangles parts mask.some mask.full in
+    let colored = colors_there m.colored parts (λ e. mask.full (mask.only e)) in
+    let count = counted m.colored m.subrectangles parts mask.some mask.full in
+    let number : mask_number m ≡ mask_number (mask_for (shown_if m.background background) (shown_if m.foreground foreground) (map (drawn m.colored) parts)) =
+    rw (back, front, some, colored, raw) refl in
+    rw (count, ← number) refl
+
 pub parts_shown : (f : Format) (w h : ℕ) (colors : List Color) (known : Known) (before : List Tile) (m : Mask) (background : Color) (ink : Option Color) (parts : List Part) (bytes : List ℕ)
     → IsKnown before known → IsMaskFor known background ink (length parts) m → ((color : Color) → ink ≡ Some color → All (λ (s : Part). s.color ≡ color) parts)
     → IsCover f w h colors background parts → IsWritten f w h m background (unwrap_or ink background) parts bytes
+    → bytes ≡ parts_tile_bytes f m background (unwrap_or ink background) parts
     → ShowsTile f w h colors before (known_behind known background ink m.colored) bytes
-parts_shown f w h colors known before m background ink parts bytes is mask have cover written =
+parts_shown f w h colors known before m background ink parts bytes is mask have cover written bytes_are =
     let fg = unwrap_or ink background in
     let t = facts known before m background ink parts is mask in
     let tile = tile_of m background fg parts in
@@ -187,6 +226,7 @@ parts_shown f w h colors known before m background ink parts bytes is mask have 
     record {
       tile = tile;
       is = are;
+      bytes_are = bytes_are ∙ tile_bytes_are f known background fg ink parts m mask;
       known_is = known_is known before m background ink parts m.colored is t;
       picture = λ column row across down.
           ap (λ (z : Option Color). first_covering (unwrap_or z black) shown_foreground (reverse (map (drawn m.colored) parts)) column row) t.back
@@ -196,10 +236,12 @@ parts_shown f w h colors known before m background ink parts bytes is mask have 
     }
 
 pub raw_shown : (f : Format) (w h : ℕ) (colors : List Color) (before : List Tile) (bytes : List ℕ) → AreRaw f w h colors bytes
+    → bytes ≡ 1 ∷ flat_map (pixel_of f) colors
     → ShowsTile f w h colors before (record { background = None; foreground = None }) bytes
-raw_shown f w h colors before bytes are = record {
+raw_shown f w h colors before bytes are bytes_are = record {
   tile = Raw colors;
   is = are;
+  bytes_are = bytes_are;
   known_is = record { background = λ color e. absurd (cc); foreground = λ color e. absurd (cc) };
   picture = λ column row across down. refl;
 }
@@ -223,21 +265,30 @@ pub parts_tile_shown : (f : Format) (w h : ℕ) (colors : List Color) (known aft
     (parts again items : List Part) (count : ℕ) (old new : List ℕ) → parts ≡ items → again ≡ items → count ≡ length items → foreground ≡ unwrap_or ink background
     → IsKnown before known → IsMaskFor known background ink count m → IfSome ink (λ color. All (λ (s : Part). s.color ≡ color) parts)
     → IsCover f w h colors background items → (All (IsPart f w h) again → Appends (IsWritten f w h m background foreground again) old new)
+    → new ≡ old ++ parts_tile_bytes f m background foreground again
     → after ≡ known_behind known background ink m.colored → Appends (ShowsTile f w h colors before after) old new
-parts_tile_shown f w h colors known after before m background foreground ink parts again items count old new same same_again count_is foreground_is is mask all cover written after_is =
+parts_tile_shown f w h colors known after before m background foreground ink parts again items count old new same same_again count_is foreground_is is mask all cover written bytes_are after_is =
     let have : IfSome ink (λ color. All (λ (s : Part). s.color ≡ color) items) = subst (λ (z : List Part). IfSome ink (λ color. All (λ (s : Part). s.color ≡ color) z)) same all in
     let appended = written (subst (λ (z : List Part). All (IsPart f w h) z) (sym same_again) cover.parts_are) in
     let are : IsWritten f w h m background (unwrap_or ink background) items appended.bytes =
     subst (λ (z : Color). IsWritten f w h m background z items appended.bytes) foreground_is
     (subst (λ (z : List Part). IsWritten f w h m background foreground z appended.bytes) same_again appended.are) in
+    let exact : appended.bytes ≡ parts_tile_bytes f m background (unwrap_or ink background) items =
+    append_cancel_left old appended.bytes (parts_tile_bytes f m background foreground again) (sym appended.is ∙ bytes_are)
+    ∙ ap (λ (z : List Part). parts_tile_bytes f m background foreground z) same_again ∙ ap (λ (z : Color). parts_tile_bytes f m background z items) foreground_is in
     record {
       bytes = appended.bytes;
       is = appended.is;
       are = subst (λ (z : Known). ShowsTile f w h colors before z appended.bytes) (sym after_is)
           (parts_shown f w h colors known before m background ink items appended.bytes is (subst (λ (n : ℕ). IsMaskFor known background ink n m) count_is mask)
-          (if_some_at (λ (color : Color). All (λ (s : Part). s.color ≡ color) items) ink have) cover are);
+          (if_some_at (λ (color : Color). All (λ (s : Part). s.color ≡ color) items) ink have) cover are exact);
     }
 
 pub raw_tile_shown : (f : Format) (w h : ℕ) (colors : List Color) (before : List Tile) (old new : List ℕ) → Appends (AreRaw f w h colors) old new
+    → new ≡ old ++ 1 ∷ flat_map (pixel_of f) colors
     → Appends (ShowsTile f w h colors before (record { background = None; foreground = None })) old new
-raw_tile_shown f w h colors before old new raw = record { bytes = raw.bytes; is = raw.is; are = raw_shown f w h colors before raw.bytes raw.are }
+raw_tile_shown f w h colors before old new raw bytes_are = record {
+  bytes = raw.bytes;
+  is = raw.is;
+  are = raw_shown f w h colors before raw.bytes raw.are (append_cancel_left old raw.bytes (1 ∷ flat_map (pixel_of f) colors) (sym raw.is ∙ bytes_are));
+}

@@ -1,6 +1,8 @@
 -- Tiles that show their places show the rectangle.
 use Rattle.std.proofs.Common.{◌≡◌, ℕ, ◌+◌, ◌*◌, ◌/◌, ◌%◌, ◌<◌, ◌≤◌, inl, inr, List, [], ◌∷◌, ◌++◌, length, take, get_or, refl, sym, ap, subst, ◌∙◌, append_assoc, length-append, arith}
 use Rattle.std.specs.Prelude.{None, All}
+use Rattle.std.specs.List.{flat_map}
+use Rattle.std.proofs.lemmas.Grind.{flat_map-append}
 use Rattle.std.proofs.Math.Nat.{mod-lt, div-lt_iff_lt-mul, mul_comm}
 use Rattle.pixel_format.specs.Pixel.{IsWithin}
 use Rattle.std.proofs.lemmas.Bool.{cases_eq}
@@ -13,7 +15,7 @@ use Rattle.hextile.specs.Tiles.{tile_count, tile_number, tile_left, tile_top, ti
 use Rattle.hextile.specs.Grammar.{Tile}
 use Rattle.hextile.specs.Data.{IsTile, AreTiles, onto}
 use Rattle.hextile.specs.Picture.{black, latest_picture, tiles_picture}
-use Rattle.hextile.specs.Encoded.{nth, rows_of, AreTileColors, IsKnown, ShowsTile, Shows, Appends}
+use Rattle.hextile.specs.Encoded.{nth, rows_of, tile_bytes, AreTileColors, IsKnown, ShowsTile, Shows, Appends}
 use Rattle.hextile.proofs.Covering.{in_is}
 use Rattle.hextile.proofs.Tiling.{in_its_tile, number_within, some_places, some_width, tile_across, tile_down}
 use Rattle.hextile.proofs.PaintedTiles.{upto_same, upto_other}
@@ -46,6 +48,7 @@ pub record Written (f : Format) (w h : ℕ) (colors : List Color) (number : ℕ)
   pub tiles : List Tile
   pub count : length tiles ≡ number
   pub are : AreTiles f w h [] tiles bytes
+  pub bytes_are : bytes ≡ flat_map (tile_bytes f) tiles
   pub known_is : IsKnown (onto tiles []) known
   pub shows : (column row : ℕ) → column < w → row < h → tile_number w column row < number → tiles_picture w (onto tiles []) column row ≡ rows_of colors w column row
 
@@ -57,6 +60,7 @@ none_written f w h colors old = record {
     tiles = [];
     count = refl;
     are = refl;
+    bytes_are = refl;
     known_is = record { background = λ color e. absurd (cc); foreground = λ color e. absurd (cc) };
     shows = λ column row across down less. absurd (omega (arith, less));
   };
@@ -124,6 +128,8 @@ one_written f w h colors tile taken number known after tw th old between new les
         count = length-append done.tiles (t ∷ []) ∙ omega (arith, done.count);
         are = tiles_more f w h [] done.tiles t number so_far.bytes more.bytes (omega (arith, done.count)) done.are
             (subst (λ (n : ℕ). IsTile f (tile_width w number) n latest t more.bytes) th_is (subst (λ (n : ℕ). IsTile f n th latest t more.bytes) tw_is shown.is));
+        bytes_are = ap (λ z. so_far.bytes ++ z) shown.bytes_are ∙ ap (λ z. z ++ tile_bytes f t) done.bytes_are
+            ∙ ap (λ z. flat_map (tile_bytes f) done.tiles ++ z) (sym (append-nil (tile_bytes f t))) ∙ sym (flat_map-append (tile_bytes f) done.tiles (t ∷ []));
         known_is = subst (λ (z : List Tile). IsKnown z after) (sym all) shown.known_is;
         shows = λ column row across down before.
             ap (λ (z : List Tile). tiles_picture w z column row) all
@@ -162,6 +168,7 @@ all_written f w h colors number known old new is a =
       are = record {
         tiles = done.tiles;
         is = record { all = done.count ∙ is; are = done.are };
+        bytes_are = done.bytes_are;
         picture = λ column row across down. done.shows column row across down (rw is (number_within w h column row across down));
       };
     }

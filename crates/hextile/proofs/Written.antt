@@ -1,7 +1,9 @@
 -- What is appended one after the other.
 use Rattle.std.proofs.Common.{◌≡◌, ℕ, ◌+◌, ◌*◌, ◌-◌, ◌<◌, ◌≤◌, Bool, true, false, cond, List, [], ◌∷◌, ◌++◌, length, take, get_or, map, refl, sym, ap, subst, ◌∙◌, append_assoc, arith}
 use mir.Val.{bool_byte}
+use Rattle.std.specs.List.{flat_map}
 use Rattle.std.proofs.lemmas.List.{append-nil, take_more, map-append}
+use Rattle.std.proofs.lemmas.Grind.{flat_map-append}
 use Rattle.pixel_format.specs.declared.Color.{Color}
 use Rattle.pixel_format.specs.Format.{Format}
 use Rattle.hextile.specs.declared.fields.Mask.{Mask}
@@ -135,6 +137,19 @@ parts_more f colored w h parts k d old between new less is before last =
           (subrectangles_more f colored w h (map (drawn colored) (take k parts)) (drawn colored (get_or parts k d)) before.bytes last.bytes before.are last.are
           (record { columns = is.columns; rows = is.rows }));
     }
+
+-- one more of a list, each of which has its bytes
+pub mapped_more : {A : Type 0} (g : A → List ℕ) (all : List A) (k : ℕ) (d : A) (old between new : List ℕ) → k < length all
+    → between ≡ old ++ flat_map g (take k all) → new ≡ between ++ g (get_or all k d) → new ≡ old ++ flat_map g (take (k + 1) all)
+mapped_more g all k d old between new lt before last =
+    let one : flat_map g (get_or all k d ∷ []) ≡ g (get_or all k d) = append-nil (g (get_or all k d)) in
+    let more : flat_map g (take (k + 1) all) ≡ flat_map g (take k all) ++ g (get_or all k d) =
+    ap (flat_map g) (take_more all k d lt) ∙ flat_map-append g (take k all) (get_or all k d ∷ []) ∙ ap (λ z. flat_map g (take k all) ++ z) one in
+    last ∙ ap (λ z. z ++ g (get_or all k d)) before ∙ append_assoc old (flat_map g (take k all)) (g (get_or all k d)) ∙ ap (λ z. old ++ z) (sym more)
+
+pub flat_map-map : {A B : Type 0} (g : B → List ℕ) (m : A → B) (all : List A) → flat_map (λ a. g (m a)) all ≡ flat_map g (map m all)
+flat_map-map g m [] = refl
+flat_map-map g m (a ∷ all) = ap (λ z. g (m a) ++ z) (flat_map-map g m all)
 
 -- pixels
 pixels_push : (f : Format) (colors : List Color) (color : Color) (body first : List ℕ) → ArePixels f colors body → IsPixel f color first

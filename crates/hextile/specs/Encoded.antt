@@ -1,15 +1,17 @@
 -- What an encoder makes of colours by rows: tiles of parts of one colour each over a background, or
 -- of pixels.
-use Rattle.std.specs.Prelude.{◌≡◌, ℕ, ◌+◌, ◌*◌, ◌/◌, ◌%◌, ◌<◌, ◌≤◌, List, [], ◌∷◌, ◌++◌, length, reverse, map, All, slice_index_or, Option, Some, None, Bool, true, false, if◌then◌else◌}
+use Rattle.std.specs.Prelude.{◌≡◌, ℕ, ◌+◌, ◌-◌, ◌*◌, ◌/◌, ◌%◌, ◌<◌, ◌≤◌, List, [], ◌∷◌, ◌++◌, length, reverse, map, All, slice_index_or, Option, Some, None, is_some, Bool, true, false, if◌then◌else◌}
+use Rattle.std.specs.List.{flat_map}
 use Rattle.pixel_format.specs.declared.Color.{Color}
 use Rattle.pixel_format.specs.Format.{Format}
-use Rattle.pixel_format.specs.Pixel.{IsWithin}
+use Rattle.pixel_format.specs.Pixel.{IsWithin, pixel_of}
+use Rattle.pixel_format.specs.Written.{flag}
 use Rattle.pixel_format.specs.Canvas.{Picture, covers, Agree}
 use Rattle.hextile.specs.declared.fields.Subrectangle.{Subrectangle}
 use Rattle.hextile.specs.declared.cover.Part.{Part}
 use Rattle.hextile.specs.declared.fields.Mask.{Mask}
 use Rattle.hextile.specs.declared.writing.Known.{Known}
-use Rattle.hextile.specs.Grammar.{Tile, mask_of}
+use Rattle.hextile.specs.Grammar.{Tile, Raw, Parts, mask_of}
 use Rattle.hextile.specs.Data.{background_of, foreground_of, AreSubrectangles, IsHead, IsTile, IsData}
 use Rattle.hextile.specs.Picture.{black, latest_picture, picture_of}
 
@@ -21,10 +23,55 @@ nth colors i = slice_index_or colors i black
 abbrev pub rows_of : List Color → ℕ → Picture
 rows_of colors w column row = nth colors (row * w + column)
 
+-- ---- bytes as they are written: in each pixel the bits that belong to no channel are 0
+
+-- the pixel of a colour that is named, or nothing
+abbrev pub pixel_if : Format → Option Color → List ℕ
+pixel_if f None = []
+pixel_if f (Some color) = pixel_of f color
+
+-- a subrectangle: its pixel, if it has one; x and y; width and height less one
+abbrev pub part_bytes : Format → Subrectangle → List ℕ
+part_bytes f s = pixel_if f s.color ++ (s.x * 16 + s.y) ∷ ((s.w - 1) * 16 + (s.h - 1)) ∷ []
+
+-- how many subrectangles follow, if any do
+abbrev pub count_if : List Subrectangle → List ℕ
+count_if [] = []
+count_if (s ∷ parts) = length (s ∷ parts) ∷ []
+
+abbrev pub has_parts : List Subrectangle → Bool
+has_parts [] = false
+has_parts (s ∷ parts) = true
+
+abbrev pub is_colored : List Subrectangle → Bool
+is_colored [] = false
+is_colored (s ∷ parts) = is_some s.color
+
+-- the number of a mask
+abbrev pub mask_number : Mask → ℕ
+mask_number m = flag m.raw + 2 * flag m.background + 4 * flag m.foreground + 8 * flag m.subrectangles + 16 * flag m.colored
+
+-- the mask of a tile that isn't raw: which colours it names, and whether it has subrectangles, with
+-- colours of their own
+abbrev pub mask_for : Option Color → Option Color → List Subrectangle → Mask
+mask_for background foreground parts = record {
+  raw = false;
+  background = is_some background;
+  foreground = is_some foreground;
+  subrectangles = has_parts parts;
+  colored = is_colored parts;
+}
+
+abbrev pub tile_bytes : Format → Tile → List ℕ
+tile_bytes f (Raw colors) = 1 ∷ flat_map (pixel_of f) colors
+tile_bytes f (Parts background foreground parts) = mask_number (mask_for background foreground parts)
+    ∷ (pixel_if f background ++ (pixel_if f foreground ++ (count_if parts ++ flat_map (part_bytes f) parts)))
+
 -- bytes are data of a rectangle whose picture is the colours, at every place
 pub record Shows (f : Format) (w h : ℕ) (colors : List Color) (bytes : List ℕ) : Type 0 where
   pub tiles : List Tile
   pub is : IsData f w h bytes tiles
+  pub bytes_are : bytes ≡ flat_map (tile_bytes f) tiles
   pub picture : Agree w h (picture_of w tiles) (rows_of colors w)
 
 -- ---- how the encoder goes on
@@ -80,6 +127,7 @@ pub record IsKnown (before : List Tile) (known : Known) : Type 0 where
 pub record ShowsTile (f : Format) (w h : ℕ) (colors : List Color) (before : List Tile) (known : Known) (bytes : List ℕ) : Type 0 where
   pub tile : Tile
   pub is : IsTile f w h before tile bytes
+  pub bytes_are : bytes ≡ tile_bytes f tile
   pub known_is : IsKnown (tile ∷ before) known
   pub picture : Agree w h (latest_picture w (tile ∷ before)) (rows_of colors w)
 
@@ -105,6 +153,8 @@ pub record IsMaskFor (known : Known) (background : Color) (ink : Option Color) (
   pub named : m.foreground ≡ true → (color : Color) × (ink ≡ Some color)
   pub front : (color : Color) → ink ≡ Some color → m.foreground ≡ false → known.foreground ≡ Some color
   pub some : m.subrectangles ≡ false → count ≡ 0
+  pub full : m.subrectangles ≡ true → 0 < count
+  pub only : m.colored ≡ true → m.subrectangles ≡ true
   pub colored : m.colored ≡ true → ink ≡ None
   pub plain : m.colored ≡ false → m.subrectangles ≡ true → (color : Color) × (ink ≡ Some color)
 
@@ -113,6 +163,12 @@ abbrev pub known_behind : Known → Color → Option Color → Bool → Known
 known_behind known background ink true = record { background = None; foreground = None }
 known_behind known background (Some color) false = record { background = Some background; foreground = Some color }
 known_behind known background None false = record { background = Some background; foreground = known.foreground }
+
+-- and its bytes
+abbrev pub parts_tile_bytes : Format → Mask → Color → Color → List Part → List ℕ
+parts_tile_bytes f m background foreground parts = mask_number m
+    ∷ (pixel_if f (shown_if m.background background) ++ (pixel_if f (shown_if m.foreground foreground)
+    ++ ((if m.subrectangles then length parts ∷ [] else []) ++ flat_map (part_bytes f) (map (drawn m.colored) parts))))
 
 -- bytes of a mask, its fields and parts
 pub record IsWritten (f : Format) (w h : ℕ) (m : Mask) (background foreground : Color) (parts : List Part) (bytes : List ℕ) : Type 0 where

@@ -520,3 +520,45 @@ fn encoded_shortly(rt: HostRuntime) -> Result<(), Fail> {
     assert_eq!(rt; &raw[77..], [2, 0, 0, 255, 0].as_slice());
     Ok(())
 }
+
+// Behind a raw tile, and behind a coloured one, background and foreground are named again, though
+// they are those of the tile before it.
+#[test]
+fn named_again(rt: HostRuntime) -> Result<(), Fail> {
+    let mut picture = [RED; 48];
+    picture[3] = GREEN;
+    picture[4] = GREEN;
+    picture[46] = GREEN;
+    for k in 16..32 {
+        picture[k] = Color {
+            r: k as u16,
+            g: 100,
+            b: 200,
+        };
+    }
+    let raw = [
+        14, 0, 0, 255, 0, 0, 255, 0, 0, 1, 0x30, 0x10, 1, 200, 100, 16, 0, 200, 100, 17, 0, 200,
+        100, 18, 0, 200, 100, 19, 0, 200, 100, 20, 0, 200, 100, 21, 0, 200, 100, 22, 0, 200, 100,
+        23, 0, 200, 100, 24, 0, 200, 100, 25, 0, 200, 100, 26, 0, 200, 100, 27, 0, 200, 100, 28, 0,
+        200, 100, 29, 0, 200, 100, 30, 0, 200, 100, 31, 0, 14, 0, 0, 255, 0, 0, 255, 0, 0, 1, 0xe0,
+        0,
+    ];
+    assert_eq!(rt;
+        encoded(rt.alloc(), 48, &picture)?.as_slice(),
+        raw.as_slice()
+    );
+    for k in 16..32 {
+        picture[k] = RED;
+    }
+    picture[20] = GREEN;
+    picture[30] = BLUE;
+    let colored = [
+        14, 0, 0, 255, 0, 0, 255, 0, 0, 1, 0x30, 0x10, 24, 2, 0, 255, 0, 0, 0x40, 0, 255, 0, 0, 0,
+        0xe0, 0, 14, 0, 0, 255, 0, 0, 255, 0, 0, 1, 0xe0, 0,
+    ];
+    assert_eq!(rt;
+        encoded(rt.alloc(), 48, &picture)?.as_slice(),
+        colored.as_slice()
+    );
+    Ok(())
+}

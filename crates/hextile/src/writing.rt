@@ -1,10 +1,11 @@
 //! Writing the data of a tile.
 
-ghost use Rattle.std.specs.Prelude.{◌≡◌, ℕ, ◌+◌, ◌*◌, ◌<◌, ◌≤◌, length, map, All, OnOk, if◌then◌else◌};
-ghost use Rattle.pixel_format.specs.Pixel.{IsWithin};
+ghost use Rattle.std.specs.Prelude.{◌≡◌, ℕ, ◌+◌, ◌*◌, ◌<◌, ◌≤◌, [], ◌∷◌, ◌++◌, length, map, All, OnOk, if◌then◌else◌};
+ghost use Rattle.pixel_format.specs.Pixel.{IsWithin, pixel_of};
+ghost use Rattle.std.specs.List.{flat_map};
 ghost use Rattle.hextile.specs.Grammar.{mask_of};
 ghost use Rattle.hextile.specs.Data.{IsPixel, IsPixelIf, ArePixels, AreBytesOf, AreSubrectangles, IsHead, AreRaw};
-ghost use Rattle.hextile.specs.Encoded.{shown_if, drawn, IsPart, IsWritten, Appends, Grows};
+ghost use Rattle.hextile.specs.Encoded.{shown_if, drawn, pixel_if, part_bytes, mask_number, parts_tile_bytes, IsPart, IsWritten, Appends, Grows};
 
 use crate::cover::Part;
 use crate::fields::Mask;
@@ -21,6 +22,7 @@ pub(crate) struct Known {
 fn byte_of(mask: Mask) -> u8
     ensures mask { mask_of result ≡ mask }
     ensures known { result < 32 }
+    ensures number { result ≡ mask_number mask }
 {
     mask.raw as u8
         + 2 * mask.background as u8
@@ -33,6 +35,7 @@ fn byte_of(mask: Mask) -> u8
 fn append_pixel(format: &PixelFormat, color: Color, bytes: &mut Vec<u8>) -> Result<(), NoMemory>
     requires { IsWithin format.now color }
     ensures ok { OnOk result (Appends (IsPixel format.now color) bytes.old.items bytes.new.items) }
+    ensures written { OnOk result (bytes.new.items ≡ bytes.old.items ++ pixel_of format.now color) }
     ensures grows { Grows bytes.old.items bytes.new.items }
 {
     let mut pixel = [0; 4];
@@ -50,6 +53,7 @@ fn append_pixel_if(
 ) -> Result<(), NoMemory>
     requires { IsWithin format.now color }
     ensures ok { OnOk result (Appends (IsPixelIf format.now there (shown_if there color)) bytes.old.items bytes.new.items) }
+    ensures written { OnOk result (bytes.new.items ≡ bytes.old.items ++ pixel_if format.now (shown_if there color)) }
     ensures grows { Grows bytes.old.items bytes.new.items }
 {
     if there {
@@ -72,6 +76,8 @@ fn append_head(
     requires foreground { IsWithin format.now foreground }
     ensures ok { OnOk result (Appends (IsHead format.now mask (shown_if mask.background background) (shown_if mask.foreground foreground)
         (if mask.subrectangles then count else 0)) bytes.old.items bytes.new.items) }
+    ensures written { OnOk result (bytes.new.items ≡ bytes.old.items ++ (pixel_if format.now (shown_if mask.background background)
+        ++ (pixel_if format.now (shown_if mask.foreground foreground) ++ (if mask.subrectangles then count ∷ [] else [])))) }
     ensures grows { Grows bytes.old.items bytes.new.items }
 {
     append_pixel_if(format, mask.background, background, bytes)?;
@@ -91,6 +97,7 @@ fn append_part(
 ) -> Result<(), NoMemory>
     requires { IsPart format.now 16 16 part }
     ensures ok { OnOk result (Appends (AreBytesOf format.now colored (drawn colored part)) bytes.old.items bytes.new.items) }
+    ensures written { OnOk result (bytes.new.items ≡ bytes.old.items ++ part_bytes format.now (drawn colored part)) }
     ensures grows { Grows bytes.old.items bytes.new.items }
 {
     append_pixel_if(format, colored, part.color, bytes)?;
@@ -107,6 +114,7 @@ fn append_parts(
     requires { All (IsPart format.now 16 16) parts.now }
     ensures ok { OnOk result ((w h : ℕ) → All (IsPart format.now w h) parts.now
         → Appends (AreSubrectangles format.now colored w h (map (drawn colored) parts.now)) bytes.old.items bytes.new.items) }
+    ensures written { OnOk result (bytes.new.items ≡ bytes.old.items ++ flat_map (part_bytes format.now) (map (drawn colored) parts.now)) }
     ensures grows { Grows bytes.old.items bytes.new.items }
 {
     for part in parts {
@@ -123,6 +131,7 @@ fn append_pixels(
 ) -> Result<(), NoMemory>
     requires { All (IsWithin format.now) colors.now }
     ensures ok { OnOk result (Appends (ArePixels format.now colors.now) bytes.old.items bytes.new.items) }
+    ensures written { OnOk result (bytes.new.items ≡ bytes.old.items ++ flat_map (pixel_of format.now) colors.now) }
     ensures grows { Grows bytes.old.items bytes.new.items }
 {
     for color in colors {
@@ -146,6 +155,7 @@ pub(crate) fn append_parts_tile(
     requires count { length parts.now < 256 }
     ensures ok { OnOk result ((w h : ℕ) → All (IsPart format.now w h) parts.now
         → Appends (IsWritten format.now w h mask background foreground parts.now) bytes.old.items bytes.new.items) }
+    ensures written { OnOk result (bytes.new.items ≡ bytes.old.items ++ parts_tile_bytes format.now mask background foreground parts.now) }
     ensures grows { Grows bytes.old.items bytes.new.items }
 {
     bytes.push(byte_of(mask))?;
@@ -170,6 +180,7 @@ pub(crate) fn append_raw_tile(
     requires { All (IsWithin format.now) colors.now }
     ensures ok { OnOk result ((w h : ℕ) → length colors.now ≡ w * h
         → Appends (AreRaw format.now w h colors.now) bytes.old.items bytes.new.items) }
+    ensures written { OnOk result (bytes.new.items ≡ bytes.old.items ++ 1 ∷ flat_map (pixel_of format.now) colors.now) }
     ensures grows { Grows bytes.old.items bytes.new.items }
 {
     bytes.push(1)?;

@@ -3,3 +3,4 @@ pub mod Order
 pub mod Rows
 pub mod Screens
 pub mod Same
+pub mod Updates

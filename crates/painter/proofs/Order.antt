@@ -13,7 +13,8 @@ use Rattle.rect_data.specs.declared.encoding.Encoding.TheVariants as encodings
 use Rattle.rect_data.specs.Grammar.{source_of}
 use Rattle.rect_data.specs.Data.{AreData}
 use Rattle.rfb_wire.specs.Host.{Host, IsPlaced}
-use Rattle.painter.specs.Picture.{is_in, copied_picture, picture_of, painted_data, painted_rectangle, painted_rectangles, painted_message, painted_over}
+use Rattle.rect_codec.specs.Picture.{is_in, copied_picture, picture_of, painted_data}
+use Rattle.painter.specs.Picture.{painted_rectangle, painted_rectangles, painted_message, painted_over}
 use Rattle.painter.proofs.Places.{IsIn, in_is}
 
 pub no_rectangles : (bytes : List ℕ) (before : Picture) → painted_rectangles bytes [] before ≡ before
@@ -43,7 +44,7 @@ last_painted bytes rectangles i before lt =
 -- the picture of data depends on the places of the screen alone; those of a CopyRect are the
 -- source's
 shown_same : (width height : ℕ) (encoding : Encoding) (area : Area) (bytes : List ℕ) (p q : Picture) → AreData host_format width height encoding area bytes → Agree width height p q
-    → (x y : ℕ) → IsIn area x y → picture_of encoding area bytes p x y ≡ picture_of encoding area bytes q x y
+    → (x y : ℕ) → IsIn area x y → picture_of host_format encoding area bytes p x y ≡ picture_of host_format encoding area bytes q x y
 unfolding copied_picture source_of
 shown_same width height encodings.Raw area bytes p q is same x y place = refl
 shown_same width height encodings.CopyRect area bytes p q is same x y place =
@@ -57,7 +58,7 @@ shown_same width height encodings.Rre area bytes p q is same x y place = refl
 shown_same width height encodings.Hextile area bytes p q is same x y place = refl
 
 pub agree_data : (width height : ℕ) (encoding : Encoding) (area : Area) (bytes : List ℕ) (p q : Picture) → AreData host_format width height encoding area bytes → Agree width height p q
-    → Agree width height (painted_data encoding area bytes p) (painted_data encoding area bytes q)
+    → Agree width height (painted_data host_format encoding area bytes p) (painted_data host_format encoding area bytes q)
 unfolding painted_data
 agree_data width height encoding area bytes p q is same x y across down = elim (cases_Bool (is_in area x y)) [
   | inl here ↦ rw here (shown_same width height encoding area bytes p q is same x y (in_is area x y here))

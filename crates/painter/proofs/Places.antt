@@ -5,7 +5,7 @@ use Rattle.std.proofs.lemmas.List.{places}
 use borrow.Rule.Slice.PartMut.{put_mid}
 use Rattle.std.proofs.lemmas.Nat.{mul-add-lt}
 use Rattle.client_wire.specs.declared.message.Area.{Area}
-use Rattle.painter.specs.Picture.{is_in}
+use Rattle.rect_codec.specs.Picture.{is_in}
 
 -- the place lies in the area, as a fact
 pub record IsIn (area : Area) (x y : ℕ) : Type 0 where

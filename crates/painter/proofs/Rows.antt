@@ -10,8 +10,9 @@ use Rattle.pixel_format.specs.Canvas.{Picture}
 use Rattle.pixel_format.specs.Pixel.{host_color}
 use Rattle.client_wire.specs.declared.message.Area.{Area}
 use Rattle.painter.specs.declared.pixel.Pixel.{Pixel}
-use Rattle.painter.specs.Picture.{is_in, raw_picture, copied_picture, pixel_at}
-use Rattle.painter.specs.Pixels.{black_pixel, color_of, pixel_color_at, color_in}
+use Rattle.pixel_format.specs.Format.{host_format}
+use Rattle.rect_codec.specs.Picture.{is_in, raw_picture, copied_picture}
+use Rattle.painter.specs.Pixels.{black_pixel, color_of, pixel_color_at, color_in, pixel_at}
 use Rattle.painter.proofs.Places.{IsIn, in_is, is_in_true, same_in, below_part, in_part, above_part, row_before}
 
 -- the first rows of an area
@@ -151,13 +152,14 @@ line_put pixels line width area picture row columns fits len colors = record {
 
 -- the places of a row of pixels
 pub raw_row : (area : Area) (bytes : List ℕ) (row k : ℕ) → k < area.w
-    → host_color (pixel_at (take (4 * area.w) (drop (4 * (row * area.w)) bytes)) k) ≡ raw_picture area bytes (area.x + k) (area.y + row)
+    → host_color (pixel_at (take (4 * area.w) (drop (4 * (row * area.w)) bytes)) k) ≡ raw_picture host_format area bytes (area.x + k) (area.y + row)
 unfolding raw_picture
 raw_row area bytes row k lt =
     let column : area.x + k - area.x ≡ k = omega arith in
     let height : area.y + row - area.y ≡ row = omega arith in
     ap host_color (pixel_of_part bytes (row * area.w) area.w k lt)
-    ∙ sym (ap (λ (c : ℕ). host_color (pixel_at bytes ((area.y + row - area.y) * area.w + c))) column ∙ ap (λ (r : ℕ). host_color (pixel_at bytes (r * area.w + k))) height)
+    ∙ ap (λ (i : ℕ). host_color (take 4 (drop i bytes))) (omega arith)
+    ∙ sym (ap (λ (c : ℕ). host_color (take 4 (drop (((area.y + row - area.y) * area.w + c) * 4) bytes))) column ∙ ap (λ (r : ℕ). host_color (take 4 (drop ((r * area.w + k) * 4) bytes))) height)
 
 -- what stands at a row of the source, where it isn't painted over yet
 source_left : (pixels : List Pixel) (width : ℕ) (source area done : Area) (before : Picture) (row k : ℕ) → source.x + k < width → (IsIn done (source.x + k) (source.y + row) → ⊥)

@@ -27,7 +27,8 @@ use Rattle.std.proofs.lemmas.Nat.{mul-add-lt}
 use Rattle.rfb_wire.specs.Host.{Host, IsPlaced}
 use Rattle.painter.specs.declared.pixel.Pixel.{Pixel}
 use Rattle.painter.specs.Framebuffer.{Framebuffer, color_at, Has, Shows}
-use Rattle.painter.specs.Picture.{black, is_in, rre_shown, hextile_shown, shown_at, painted_data, painted_rectangle, painted_rectangles, painted_message, painted}
+use Rattle.rect_codec.specs.Picture.{is_in, rre_shown, hextile_shown, shown_at, painted_data}
+use Rattle.painter.specs.Picture.{black, painted_rectangle, painted_rectangles, painted_message, painted}
 use Rattle.painter.specs.Pixels.{black_pixel, color_of, pixel_color_at, color_in}
 use Rattle.painter.proofs.Order.{no_rectangle, last_painted, agree_data, agree_rectangles, one_message_more, no_messages}
 
@@ -52,8 +53,8 @@ shows_none screen h x y across down = h x y across down ∙ sym (ap (λ (p : Pic
 
 -- what painting data into the pixels does to the screen
 pub has_data : (width height : ℕ) (old new : List Pixel) (encoding : Encoding) (area : Area) (bytes : List ℕ) → AreData host_format width height encoding area bytes
-    → ((x y : ℕ) → x < width → color_in new width x y ≡ painted_data encoding area bytes (color_in old width) x y)
-    → Has (screen_of width height new) (painted_data encoding area bytes (color_at (screen_of width height old)))
+    → ((x y : ℕ) → x < width → color_in new width x y ≡ painted_data host_format encoding area bytes (color_in old width) x y)
+    → Has (screen_of width height new) (painted_data host_format encoding area bytes (color_at (screen_of width height old)))
 has_data width height old new encoding area bytes is done x y across down =
     color_is new (y * width + x) ∙ done x y across
     ∙ agree_data width height encoding area bytes (color_in old width) (color_at (screen_of width height old)) is (λ x y _ _. sym (color_is old (y * width + x))) x y across down
@@ -77,7 +78,7 @@ source_within width height area source bytes is known = rw is (known.within.colu
 
 pub rre_painted : (width height : ℕ) (area : Area) (bytes : List ℕ) (content : rre.Content) (before new : Picture) → rre_data.IsData host_format area.w area.h bytes content
     → Agree width height new (rre_picture.painted_over area.x area.y area.w area.h content before)
-    → Agree width height new (painted_data encodings.Rre area bytes before)
+    → Agree width height new (painted_data host_format encodings.Rre area bytes before)
 unfolding painted_data rre_shown
 rre_painted width height area bytes content before new is done x y across down =
     let whole : rre.data_at host_format area.w area.h bytes ≡ Got content [] =
@@ -87,7 +88,7 @@ rre_painted width height area bytes content before new is done x y across down =
 
 pub hextile_painted : (width height : ℕ) (area : Area) (bytes : List ℕ) (tiles : List hextile.Tile) (before new : Picture) → hextile_data.IsData host_format area.w area.h bytes tiles
     → Agree width height new (hextile_picture.painted_over area.x area.y area.w area.h tiles before)
-    → Agree width height new (painted_data encodings.Hextile area bytes before)
+    → Agree width height new (painted_data host_format encodings.Hextile area bytes before)
 unfolding painted_data hextile_shown
 hextile_painted width height area bytes tiles before new is done x y across down =
     let whole : hextile.data_at host_format area.w area.h bytes ≡ Got tiles [] =

@@ -1,3 +1,4 @@
 pub mod Picture
 pub mod Pixels
 pub mod Framebuffer
+pub mod Update

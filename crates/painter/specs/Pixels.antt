@@ -1,5 +1,5 @@
 -- The pixels that a screen keeps, and their colours.
-use Rattle.std.specs.Prelude.{ℕ, ◌+◌, ◌*◌, List, slice_index_or}
+use Rattle.std.specs.Prelude.{ℕ, ◌+◌, ◌*◌, List, take, drop, slice_index_or}
 use Rattle.pixel_format.specs.declared.Color.{Color}
 use Rattle.painter.specs.declared.pixel.Pixel.{Pixel}
 
@@ -16,3 +16,7 @@ pixel_color_at pixels k = color_of (slice_index_or pixels k black_pixel)
 -- the colour at a place of pixels that are kept by rows
 abbrev pub color_in : List Pixel → ℕ → ℕ → ℕ → Color
 color_in pixels width x y = pixel_color_at pixels (y * width + x)
+
+-- the pixel of this number: four bytes of the host format
+abbrev pub pixel_at : List ℕ → ℕ → List ℕ
+pixel_at bytes n = take 4 (drop (4 * n) bytes)

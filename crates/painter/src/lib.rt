@@ -1,10 +1,12 @@
 //! Screens that are painted by the messages of a host (RFC 6143, section 7.7).
 #![tactic(auto)]
 
+mod laws;
 mod pixel;
 mod rectangle;
 mod screen;
 
+pub use laws::written_update_paints;
 pub use screen::Screen;
 
 #[cfg(test)]

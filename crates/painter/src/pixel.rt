@@ -2,8 +2,7 @@
 
 ghost use Rattle.std.specs.Prelude.{◌≡◌, ◌<◌, ◌*◌, ℕ, length};
 ghost use Rattle.pixel_format.specs.Pixel.{host_color, IsScreenColor};
-ghost use Rattle.painter.specs.Pixels.{color_of, pixel_color_at};
-ghost use Rattle.painter.specs.Picture.{pixel_at};
+ghost use Rattle.painter.specs.Pixels.{color_of, pixel_color_at, pixel_at};
 
 use pixel_format::{Color, host_pixel};
 

@@ -3,7 +3,8 @@
 ghost use Rattle.std.specs.Prelude.{◌≡◌, ◌+◌, ◌-◌, ◌*◌, ◌<◌, ◌≤◌, ℕ, length, if◌then◌else◌};
 ghost use Rattle.std.specs.List.{CopiedTo, SameBelow, SameFrom};
 ghost use Rattle.painter.specs.Pixels.{color_in, color_of};
-ghost use Rattle.painter.specs.Picture.{is_in, raw_picture, copied_picture};
+ghost use Rattle.pixel_format.specs.Format.{host_format};
+ghost use Rattle.rect_codec.specs.Picture.{is_in, raw_picture, copied_picture};
 
 use crate::pixel::{Pixel, fill_row, paint_row};
 use rfb_wire::Area;
@@ -14,7 +15,7 @@ pub(crate) fn paint_raw(pixels: &mut [Pixel], width: u16, area: Area, bytes: &[u
     requires rows { (area.y + area.h) * width ≤ length pixels.old }
     requires size { length bytes.now ≡ 4 * (area.w * area.h) }
     ensures { (x y : ℕ) → x < width → color_in pixels.new width x y
-        ≡ (if is_in area x y then raw_picture area bytes.now x y else color_in pixels.old width x y) }
+        ≡ (if is_in area x y then raw_picture host_format area bytes.now x y else color_in pixels.old width x y) }
 {
     let (width, w) = (usize::from(width), usize::from(area.w));
     let (left, top) = (usize::from(area.x), usize::from(area.y));

@@ -4,7 +4,8 @@ ghost use Rattle.std.specs.Prelude.{◌≡◌, ◌↔◌, ◌<◌, ◌≤◌, �
 ghost use Rattle.rfb_wire.specs.Host.{Host};
 ghost use Rattle.pixel_format.specs.Pixel.{IsScreenColor};
 ghost use Rattle.painter.specs.Framebuffer.{Framebuffer, color_at, SameSize, Has, IsSame, Shows};
-ghost use Rattle.painter.specs.Picture.{black, painted_data, painted_message};
+ghost use Rattle.rect_codec.specs.Picture.{painted_data};
+ghost use Rattle.painter.specs.Picture.{black, painted_message};
 ghost use Rattle.pixel_format.specs.Format.{host_format};
 ghost use Rattle.rect_data.specs.Data.{AreData};
 
@@ -86,7 +87,7 @@ impl Screen {
         requires columns { area.x + area.w ≤ self.old.width }
         requires rows { area.y + area.h ≤ self.old.height }
         ensures size { SameSize self.old self.new }
-        ensures painted { Has self.new (painted_data encoding area bytes.now (color_at self.old)) }
+        ensures painted { Has self.new (painted_data host_format encoding area bytes.now (color_at self.old)) }
     {
         let host = PixelFormat::host();
         let width = self.width;

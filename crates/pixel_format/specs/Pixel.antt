@@ -1,7 +1,8 @@
 -- The colour of a pixel (RFC 6143, section 7.4).
 use Rattle.std.specs.Prelude.{ℕ, ◌+◌, ◌*◌, ◌/◌, ◌%◌, ◌^◌, ◌≤◌, List, [], ◌∷◌, if◌then◌else◌}
 use Rattle.pixel_format.specs.declared.Color.{Color}
-use Rattle.pixel_format.specs.Format.{Channel, Format, host_format}
+use Rattle.std.specs.Int.{bytes_low_first, bytes_high_first}
+use Rattle.pixel_format.specs.Format.{Channel, Format, host_format, pixel_bytes}
 
 -- the number that bytes are, the lowest byte first
 abbrev pub little_endian : List ℕ → ℕ
@@ -42,6 +43,15 @@ pub record IsWithin (f : Format) (c : Color) : Type 0 where
 -- the number of the pixel of a colour: each channel at its place, and the other bits 0
 abbrev pub color_number : Format → Color → ℕ
 color_number f c = c.r * 2 ^ f.red.shift + c.g * 2 ^ f.green.shift + c.b * 2 ^ f.blue.shift
+
+-- the bytes of a number below 2 ^ bits, in the format's order
+abbrev pub number_bytes : Format → ℕ → List ℕ
+number_bytes f number =
+    if f.big_endian then bytes_high_first (pixel_bytes f) number else bytes_low_first 0 (pixel_bytes f) number
+
+-- the pixel of a colour, as it is written
+unfoldable pub pixel_of : Format → Color → List ℕ
+pixel_of f c = number_bytes f (color_number f c)
 
 -- a colour of a screen: each channel is at most 255
 pub record IsScreenColor (c : Color) : Type 0 where

@@ -3,7 +3,7 @@
 ghost use Rattle.std.specs.Prelude.{◌≡◌, ℕ, ◌/◌, ◌%◌, ◌+◌, ◌*◌, ◌^◌, ◌<◌, ◌≤◌, ◌⊎◌, ◌||◌, ◌&&◌, nat_eq, nat_lt, bit_and, [], ◌∷◌, length, Ok};
 ghost use Rattle.pixel_format.specs.Format.{Format, pixel_bytes, host_format};
 ghost use Rattle.pixel_format.specs.Written.{channel_at, format_of, format_at, format_bytes, is_ones};
-ghost use Rattle.pixel_format.specs.Pixel.{pixel_number, channel_value, pixel_color, host_color, IsWithin, color_number, IsScreenColor, converted, converted_channel};
+ghost use Rattle.pixel_format.specs.Pixel.{pixel_number, channel_value, pixel_color, host_color, IsWithin, color_number, number_bytes, pixel_of, IsScreenColor, converted, converted_channel};
 
 use crate::Color;
 use crate::fault::FormatFault;
@@ -166,6 +166,7 @@ impl PixelFormat {
     pub fn put(&self, color: Color, bytes: &mut [u8])
         requires whole { length bytes.old ≡ pixel_bytes self.now }
         requires within { IsWithin self.now color }
+        ensures bytes { bytes.new ≡ pixel_of self.now color }
         ensures number { pixel_number self.now bytes.new ≡ color_number self.now color }
         ensures color { pixel_color self.now bytes.new ≡ color }
     {
@@ -193,7 +194,8 @@ impl PixelFormat {
     fn put_number(&self, number: u32, bytes: &mut [u8])
         requires whole { length bytes.old ≡ pixel_bytes self.now }
         requires fits { number < 2 ^ self.now.bits }
-        ensures { pixel_number self.now bytes.new ≡ number }
+        ensures bytes { bytes.new ≡ number_bytes self.now number }
+        ensures number { pixel_number self.now bytes.new ≡ number }
     {
         if self.bits == 8 {
             bytes.copy_from_slice(&[number as u8]);

@@ -1,1 +1,2 @@
 pub mod PixelsPut
+pub mod Drawing

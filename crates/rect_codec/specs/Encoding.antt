@@ -1,5 +1,7 @@
 -- The encodings that updates are written in, and how a viewer's list asks for one.
 use Rattle.std.specs.Prelude.{◌≡◌, ℕ, ℤ, pos, All, List, ◌∷◌, ◌++◌}
+use Rattle.rect_data.specs.declared.encoding.Encoding.{Encoding as WireEncoding}
+use Rattle.rect_data.specs.declared.encoding.Encoding.TheVariants as wires
 use Rattle.rect_codec.specs.declared.encoding.Encoding.{Encoding}
 use Rattle.rect_codec.specs.declared.encoding.Encoding.TheVariants as encodings
 
@@ -8,6 +10,12 @@ abbrev pub number_of : Encoding → ℕ
 number_of encodings.Raw = 0
 number_of encodings.Rre = 2
 number_of encodings.Hextile = 5
+
+-- as one of the encodings of a rectangle that is read
+abbrev pub wire_of : Encoding → WireEncoding
+wire_of encodings.Raw = wires.Raw
+wire_of encodings.Rre = wires.Rre
+wire_of encodings.Hextile = wires.Hextile
 
 -- the number is that of none of them
 abbrev pub IsOther : ℤ → Type 0

@@ -1,4 +1,5 @@
 pub use Rattle.pixel_format.specs.Canvas
 pub mod Encoding
 pub mod Picture
+pub mod Written
 pub mod Update

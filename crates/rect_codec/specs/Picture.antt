@@ -1,51 +1,61 @@
--- What the data of a rectangle of w by h show (RFC 6143, section 7.7). Places count from the
--- rectangle's corner.
-use Rattle.std.specs.Prelude.{◌≡◌, ℕ, ◌+◌, ◌*◌, ◌<◌, List, length, take, drop}
-use Rattle.pixel_format.specs.declared.Color.{Color}
+-- What the data of a rectangle show (RFC 6143, section 7.7), in any pixel format.
+use Rattle.std.specs.Prelude.{ℕ, ◌+◌, ◌-◌, ◌*◌, Bool, List, take, drop, if◌then◌else◌}
 use Rattle.pixel_format.specs.Format.{Format, pixel_bytes}
 use Rattle.pixel_format.specs.Pixel.{pixel_color}
-use Rattle.pixel_format.specs.Canvas.{Picture, Agree}
-use Rattle.rre.specs.Grammar.{Content}
-use Rattle.rre.specs.Data.{IsData as IsRreData}
-use Rattle.rre.specs.Picture.{picture_of as rre_picture}
-use Rattle.rre.specs.Encoded.{nth}
-use Rattle.hextile.specs.Grammar.{Tile}
-use Rattle.hextile.specs.Data.{IsData as IsHextileData}
-use Rattle.hextile.specs.Picture.{picture_of as hextile_picture}
-use Rattle.rect_codec.specs.declared.encoding.Encoding.{Encoding}
-use Rattle.rect_codec.specs.declared.encoding.Encoding.TheVariants as encodings
+use Rattle.pixel_format.specs.Reading.{Reading, Got, More, Bad}
+use Rattle.pixel_format.specs.Canvas.{Picture, covers}
+use Rattle.client_wire.specs.declared.message.Area.{Area}
+use Rattle.rre.specs.Grammar as rre
+use Rattle.rre.specs.Picture as rre_picture
+use Rattle.hextile.specs.Grammar as hextile
+use Rattle.hextile.specs.Picture as hextile_picture
+use Rattle.rect_data.specs.declared.encoding.Encoding.{Encoding}
+use Rattle.rect_data.specs.declared.encoding.Encoding.TheVariants as encodings
+use Rattle.rect_data.specs.Grammar.{source_of}
+
+-- the place lies in the area
+abbrev pub is_in : Area → ℕ → ℕ → Bool
+is_in area x y = covers area.x area.y area.w area.h x y
 
 -- the pixel of this number, where pixels stand one behind the other
 abbrev pub pixel_at : Format → List ℕ → ℕ → List ℕ
 pixel_at f bytes n = take (pixel_bytes f) (drop (n * pixel_bytes f) bytes)
 
--- bytes are the pixels of these colours
-pub record ArePixels (f : Format) (colors : List Color) (bytes : List ℕ) : Type 0 where
-  pub size : length bytes ≡ length colors * pixel_bytes f
-  pub colors_are : (n : ℕ) → n < length colors → pixel_color f (pixel_at f bytes n) ≡ nth colors n
-
 -- the picture that pixels by rows are, for rows of w places
-abbrev pub raw_picture : Format → ℕ → List ℕ → Picture
-raw_picture f w bytes column row = pixel_color f (pixel_at f bytes (row * w + column))
+abbrev pub pixel_rows : Format → ℕ → List ℕ → Picture
+pixel_rows f w bytes column row = pixel_color f (pixel_at f bytes (row * w + column))
 
--- Raw data: a pixel for each place, by rows from the top and each from the left (section 7.7.1)
-pub record ShowsRaw (f : Format) (w h : ℕ) (bytes : List ℕ) (picture : Picture) : Type 0 where
-  pub size : length bytes ≡ h * w * pixel_bytes f
-  pub shows : Agree w h (raw_picture f w bytes) picture
+-- The picture of a Raw rectangle: the pixels stand by rows, from the top and the left (section
+-- 7.7.1).
+unfoldable pub raw_picture : Format → Area → List ℕ → Picture
+raw_picture f area bytes x y = pixel_rows f area.w bytes (x - area.x) (y - area.y)
 
--- RRE data (section 7.7.3)
-pub record ShowsRre (f : Format) (w h : ℕ) (bytes : List ℕ) (picture : Picture) : Type 0 where
-  pub content : Content
-  pub is : IsRreData f w h bytes content
-  pub shows : Agree w h (rre_picture content) picture
+-- The picture of a CopyRect rectangle: what stood in the area that is copied, in the picture that
+-- was there before (section 7.7.2).
+unfoldable pub copied_picture : Area → Area → Picture → Picture
+copied_picture source area before x y = before (source.x + (x - area.x)) (source.y + (y - area.y))
 
--- Hextile data (section 7.7.4)
-pub record ShowsHextile (f : Format) (w h : ℕ) (bytes : List ℕ) (picture : Picture) : Type 0 where
-  pub tiles : List Tile
-  pub is : IsHextileData f w h bytes tiles
-  pub shows : Agree w h (hextile_picture w tiles) picture
+-- The picture of what data say, of whose rectangle this is the corner; black where they say nothing.
+abbrev pub shown_at : {A E : Type 0} → Area → (A → Picture) → Reading A E → Picture
+shown_at area picture (Got content rest) x y = picture content (x - area.x) (y - area.y)
+shown_at area picture More x y = record { r = 0; g = 0; b = 0 }
+shown_at area picture (Bad fault) x y = record { r = 0; g = 0; b = 0 }
 
-abbrev pub Shows : Encoding → Format → ℕ → ℕ → List ℕ → Picture → Type 0
-Shows encodings.Raw f w h bytes picture = ShowsRaw f w h bytes picture
-Shows encodings.Rre f w h bytes picture = ShowsRre f w h bytes picture
-Shows encodings.Hextile f w h bytes picture = ShowsHextile f w h bytes picture
+-- the pictures of RRE and of Hextile data (sections 7.7.3 and 7.7.4)
+unfoldable pub rre_shown : Format → Area → List ℕ → Picture
+rre_shown f area bytes = shown_at area rre_picture.picture_of (rre.data_at f area.w area.h bytes)
+
+unfoldable pub hextile_shown : Format → Area → List ℕ → Picture
+hextile_shown f area bytes = shown_at area (hextile_picture.picture_of area.w) (hextile.data_at f area.w area.h bytes)
+
+-- the picture of a rectangle of some encoding over the picture that was there before
+abbrev pub picture_of : Format → Encoding → Area → List ℕ → Picture → Picture
+picture_of f encodings.Raw area bytes before = raw_picture f area bytes
+picture_of f encodings.CopyRect area bytes before = copied_picture (source_of area bytes) area before
+picture_of f encodings.Rre area bytes before = rre_shown f area bytes
+picture_of f encodings.Hextile area bytes before = hextile_shown f area bytes
+
+-- Painting a rectangle changes the places of its area alone.
+unfoldable pub painted_data : Format → Encoding → Area → List ℕ → Picture → Picture
+painted_data f encoding area bytes before x y =
+    if is_in area x y then picture_of f encoding area bytes before x y else before x y

@@ -3,10 +3,12 @@
 #![tactic(auto)]
 
 mod encoding;
+mod laws;
 mod pixels;
 mod update;
 
 pub use encoding::{Encoding, pick};
+pub use laws::written_update_is_read;
 pub use update::write_update;
 
 #[cfg(test)]

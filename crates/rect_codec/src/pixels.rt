@@ -2,9 +2,10 @@
 
 ghost use Rattle.std.specs.Prelude.{◌≡◌, ℕ, ◌+◌, ◌*◌, ◌<◌, ◌^◌, All, OnOk, OnErr, length};
 ghost use Rattle.pixel_format.specs.Format.{pixel_bytes};
-ghost use Rattle.pixel_format.specs.Pixel.{IsWithin, pixel_color};
+ghost use Rattle.pixel_format.specs.Pixel.{IsWithin};
 ghost use Rattle.rre.specs.Encoded.{nth, Appends};
-ghost use Rattle.rect_codec.specs.Picture.{pixel_at, ArePixels};
+ghost use Rattle.rect_codec.specs.Picture.{pixel_at};
+ghost use Rattle.rect_codec.specs.Written.{IsPixelOf, ArePixels};
 
 use pixel_format::{Color, NoMemory, PixelFormat};
 
@@ -12,7 +13,7 @@ use pixel_format::{Color, NoMemory, PixelFormat};
 fn put_pixels(format: &PixelFormat, colors: &[Color], pixels: &mut [u8])
     requires size { length pixels.old ≡ length colors.now * pixel_bytes format.now }
     requires within { All (IsWithin format.now) colors.now }
-    ensures { (k : ℕ) → k < length colors.now → pixel_color format.now (pixel_at format.now pixels.new k) ≡ nth colors.now k }
+    ensures { (k : ℕ) → k < length colors.now → IsPixelOf format.now (nth colors.now k) (pixel_at format.now pixels.new k) }
 {
     let size = format.bytes();
     for (k, color) in colors.iter().enumerate() {

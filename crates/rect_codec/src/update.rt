@@ -2,9 +2,8 @@
 
 ghost use Rattle.std.specs.Prelude.{◌≡◌, ◌+◌, ◌*◌, ◌++◌, All, OnOk, OnErr, length};
 ghost use Rattle.pixel_format.specs.Pixel.{IsWithin};
-ghost use Rattle.rre.specs.Encoded.{rows_of, Appends};
-ghost use Rattle.rect_codec.specs.Picture.{Shows};
-ghost use Rattle.rect_codec.specs.Update.{update_head, IsUpdate, IsUpdateFor};
+ghost use Rattle.rre.specs.Encoded.{Appends};
+ghost use Rattle.rect_codec.specs.Written.{Shows, update_head, IsUpdate, IsUpdateFor};
 
 use crate::encoding::Encoding;
 use crate::pixels::append_pixels;
@@ -52,7 +51,7 @@ fn append_data(
 ) -> Result<(), NoMemory>
     requires size { length colors.now ≡ area.h * area.w }
     requires within { All (IsWithin format.now) colors.now }
-    ensures ok { OnOk result (Appends (λ bytes. Shows encoding format.now area.w area.h bytes (rows_of colors.now area.w)) out.old.items out.new.items) }
+    ensures ok { OnOk result (Appends (Shows encoding format.now area.w area.h colors.now) out.old.items out.new.items) }
     ensures err { OnErr result (out.new.items ≡ out.old.items) }
 {
     match encoding {

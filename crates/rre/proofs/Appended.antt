@@ -1,12 +1,14 @@
 -- What is appended one after the other.
 use Rattle.std.proofs.Common.{◌≡◌, ℕ, List, [], ◌∷◌, ◌++◌, length, take, get_or, refl, sym, ap, subst, ◌∙◌, append_assoc, ◌<◌, ◌+◌}
+use Rattle.std.specs.List.{flat_map}
 use Rattle.std.proofs.lemmas.List.{append-nil, take_more}
+use Rattle.std.proofs.lemmas.Grind.{flat_map-append}
 use Rattle.pixel_format.specs.declared.Color.{Color}
 use Rattle.pixel_format.specs.Format.{Format}
 use Rattle.rre.specs.declared.data.Subrectangle.{Subrectangle}
 use Rattle.rre.specs.Grammar.{u32_at}
 use Rattle.rre.specs.Data.{AreBytesOf}
-use Rattle.rre.specs.Encoded.{Appends, IsPixelOf, IsAreaOf, AreBytesOfAll, IsWritten}
+use Rattle.rre.specs.Encoded.{Appends, IsPixelOf, IsAreaOf, AreBytesOfAll, IsWritten, part_bytes}
 
 -- a pixel and an area
 pub part_appended : (f : Format) (s : Subrectangle) (old between new area : List ℕ) → Appends (IsPixelOf f s.color) old between → IsAreaOf s area → new ≡ between ++ area
@@ -44,6 +46,17 @@ parts_appended f parts k d old between new lt before last = record {
   are = subst (λ (ss : List Subrectangle). AreBytesOfAll f ss (before.bytes ++ last.bytes)) (sym (take_more parts k d lt))
       (bytes_more f (take k parts) (get_or parts k d) before.bytes last.bytes before.are last.are);
 }
+
+pub parts_written : (f : Format) (parts : List Subrectangle) (k : ℕ) (d : Subrectangle) (old between new : List ℕ) → k < length parts
+    → between ≡ old ++ flat_map (part_bytes f) (take k parts) → new ≡ between ++ part_bytes f (get_or parts k d)
+    → new ≡ old ++ flat_map (part_bytes f) (take (k + 1) parts)
+parts_written f parts k d old between new lt before last =
+    let one : flat_map (part_bytes f) (get_or parts k d ∷ []) ≡ part_bytes f (get_or parts k d) = append-nil (part_bytes f (get_or parts k d)) in
+    let more : flat_map (part_bytes f) (take (k + 1) parts) ≡ flat_map (part_bytes f) (take k parts) ++ part_bytes f (get_or parts k d) =
+    ap (flat_map (part_bytes f)) (take_more parts k d lt) ∙ flat_map-append (part_bytes f) (take k parts) (get_or parts k d ∷ [])
+    ∙ ap (λ z. flat_map (part_bytes f) (take k parts) ++ z) one in
+    last ∙ ap (λ z. z ++ part_bytes f (get_or parts k d)) before
+    ∙ append_assoc old (flat_map (part_bytes f) (take k parts)) (part_bytes f (get_or parts k d)) ∙ ap (λ z. old ++ z) (sym more)
 
 -- a head and all subrectangles
 pub data_appended : (f : Format) (background : Color) (parts : List Subrectangle) (number old first between new : List ℕ) → length number ≡ 4 → u32_at number 0 ≡ length parts

@@ -1,6 +1,7 @@
 -- What an encoder wrote shows the colours.
-use Rattle.std.proofs.Common.{◌≡◌, ℕ, zero, suc, ◌+◌, ◌*◌, ◌<◌, List, [], ◌∷◌, length, get_or, sym, subst, arith}
+use Rattle.std.proofs.Common.{◌≡◌, ℕ, zero, suc, ◌+◌, ◌*◌, ◌<◌, List, [], ◌∷◌, length, ◌++◌, get_or, sym, subst, ◌∙◌, arith}
 use Rattle.std.specs.Prelude.{All}
+use Rattle.std.proofs.lemmas.List.{append_cancel_left}
 use Rattle.std.proofs.lemmas.Nat.{mul-add-lt}
 use Rattle.std.proofs.lemmas.List.Elements.{All-get_or}
 use Rattle.pixel_format.specs.declared.Color.{Color}
@@ -9,7 +10,7 @@ use Rattle.pixel_format.specs.Pixel.{IsWithin}
 use Rattle.pixel_format.specs.Canvas.{Agree}
 use Rattle.rre.specs.declared.data.Subrectangle.{Subrectangle}
 use Rattle.rre.specs.Data.{AreSubrectangles}
-use Rattle.rre.specs.Encoded.{black, rows_of, IsUniform, AreUniform, part_picture, Appends, AreBytesOfAll, IsWritten, Shows}
+use Rattle.rre.specs.Encoded.{black, rows_of, IsUniform, AreUniform, part_picture, Appends, AreBytesOfAll, IsWritten, Shows, data_bytes}
 
 uniform_at : (colors : List Color) (w h : ℕ) (parts : List Subrectangle) (k : ℕ) (d : Subrectangle) → AreUniform colors w h parts → k < length parts
     → IsUniform colors w h (get_or parts k d)
@@ -42,8 +43,8 @@ subrectangles_of f colors w h (s ∷ parts) body are bytes =
 
 pub shown : (f : Format) (colors : List Color) (w h : ℕ) (background : Color) (parts : List Subrectangle) (old new : List ℕ) → AreUniform colors w h parts
     → Agree w h (part_picture background parts) (rows_of colors w) → Appends (IsWritten f background parts) old new
-    → Appends (Shows f w h colors) old new
-shown f colors w h background parts old new are picture written = record {
+    → new ≡ old ++ data_bytes f (record { background = background; subrectangles = parts }) → Appends (Shows f w h colors) old new
+shown f colors w h background parts old new are picture written bytes = record {
   bytes = written.bytes;
   is = written.is;
   are = record {
@@ -57,6 +58,7 @@ shown f colors w h background parts old new are picture written = record {
       background_is = sym written.are.background_is;
       body_is = subrectangles_of f colors w h parts written.are.body are written.are.body_is;
     };
+    bytes_are = append_cancel_left old written.bytes (data_bytes f (record { background = background; subrectangles = parts })) (sym written.is ∙ bytes);
     picture = picture;
   };
 }

@@ -1,8 +1,10 @@
 -- What an encoder makes of colours by rows: a background, and subrectangles of one colour each.
 use Rattle.std.specs.Prelude.{◌≡◌, ℕ, ◌+◌, ◌*◌, ◌<◌, ◌≤◌, ◌⊎◌, List, [], ◌∷◌, ◌++◌, length, slice_index, slice_index_or}
+use Rattle.std.specs.Int.{bytes_high_first}
+use Rattle.std.specs.List.{flat_map}
 use Rattle.pixel_format.specs.declared.Color.{Color}
 use Rattle.pixel_format.specs.Format.{Format, pixel_bytes}
-use Rattle.pixel_format.specs.Pixel.{pixel_color}
+use Rattle.pixel_format.specs.Pixel.{pixel_color, pixel_of}
 use Rattle.pixel_format.specs.Canvas.{Picture, Agree}
 use Rattle.rre.specs.declared.data.Subrectangle.{Subrectangle}
 use Rattle.rre.specs.Grammar.{Content, u16_at}
@@ -20,10 +22,24 @@ nth colors i = slice_index_or colors i black
 abbrev pub rows_of : List Color → ℕ → Picture
 rows_of colors w column row = nth colors (row * w + column)
 
+-- the bytes of a subrectangle as they are written: the pixel of its colour, and x, y, width and height
+abbrev pub area_bytes : Subrectangle → List ℕ
+area_bytes s = bytes_high_first 2 s.x ++ (bytes_high_first 2 s.y ++ (bytes_high_first 2 s.w ++ bytes_high_first 2 s.h))
+
+abbrev pub part_bytes : Format → Subrectangle → List ℕ
+part_bytes f s = pixel_of f s.color ++ area_bytes s
+
+-- Data as they are written: how many subrectangles follow, the pixel of the background, and the subrectangles.
+-- In each pixel the bits that belong to no channel are 0.
+abbrev pub data_bytes : Format → Content → List ℕ
+data_bytes f content = bytes_high_first 4 (length content.subrectangles)
+    ++ (pixel_of f content.background ++ flat_map (part_bytes f) content.subrectangles)
+
 -- bytes are data of a rectangle whose picture is the colours, at every place
 pub record Shows (f : Format) (w h : ℕ) (colors : List Color) (bytes : List ℕ) : Type 0 where
   pub content : Content
   pub is : IsData f w h bytes content
+  pub bytes_are : bytes ≡ data_bytes f content
   pub picture : Agree w h (picture_of content) (rows_of colors w)
 
 -- ---- how the encoder goes on

@@ -1,10 +1,12 @@
 //! Writing the data of a rectangle.
 
-ghost use Rattle.std.specs.Prelude.{◌≡◌, ◌<◌, ◌^◌, ◌+◌, All, OnOk, OnErr, length};
-ghost use Rattle.pixel_format.specs.Pixel.{IsWithin};
+ghost use Rattle.std.specs.Prelude.{◌≡◌, ◌<◌, ◌^◌, ◌+◌, ◌++◌, All, OnOk, OnErr, length};
+ghost use Rattle.pixel_format.specs.Pixel.{IsWithin, pixel_of};
+ghost use Rattle.std.specs.Int.{bytes_high_first};
+ghost use Rattle.std.specs.List.{flat_map};
 ghost use Rattle.rre.specs.Grammar.{u32_at};
 ghost use Rattle.rre.specs.Data.{AreBytesOf};
-ghost use Rattle.rre.specs.Encoded.{Appends, Grows, IsPixelOf, IsAreaOf, AreBytesOfAll, IsWritten};
+ghost use Rattle.rre.specs.Encoded.{Appends, Grows, IsPixelOf, IsAreaOf, AreBytesOfAll, IsWritten, area_bytes, part_bytes, data_bytes};
 
 use crate::data::Subrectangle;
 use pixel_format::{Color, NoMemory, PixelFormat};
@@ -13,6 +15,7 @@ use pixel_format::{Color, NoMemory, PixelFormat};
 fn append_pixel(format: &PixelFormat, color: Color, bytes: &mut Vec<u8>) -> Result<(), NoMemory>
     requires { IsWithin format.now color }
     ensures ok { OnOk result (Appends (IsPixelOf format.now color) bytes.old.items bytes.new.items) }
+    ensures written { OnOk result (bytes.new.items ≡ bytes.old.items ++ pixel_of format.now color) }
     ensures grows { Grows bytes.old.items bytes.new.items }
 {
     let mut pixel = [0; 4];
@@ -23,7 +26,8 @@ fn append_pixel(format: &PixelFormat, color: Color, bytes: &mut Vec<u8>) -> Resu
 
 // The x, y, width and height of a subrectangle, in two bytes each.
 fn area_of(part: Subrectangle) -> [u8; 8]
-    ensures { IsAreaOf part result }
+    ensures numbers { IsAreaOf part result }
+    ensures bytes { result ≡ area_bytes part }
 {
     let [x, x_low] = part.x.to_be_bytes();
     let [y, y_low] = part.y.to_be_bytes();
@@ -40,6 +44,7 @@ fn append_part(
 ) -> Result<(), NoMemory>
     requires { IsWithin format.now part.color }
     ensures ok { OnOk result (Appends (AreBytesOf format.now part) bytes.old.items bytes.new.items) }
+    ensures written { OnOk result (bytes.new.items ≡ bytes.old.items ++ part_bytes format.now part) }
     ensures grows { Grows bytes.old.items bytes.new.items }
 {
     append_pixel(format, part.color, bytes)?;
@@ -54,6 +59,7 @@ fn append_parts(
 ) -> Result<(), NoMemory>
     requires { All (λ s. IsWithin format.now s.color) parts.now }
     ensures ok { OnOk result (Appends (AreBytesOfAll format.now parts.now) bytes.old.items bytes.new.items) }
+    ensures written { OnOk result (bytes.new.items ≡ bytes.old.items ++ flat_map (part_bytes format.now) parts.now) }
     ensures grows { Grows bytes.old.items bytes.new.items }
 {
     for part in parts {
@@ -66,6 +72,7 @@ fn append_parts(
 fn four_bytes(number: u32) -> [u8; 4]
     ensures size { length result ≡ 4 }
     ensures value { u32_at result 0 ≡ number }
+    ensures bytes { result ≡ bytes_high_first 4 number }
 {
     number.to_be_bytes()
 }
@@ -81,6 +88,8 @@ pub(crate) fn append_data(
     requires parts { All (λ s. IsWithin format.now s.color) parts.now }
     requires few { length parts.now < 2 ^ 32 }
     ensures ok { OnOk result (Appends (IsWritten format.now background parts.now) bytes.old.items bytes.new.items) }
+    ensures written { OnOk result (bytes.new.items ≡ bytes.old.items
+        ++ data_bytes format.now (record { background = background; subrectangles = parts.now })) }
     ensures grows { Grows bytes.old.items bytes.new.items }
 {
     bytes.extend_from_slice(&four_bytes(parts.len() as u32))?;

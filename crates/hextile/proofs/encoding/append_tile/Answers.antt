@@ -17,9 +17,9 @@ returns-then-parts_size-colors-clause-ok c = λ before is.
     (slice_index_or c.args.colors.now c.most_voted.result black) c.unwrap_or-foreground.result c.shared_color-ink.result
     c.deref.result.now c.deref-then-parts_size-colors.result.now c.in-Some.parts.items c.len.result c.args.bytes.now.items c.append_parts_tile.new.bytes.items
     c.deref.ensures.0 c.deref-then-parts_size-colors.ensures.0 c.len.ensures.value c.unwrap_or-foreground.ensures
-    is c.mask_for-mask.ensures c.shared_color-ink.ensures.all cover (c.in_ok-append_parts_tile.ensures.ok c.args.w c.args.h) c.known_after.ensures
+    is c.mask_for-mask.ensures c.shared_color-ink.ensures.all cover (c.in_ok-append_parts_tile.ensures.ok c.args.w c.args.h) c.in_ok-append_parts_tile.ensures.written c.known_after.ensures
 
 pub returns-clause-ok : goal.returns-clause-ok
 returns-clause-ok c = λ before is.
     raw_tile_shown c.args.format.now c.args.w c.args.h c.args.colors.now before c.args.bytes.now.items c.append_raw_tile.new.bytes.items
-    (c.in_ok-append_raw_tile.ensures.ok c.args.w c.args.h c.requires.size)
+    (c.in_ok-append_raw_tile.ensures.ok c.args.w c.args.h c.requires.size) c.in_ok-append_raw_tile.ensures.written

@@ -1,7 +1,11 @@
-use Rattle.hextile.proofs.Written.{pixels_more}
+use Rattle.pixel_format.specs.Pixel.{pixel_of}
+use Rattle.hextile.proofs.Written.{pixels_more, mapped_more}
 use Rattle.hextile.proofs.writing.append_pixels.Goals as goal
 
 pub loop-color-preserved : goal.loop-color-preserved
-loop-color-preserved c =
-    pixels_more c.args.format.now c.args.colors.now c.loop-color.color-index _ c.args.bytes.now.items c.loop-color.bytes.items c.append_pixel.new.bytes.items
-    c.loop-color-test.true c.loop-color.invariant c.in_ok-append_pixel.ensures.ok
+loop-color-preserved c = record {
+  ok = pixels_more c.args.format.now c.args.colors.now c.loop-color.color-index _ c.args.bytes.now.items c.loop-color.bytes.items c.append_pixel.new.bytes.items
+      c.loop-color-test.true c.loop-color.invariant.ok c.in_ok-append_pixel.ensures.ok;
+  written = mapped_more (pixel_of c.args.format.now) c.args.colors.now c.loop-color.color-index _ c.args.bytes.now.items c.loop-color.bytes.items c.append_pixel.new.bytes.items
+      c.loop-color-test.true c.loop-color.invariant.written c.in_ok-append_pixel.ensures.written;
+}

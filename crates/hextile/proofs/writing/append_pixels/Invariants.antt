@@ -1,7 +1,12 @@
-use Rattle.std.proofs.Common.{take}
+use Rattle.std.proofs.Common.{◌≡◌, ◌++◌, take}
+use Rattle.std.specs.List.{flat_map}
+use Rattle.pixel_format.specs.Pixel.{pixel_of}
 use Rattle.hextile.specs.Data.{ArePixels}
 use Rattle.hextile.specs.Encoded.{Appends}
 use Rattle.hextile.proofs.writing.append_pixels.Given as goal
 
 abbrev pub invariant-loop-color : goal.invariant-loop-color
-invariant-loop-color l = Appends (ArePixels l.format (take l.color-index l.colors)) l.fn.bytes.items l.bytes.items
+invariant-loop-color l = record {
+  ok : Appends (ArePixels l.format (take l.color-index l.colors)) l.fn.bytes.items l.bytes.items;
+  written : l.bytes.items ≡ l.fn.bytes.items ++ flat_map (pixel_of l.format) (take l.color-index l.colors);
+}

@@ -1,7 +1,6 @@
 use Rattle.std.proofs.Common.{◌≡◌, ℕ, ◌<◌}
 use Rattle.pixel_format.specs.Pixel.{host_color}
-use Rattle.painter.specs.Picture.{pixel_at}
-use Rattle.painter.specs.Pixels.{pixel_color_at}
+use Rattle.painter.specs.Pixels.{pixel_color_at, pixel_at}
 use Rattle.painter.proofs.pixel.paint_row.Given as goal
 
 abbrev pub invariant-loop-k : goal.invariant-loop-k

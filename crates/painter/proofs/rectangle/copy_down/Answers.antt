@@ -1,5 +1,5 @@
 use Rattle.std.proofs.Common.{◌≡◌, ◌+◌, ◌-◌, ◌<◌, ◌∙◌, arith}
-use Rattle.painter.specs.Picture.{copied_picture}
+use Rattle.rect_codec.specs.Picture.{copied_picture}
 use Rattle.painter.specs.Pixels.{color_in}
 use Rattle.painter.proofs.Rows.{rows_from, row_copied, row_above}
 use Rattle.painter.proofs.rectangle.copy_down.Goals as goal

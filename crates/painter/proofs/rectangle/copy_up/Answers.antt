@@ -1,5 +1,5 @@
 use Rattle.std.proofs.Common.{arith}
-use Rattle.painter.specs.Picture.{copied_picture}
+use Rattle.rect_codec.specs.Picture.{copied_picture}
 use Rattle.painter.specs.Pixels.{color_in}
 use Rattle.painter.proofs.Rows.{rows_of, row_copied, row_below}
 use Rattle.painter.proofs.rectangle.copy_up.Goals as goal

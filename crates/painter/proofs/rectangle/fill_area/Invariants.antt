@@ -1,5 +1,5 @@
 use Rattle.std.proofs.Common.{◌≡◌, ℕ, ◌<◌, cond}
-use Rattle.painter.specs.Picture.{is_in}
+use Rattle.rect_codec.specs.Picture.{is_in}
 use Rattle.painter.specs.Pixels.{color_in, color_of}
 use Rattle.painter.proofs.rectangle.fill_area.Given as goal
 

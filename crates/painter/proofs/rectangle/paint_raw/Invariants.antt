@@ -1,5 +1,6 @@
 use Rattle.std.proofs.Common.{◌≡◌, ℕ, ◌<◌, cond}
-use Rattle.painter.specs.Picture.{is_in, raw_picture}
+use Rattle.pixel_format.specs.Format.{host_format}
+use Rattle.rect_codec.specs.Picture.{is_in, raw_picture}
 use Rattle.painter.specs.Pixels.{color_in}
 use Rattle.painter.proofs.rectangle.paint_raw.Given as goal
 
@@ -7,4 +8,4 @@ use Rattle.painter.proofs.rectangle.paint_raw.Given as goal
 abbrev pub invariant-loop-row : goal.invariant-loop-row
 invariant-loop-row l =
     (x y : ℕ) → x < l.width → color_in l.pixels l.width x y
-    ≡ cond (is_in (record l.fn.area { h = l.row }) x y) (raw_picture l.fn.area l.bytes x y) (color_in l.initial.pixels l.width x y)
+    ≡ cond (is_in (record l.fn.area { h = l.row }) x y) (raw_picture host_format l.fn.area l.bytes x y) (color_in l.initial.pixels l.width x y)

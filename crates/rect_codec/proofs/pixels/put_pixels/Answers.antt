@@ -5,4 +5,5 @@ use Rattle.rect_codec.proofs.pixels.put_pixels.Goals as goal
 pub loop-k-preserved : goal.loop-k-preserved
 loop-k-preserved c =
     pixel_more c.args.format.now c.args.colors.now c.loop-k.pixels c.put.new.bytes c.loop-k.k c.bytes-size.result c.bytes-size.ensures.value
-    (c.loop-k.auto.pixels ∙ c.requires.size) c.loop-k-test.true c.put.auto.bytes c.loop-k.invariant c.put.ensures.color
+    (c.loop-k.auto.pixels ∙ c.requires.size) c.loop-k-test.true c.put.auto.bytes c.loop-k.invariant
+    (record { bytes_are = c.put.ensures.bytes; color_is = c.put.ensures.color })

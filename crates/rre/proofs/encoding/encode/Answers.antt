@@ -10,3 +10,4 @@ pub returns-clause-ok : goal.returns-clause-ok
 returns-clause-ok c =
     shown c.args.format.now c.args.colors.now c.args.w c.args.h c.in_ok-background.background c.in_ok-parts.parts.items c.args.bytes.now.items c.append_data.new.bytes.items
     c.in_ok-parts.ensures.uniform c.in_ok-parts.ensures.picture (rw c.deref.ensures.value at c.in_default.ensures.ok)
+    (rw c.deref.ensures.value at c.in_default.ensures.written)

@@ -4,7 +4,7 @@ use Rattle.std.specs.Vec.{with_items}
 use Rattle.std.proofs.lemmas.List.{with_items_is}
 use Rattle.rect_data.specs.declared.encoding.Encoding.TheVariants as encodings
 use Rattle.painter.specs.Framebuffer.{color_at}
-use Rattle.painter.specs.Picture.{painted_data}
+use Rattle.rect_codec.specs.Picture.{painted_data}
 use Rattle.painter.proofs.Screens.{has_data, source_within, rre_painted, hextile_painted, host_colors}
 use Rattle.painter.proofs.screen.Screen.paint_data.Goals as goal
 

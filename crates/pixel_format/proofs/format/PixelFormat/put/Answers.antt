@@ -1,6 +1,6 @@
-use Rattle.std.proofs.Common.{◌≡◌, ◌+◌, ◌∙◌, ◌<◌, ◌^◌, refl, arith}
+use Rattle.std.proofs.Common.{◌≡◌, ◌+◌, ◌∙◌, ◌<◌, ◌^◌, refl, ap, arith}
 use Rattle.pixel_format.specs.Format.{IsValid}
-use Rattle.pixel_format.specs.Pixel.{color_number}
+use Rattle.pixel_format.specs.Pixel.{color_number, number_bytes, pixel_of}
 use Rattle.pixel_format.proofs.Lanes.{placed_apart, color_found, below_32}
 use Rattle.pixel_format.proofs.format.PixelFormat.put.Goals as goal
 
@@ -36,4 +36,11 @@ returns-clause-color c =
     let p = placed_apart c.args.self.now c.args.color.r c.args.color.g c.args.color.b (rw (← c.self.view_is) c.self.invariant) c.requires.within.red c.requires.within.green c.requires.within.blue in
     let number : c.placed-red.result + c.placed-green.result + c.placed-blue.result ≡ color_number c.args.self.now c.args.color =
     rw (c.placed-red.ensures, c.placed-green.ensures, c.placed-blue.ensures, ← c.self.view_is) refl in
-    color_found c.args.self.now c.args.color c.put_number.new.bytes p (c.put_number.ensures ∙ number)
+    color_found c.args.self.now c.args.color c.put_number.new.bytes p (c.put_number.ensures.number ∙ number)
+
+pub returns-clause-bytes : goal.returns-clause-bytes
+unfolding pixel_of
+returns-clause-bytes c =
+    let number : c.placed-red.result + c.placed-green.result + c.placed-blue.result ≡ color_number c.args.self.now c.args.color =
+    rw (c.placed-red.ensures, c.placed-green.ensures, c.placed-blue.ensures, ← c.self.view_is) refl in
+    c.put_number.ensures.bytes ∙ ap (number_bytes c.args.self.now) number

@@ -1,0 +1,107 @@
+-- An update that was written is a message of one rectangle, and paints its colours.
+use Rattle.std.proofs.Common.{◌≡◌, ℕ, ◌+◌, ◌-◌, ◌*◌, ◌/◌, ◌%◌, ◌≤◌, List, [], ◌∷◌, ◌++◌, length, take, inl, refl, sym, ap, subst, ◌∙◌, arith}
+use Rattle.std.specs.Prelude.{slice_range}
+use Rattle.std.proofs.lemmas.List.{append-nil, drop_at, take_all}
+use Rattle.pixel_format.specs.declared.Color.{Color}
+use Rattle.pixel_format.specs.Format.{host_format}
+use Rattle.pixel_format.specs.Canvas.{Picture}
+use Rattle.client_wire.specs.declared.message.Area.{Area}
+use Rattle.rect_data.specs.Data.{LiesWithin, AreData, number_of as wire_number}
+use Rattle.rect_codec.specs.declared.encoding.Encoding.{Encoding}
+use Rattle.rect_codec.specs.declared.encoding.Encoding.TheVariants as encodings
+use Rattle.rect_codec.specs.Encoding.{number_of, wire_of}
+use Rattle.rect_codec.specs.Picture.{painted_data}
+use Rattle.rect_codec.specs.Update.{HasColors}
+use Rattle.rect_codec.specs.Written.{Shows, IsUpdate, rectangle_head, update_head}
+use Rattle.rect_codec.proofs.Drawing.{has_colors}
+use Rattle.rfb_wire.specs.declared.message.Rectangle.{Rectangle}
+use Rattle.rfb_wire.specs.Grammar.{message_limit, area_of, encoding_number}
+use Rattle.rfb_wire.specs.Message.{IsRectangle, IsMessage}
+use Rattle.rfb_wire.proofs.Messages.{message_is_read}
+use Rattle.painter.specs.Picture.{painted_rectangles}
+use Rattle.painter.specs.Update.{PaintsColors}
+
+content_is : (width height : ℕ) (area : Area) (colors : List Color) (e : Encoding) (body : List ℕ) → Shows e host_format area.w area.h colors body
+    → AreData host_format width height (wire_of e) area body
+content_is width height area colors encodings.Raw body shows = omega (arith, shows.size)
+content_is width height area colors encodings.Rre body shows = (shows.content, shows.is)
+content_is width height area colors encodings.Hextile body shows = (shows.tiles, shows.is)
+
+number_is : (e : Encoding) → wire_number (wire_of e) ≡ number_of e
+number_is encodings.Raw = refl
+number_is encodings.Rre = refl
+number_is encodings.Hextile = refl
+
+u16_back : (n : ℕ) → 256 * (n / 256) + n % 256 ≡ n
+u16_back n = omega arith
+
+area_back : (a : Area) (number : ℕ) → area_of (rectangle_head a number) ≡ a
+unfolding area_of
+area_back a number = rw (u16_back a.x, u16_back a.y, u16_back a.w, u16_back a.h) refl
+
+number_back : (a : Area) (number : ℕ) → encoding_number (rectangle_head a number) ≡ number
+unfolding encoding_number
+number_back a number = omega arith
+
+abbrev rectangle_of : Area → Encoding → List ℕ → Rectangle
+rectangle_of area e body = record { area = area; encoding = wire_of e; start = 16; end = 16 + length body }
+
+is_rectangle : (width height : ℕ) (area : Area) (colors : List Color) (e : Encoding) (body : List ℕ) → LiesWithin width height area → Shows e host_format area.w area.h colors body
+    → IsRectangle width height 4 (rectangle_of area e body) (rectangle_head area (number_of e) ++ body)
+is_rectangle width height area colors e body inside shows = record {
+  header = rectangle_head area (number_of e);
+  content = body;
+  bytes_are = refl;
+  header_length = refl;
+  area_is = sym (area_back area (number_of e));
+  encoding_is = number_is e ∙ sym (number_back area (number_of e));
+  within_width = inside.columns;
+  within_height = inside.rows;
+  content_is = content_is width height area colors e body shows;
+  start_is = refl;
+  end_is = refl;
+}
+
+is_message : (width height : ℕ) (area : Area) (colors : List Color) (e : Encoding) (bytes : List ℕ) → (u : IsUpdate host_format area colors e bytes) → LiesWithin width height area
+    → length bytes ≤ message_limit → IsMessage message_limit width height bytes (rectangle_of area e u.body ∷ [])
+is_message width height area colors e bytes u inside short =
+    let first : List ℕ = rectangle_head area (number_of e) ++ u.body in
+    record {
+      kind = inl (
+        record {
+          padding = 0;
+          high = 0;
+          low = 1;
+          body = first;
+          bytes_are = u.bytes_are;
+          count_is = refl;
+          body_is = (first, [], sym (append-nil first), is_rectangle width height area colors e u.body inside u.shows, refl);
+        },
+        short,
+      );
+      short = omega (arith, short);
+    }
+
+-- the data of the rectangle
+data_of : (area : Area) (colors : List Color) (e : Encoding) (bytes : List ℕ) → (u : IsUpdate host_format area colors e bytes) → slice_range bytes 16 (16 + length u.body) ≡ u.body
+data_of area colors e bytes u =
+    ap (λ (z : List ℕ). slice_range z 16 (16 + length u.body)) u.bytes_are
+    ∙ ap (λ (z : List ℕ). take (16 + length u.body - 16) z) (drop_at (update_head area e) u.body 16 refl)
+    ∙ take_all (16 + length u.body - 16) u.body (omega arith)
+
+one_painted : (bytes : List ℕ) (r : Rectangle) (before : Picture) → painted_rectangles bytes (r ∷ []) before ≡ painted_data host_format r.encoding r.area (slice_range bytes r.start r.end) before
+unfolding painted_rectangles
+one_painted bytes r before = refl
+
+pub paints_colors : (width height : ℕ) (area : Area) (colors : List Color) (e : Encoding) (bytes : List ℕ) → IsUpdate host_format area colors e bytes → LiesWithin width height area
+    → length bytes ≤ message_limit → PaintsColors width height area colors bytes
+paints_colors width height area colors e bytes u inside short =
+    let r = rectangle_of area e u.body in
+    record {
+      rectangle = r;
+      area_is = refl;
+      recorded = message_is_read message_limit width height bytes (r ∷ []) (is_message width height area colors e bytes u inside short);
+      paints = λ before.
+          let painted = one_painted bytes r before ∙ ap (λ (z : List ℕ). painted_data host_format (wire_of e) area z before) (data_of area colors e bytes u) in
+          subst (λ (p : Picture). HasColors area colors before p) (sym painted) (has_colors host_format area e u.body colors before u.shows);
+    }

@@ -1,0 +1,6 @@
+use Rattle.painter.proofs.Updates.{paints_colors}
+use Rattle.painter.proofs.laws.written_update_paints.Goals as goal
+
+pub returns : goal.returns
+returns c = λ width height area colors asked bytes update inside short.
+    paints_colors width height area colors update.encoding bytes update.is inside short

@@ -1,0 +1,21 @@
+//! A law of updates: the contract of a function that does nothing.
+
+ghost use Rattle.std.specs.Prelude.{ℕ, ◌≤◌, List, length};
+ghost use Rattle.pixel_format.specs.declared.Color.{Color};
+ghost use Rattle.pixel_format.specs.Format.{host_format};
+ghost use Rattle.client_wire.specs.declared.message.Area.{Area};
+ghost use Rattle.rect_data.specs.Data.{LiesWithin};
+ghost use Rattle.rect_codec.specs.declared.encoding.Encoding.{Encoding};
+ghost use Rattle.rect_codec.specs.Written.{IsUpdateFor};
+ghost use Rattle.rfb_wire.specs.Grammar.{message_limit};
+ghost use Rattle.painter.specs.Update.{PaintsColors};
+
+/// What `rect_codec::write_update` appends in the host format, for an area within the screen, is one
+/// message of one rectangle where it is no longer than a message may be. Painted over any picture, it
+/// gives the places of the area the colours, and leaves the others as they were.
+pub fn written_update_paints()
+    ensures { (width height : ℕ) → (area : Area) → (colors : List Color) → (asked : Encoding)
+        → (bytes : List ℕ) → IsUpdateFor host_format area colors asked bytes
+        → LiesWithin width height area → length bytes ≤ message_limit
+        → PaintsColors width height area colors bytes }
+{}

@@ -1,0 +1,142 @@
+-- What one reads and paints of an update that was written for one.
+use Rattle.std.proofs.Common.{◌≡◌, ℕ, ◌+◌, ◌-◌, ◌*◌, ◌/◌, ◌%◌, ◌<◌, List, [], ◌∷◌, ◌++◌, length, take, refl, sym, ap, ◌∙◌, arith, true, inr, length-append}
+use Rattle.std.specs.Prelude.{Some}
+use Rattle.std.proofs.lemmas.List.{append-nil, take_all}
+use Rattle.std.proofs.lemmas.Bool.{le-leb, lt-ltb}
+use Rattle.pixel_format.specs.declared.Color.{Color}
+use Rattle.pixel_format.specs.Format.{Format}
+use Rattle.pixel_format.specs.Reading.{Got}
+use Rattle.pixel_format.specs.Canvas.{Picture}
+use Rattle.pixel_format.proofs.Readings.{field-whole}
+use Rattle.client_wire.specs.declared.message.Area.{Area}
+use Rattle.client_wire.specs.declared.fault.WireFault.{WireFault}
+use Rattle.client_wire.specs.Number.{u32_at}
+use Rattle.rre.specs.Grammar as rre
+use Rattle.rre.specs.Encoded.{rows_of, Appends}
+use Rattle.rre.proofs.Content as rre_content
+use Rattle.hextile.specs.Grammar as hextile
+use Rattle.hextile.proofs.TilesRead as hextile_content
+use Rattle.rect_data.specs.declared.encoding.Encoding.{Encoding}
+use Rattle.rect_data.specs.declared.encoding.Encoding.TheVariants as encodings
+use Rattle.rect_data.specs.Data.{LiesWithin}
+use Rattle.rect_data.specs.Grammar.{encoding_of, is_inside, data_at}
+use Rattle.rect_data.proofs.Steps.{pixels_whole}
+use Rattle.rect_codec.specs.declared.encoding.Encoding.{Encoding as Written}
+use Rattle.rect_codec.specs.declared.encoding.Encoding.TheVariants as writtens
+use Rattle.rect_codec.specs.Encoding.{number_of, wire_of}
+use Rattle.rect_codec.specs.Picture.{is_in, raw_picture, rre_shown, hextile_shown, picture_of, painted_data}
+use Rattle.rect_codec.specs.Written.{Shows, rectangle_head, update_head, IsUpdate, IsUpdateFor}
+use Rattle.rect_codec.specs.Update.{area_of, rectangle_at, rectangles_at, update_at, HasColors, DrawsColors}
+
+-- the data of a rectangle that was written are read whole
+pub data_read : (f : Format) (width height : ℕ) (area : Area) (e : Written) (body : List ℕ) (colors : List Color) → Shows e f area.w area.h colors body
+    → data_at f width height (wire_of e) area body ≡ Got tt []
+unfolding data_at
+data_read f width height area writtens.Raw body colors shows =
+    ap (data_at f width height encodings.Raw area) (sym (append-nil body)) ∙ pixels_whole f area body [] (omega (arith, shows.size))
+data_read f width height area writtens.Rre body colors shows =
+    ap (data_at f width height encodings.Rre area) (sym (append-nil body)) ∙ rw (rre_content.data_again f area.w area.h body [] shows.content shows.is) refl
+data_read f width height area writtens.Hextile body colors shows =
+    ap (data_at f width height encodings.Hextile area) (sym (append-nil body)) ∙ rw (hextile_content.data_again f area.w area.h body [] shows.tiles shows.is) refl
+
+-- and show what was given
+pub data_shown : (f : Format) (area : Area) (e : Written) (body : List ℕ) (colors : List Color) (before : Picture) → Shows e f area.w area.h colors body
+    → (x y : ℕ) → x < area.w → y < area.h → picture_of f (wire_of e) area body before (area.x + x) (area.y + y) ≡ rows_of colors area.w x y
+unfolding raw_picture rre_shown hextile_shown
+data_shown f area writtens.Raw body colors before shows x y across down =
+    let column : area.x + x - area.x ≡ x = omega arith in
+    let row : area.y + y - area.y ≡ y = omega arith in
+    rw (column, row) (shows.picture x y across down)
+data_shown f area writtens.Rre body colors before shows x y across down =
+    let column : area.x + x - area.x ≡ x = omega arith in
+    let row : area.y + y - area.y ≡ y = omega arith in
+    let whole : rre.data_at f area.w area.h body ≡ Got shows.content [] =
+    ap (rre.data_at f area.w area.h) (sym (append-nil body)) ∙ rre_content.data_again f area.w area.h body [] shows.content shows.is in
+    rw (whole, column, row) (shows.picture x y across down)
+data_shown f area writtens.Hextile body colors before shows x y across down =
+    let column : area.x + x - area.x ≡ x = omega arith in
+    let row : area.y + y - area.y ≡ y = omega arith in
+    let whole : hextile.data_at f area.w area.h body ≡ Got shows.tiles [] =
+    ap (hextile.data_at f area.w area.h) (sym (append-nil body)) ∙ hextile_content.data_again f area.w area.h body [] shows.tiles shows.is in
+    rw (whole, column, row) (shows.picture x y across down)
+
+-- the places of an area, and the others
+place_in : (area : Area) (x y : ℕ) → x < area.w → y < area.h → is_in area (area.x + x) (area.y + y) ≡ true
+place_in area x y across down = rw (
+  le-leb area.x (area.x + x) (omega arith),
+  lt-ltb (area.x + x) (area.x + area.w) (omega arith),
+  le-leb area.y (area.y + y) (omega arith),
+  lt-ltb (area.y + y) (area.y + area.h) (omega arith),
+) refl
+
+pub has_colors : (f : Format) (area : Area) (e : Written) (body : List ℕ) (colors : List Color) (before : Picture) → Shows e f area.w area.h colors body
+    → HasColors area colors before (painted_data f (wire_of e) area body before)
+unfolding painted_data
+has_colors f area e body colors before shows = record {
+  here = λ x y across down. rw (place_in area x y across down) (data_shown f area e body colors before shows x y across down);
+  elsewhere = λ x y away. rw away refl;
+}
+
+-- ---- the head
+
+u16_back : (n : ℕ) → 256 * (n / 256) + n % 256 ≡ n
+u16_back n = omega arith
+
+area_back : (a : Area) (number : ℕ) → area_of (rectangle_head a number) ≡ a
+area_back a number = rw (u16_back a.x, u16_back a.y, u16_back a.w, u16_back a.h) refl
+
+number_back : (a : Area) (number : ℕ) → u32_at (rectangle_head a number) 8 ≡ number
+number_back a number = omega arith
+
+rectangle_read : (f : Format) (width height : ℕ) (area : Area) (number : ℕ) (e : Encoding) (body : List ℕ) → is_inside width height area ≡ true → encoding_of number ≡ Some e
+    → data_at f width height e area body ≡ Got tt []
+    → rectangle_at f width height (rectangle_head area number ++ body) ≡ Got (record { area = area; encoding = e; content = body }) []
+unfolding rectangle_at
+rectangle_read f width height area number e body inside is whole =
+    let head = field-whole {E = WireFault} 12 (rectangle_head area number) body refl in
+    let kept : take (length body - 0) body ≡ body = take_all (length body - 0) body (omega arith) in
+    rw (head, area_back area number, inside, number_back area number, is, whole, kept) refl
+
+encoding_is : (e : Written) → encoding_of (number_of e) ≡ Some (wire_of e)
+encoding_is writtens.Raw = refl
+encoding_is writtens.Rre = refl
+encoding_is writtens.Hextile = refl
+
+inside_is : (width height : ℕ) (area : Area) → LiesWithin width height area → is_inside width height area ≡ true
+unfolding is_inside
+inside_is width height area is = rw (le-leb (area.x + area.w) width is.columns, le-leb (area.y + area.h) height is.rows) refl
+
+-- an update that was written is read as its one rectangle
+update_read : (f : Format) (width height : ℕ) (area : Area) (colors : List Color) (e : Written) (bytes : List ℕ) → LiesWithin width height area → (u : IsUpdate f area colors e bytes)
+    → update_at f width height bytes ≡ Got (record { area = area; encoding = wire_of e; content = u.body } ∷ []) []
+unfolding update_at rectangles_at
+update_read f width height area colors e bytes inside u =
+    let rest : List ℕ = rectangle_head area (number_of e) ++ u.body in
+    let head = field-whole {E = WireFault} 4 (0 ∷ 0 ∷ 0 ∷ 1 ∷ []) rest refl in
+    let one = rectangle_read f width height area (number_of e) (wire_of e) u.body (inside_is width height area inside) (encoding_is e) (data_read f width height area e u.body colors u.shows) in
+    ap (update_at f width height) u.bytes_are ∙ rw (head, one) refl
+
+pub draws_colors : (f : Format) (width height : ℕ) (area : Area) (colors : List Color) (e : Written) (bytes : List ℕ) → LiesWithin width height area → IsUpdate f area colors e bytes
+    → DrawsColors f width height area colors bytes
+draws_colors f width height area colors e bytes inside u = record {
+  drawn = record { area = area; encoding = wire_of e; content = u.body };
+  area_is = refl;
+  reads = update_read f width height area colors e bytes inside u;
+  paints = λ before. has_colors f area e u.body colors before u.shows;
+}
+
+-- an update in Raw is one for who asked for any encoding
+pub raw_for : (f : Format) (area : Area) (colors : List Color) (asked : Written) (old new : List ℕ) → Appends (IsUpdate f area colors writtens.Raw) old new
+    → Appends (IsUpdateFor f area colors asked) old new
+raw_for f area colors asked old new a =
+    let u = a.are in
+    record {
+      bytes = a.bytes;
+      is = a.is;
+      are = record {
+        encoding = writtens.Raw;
+        encoding_is = inr refl;
+        is = u;
+        short = omega (arith, ap length u.bytes_are, length-append (update_head area writtens.Raw) u.body, u.shows.size);
+      };
+    }

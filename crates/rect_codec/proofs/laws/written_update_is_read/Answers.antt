@@ -1,0 +1,6 @@
+use Rattle.rect_codec.proofs.Drawing.{draws_colors}
+use Rattle.rect_codec.proofs.laws.written_update_is_read.Goals as goal
+
+pub returns : goal.returns
+returns c = λ format width height area colors asked bytes update inside.
+    draws_colors format width height area colors update.encoding bytes inside update.is

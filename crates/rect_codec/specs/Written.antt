@@ -1,0 +1,62 @@
+-- Updates of one rectangle, as they are written (RFC 6143, sections 7.6.1 and 7.7). Padding is 0,
+-- and so are the bits of a pixel that belong to no channel.
+use Rattle.std.specs.Prelude.{◌≡◌, ℕ, ◌+◌, ◌*◌, ◌/◌, ◌%◌, ◌<◌, ◌≤◌, ◌⊎◌, List, ◌∷◌, ◌++◌, length}
+use Rattle.pixel_format.specs.declared.Color.{Color}
+use Rattle.pixel_format.specs.Format.{Format, pixel_bytes}
+use Rattle.pixel_format.specs.Pixel.{pixel_color, pixel_of}
+use Rattle.pixel_format.specs.Canvas.{Agree}
+use Rattle.client_wire.specs.declared.message.Area.{Area}
+use Rattle.client_wire.specs.Number.{u32_bytes}
+use Rattle.rre.specs.Encoded as rre
+use Rattle.rre.specs.Encoded.{nth, rows_of}
+use Rattle.hextile.specs.Encoded as hextile
+use Rattle.rect_codec.specs.declared.encoding.Encoding.{Encoding}
+use Rattle.rect_codec.specs.declared.encoding.Encoding.TheVariants as encodings
+use Rattle.rect_codec.specs.Encoding.{number_of}
+use Rattle.rect_codec.specs.Picture.{pixel_at, pixel_rows}
+
+-- the pixel of a colour, as it is written
+pub record IsPixelOf (f : Format) (color : Color) (bytes : List ℕ) : Type 0 where
+  pub bytes_are : bytes ≡ pixel_of f color
+  pub color_is : pixel_color f bytes ≡ color
+
+-- the pixels of these colours
+pub record ArePixels (f : Format) (colors : List Color) (bytes : List ℕ) : Type 0 where
+  pub size : length bytes ≡ length colors * pixel_bytes f
+  pub pixels_are : (n : ℕ) → n < length colors → IsPixelOf f (nth colors n) (pixel_at f bytes n)
+
+-- Raw data: a pixel for each place, by rows from the top and each from the left (section 7.7.1)
+pub record ShowsRaw (f : Format) (w h : ℕ) (colors : List Color) (bytes : List ℕ) : Type 0 where
+  pub size : length bytes ≡ h * w * pixel_bytes f
+  pub are : ArePixels f colors bytes
+  pub picture : Agree w h (pixel_rows f w bytes) (rows_of colors w)
+
+-- the data of a rectangle of w by h that show these colours, by rows (sections 7.7.1, 7.7.3 and
+-- 7.7.4)
+abbrev pub Shows : Encoding → Format → ℕ → ℕ → List Color → List ℕ → Type 0
+Shows encodings.Raw f w h colors bytes = ShowsRaw f w h colors bytes
+Shows encodings.Rre f w h colors bytes = rre.Shows f w h colors bytes
+Shows encodings.Hextile f w h colors bytes = hextile.Shows f w h colors bytes
+
+-- x, y, width and height of a rectangle, and the number of its encoding
+abbrev pub rectangle_head : Area → ℕ → List ℕ
+rectangle_head a number =
+    a.x / 256 ∷ a.x % 256 ∷ a.y / 256 ∷ a.y % 256 ∷ a.w / 256 ∷ a.w % 256 ∷ a.h / 256 ∷ a.h % 256 ∷ u32_bytes number
+
+-- type 0, a byte of padding, the number of rectangles, and the rectangle's header
+abbrev pub update_head : Area → Encoding → List ℕ
+update_head a encoding = 0 ∷ 0 ∷ 0 ∷ 1 ∷ rectangle_head a (number_of encoding)
+
+-- an update of one rectangle in this encoding, whose data show the colours, by rows, at the places
+-- of its area
+pub record IsUpdate (f : Format) (area : Area) (colors : List Color) (encoding : Encoding) (bytes : List ℕ) : Type 0 where
+  pub body : List ℕ
+  pub bytes_are : bytes ≡ update_head area encoding ++ body
+  pub shows : Shows encoding f area.w area.h colors body
+
+-- an update for one who asked for an encoding: in that one or in Raw, and never longer than in Raw
+pub record IsUpdateFor (f : Format) (area : Area) (colors : List Color) (asked : Encoding) (bytes : List ℕ) : Type 0 where
+  pub encoding : Encoding
+  pub encoding_is : (encoding ≡ asked) ⊎ (encoding ≡ encodings.Raw)
+  pub is : IsUpdate f area colors encoding bytes
+  pub short : length bytes ≤ 16 + area.h * area.w * pixel_bytes f
