@@ -9,6 +9,8 @@ use Rattle.drill_script.specs.declared.line.Start.{Start}
 use Rattle.drill_script.specs.declared.line.Start.TheVariants as start
 use Rattle.drill_script.specs.declared.line.Line.{Line}
 use Rattle.drill_script.specs.declared.line.Line.TheVariants as line
+use Rattle.drill_script.specs.declared.line.DeskLine.{DeskLine}
+use Rattle.drill_script.specs.declared.line.DeskLine.TheVariants as desk
 
 -- what a line says; its bytes are lists, wherever they lie in memory
 pub data Command : Type 0 where
@@ -27,20 +29,23 @@ pub data Command : Type 0 where
   LeaveCommand : (seat : ℕ) → Command
 
 -- what a line that was read says
+abbrev pub command_on_desk : DeskLine → Command
+command_on_desk (desk.Host time bytes) = HostCommand time bytes.items
+command_on_desk desk.Take = TakeCommand
+command_on_desk desk.Body = BodyCommand
+command_on_desk desk.Gate = GateCommand
+command_on_desk (desk.Pixel count x y) = PixelCommand count x y
+command_on_desk (desk.Fail calls) = FailCommand calls
+command_on_desk (desk.Stop calls fill) = StopCommand calls fill
+command_on_desk (desk.Join start) = JoinCommand start
+command_on_desk (desk.Next seat limit) = NextCommand seat limit
+command_on_desk (desk.Seek seat count) = SeekCommand seat count
+command_on_desk (desk.Leave seat) = LeaveCommand seat
+
 abbrev pub command_of : Line → Command
 command_of (line.New width height key_interval name) = NewCommand width height key_interval name.items
-command_of (line.Host time bytes) = HostCommand time bytes.items
-command_of line.Take = TakeCommand
-command_of line.Body = BodyCommand
-command_of line.Gate = GateCommand
 command_of line.Open = OpenCommand
-command_of (line.Pixel count x y) = PixelCommand count x y
-command_of (line.Fail calls) = FailCommand calls
-command_of (line.Stop calls fill) = StopCommand calls fill
-command_of (line.Join start) = JoinCommand start
-command_of (line.Next seat limit) = NextCommand seat limit
-command_of (line.Seek seat count) = SeekCommand seat count
-command_of (line.Leave seat) = LeaveCommand seat
+command_of (line.OnDesk it) = command_on_desk it
 
 -- a word: one byte or more, and no space
 abbrev pub IsWord : List ℕ → Type 0

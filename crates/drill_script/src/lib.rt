@@ -11,5 +11,5 @@ mod tests;
 mod words;
 
 pub use fault::LineFault;
-pub use line::{Fill, Line, Start};
+pub use line::{DeskLine, Fill, Line, Start};
 pub use reading::{read_line, spells_one_line};

@@ -30,51 +30,36 @@ pub enum Line {
         key_interval: u16,
         name: Vec<u8>,
     },
+    /// `open`: the recording is closed and opened again.
+    Open,
+    /// Any other line, which wants a recording that is open.
+    OnDesk(DeskLine),
+}
+
+/// A line that wants a recording that is open, and a desk on it.
+#[derive(Debug, PartialEq, Eq, Drop)]
+pub enum DeskLine {
     /// `host T HEX`: these bytes came from the host, T milliseconds after the start.
-    Host {
-        time: u32,
-        bytes: Vec<u8>,
-    },
+    Host { time: u32, bytes: Vec<u8> },
     /// `take`: the accepted messages go into a block.
     Take,
     /// `body`: the block is written behind its gate.
     Body,
     /// `gate`: the block's gate is opened.
     Gate,
-    /// `open`: the recording is closed and opened again.
-    Open,
+    /// `join live`, `join N`: a viewer takes a free seat, live or behind the first N messages.
+    Join { start: Start },
+    /// `next S LIMIT`: the next messages of seat S, LIMIT of them at most.
+    Next { seat: u32, limit: u32 },
+    /// `seek S N`: seat S goes behind the first N messages.
+    Seek { seat: u32, count: u64 },
+    /// `leave S`: seat S is free again.
+    Leave { seat: u32 },
+    /// `pixel N X Y`: the colour at (X, Y) after N messages.
+    Pixel { count: u64, x: u16, y: u16 },
     /// `fail N`: the device call after N more fails, once.
-    Fail {
-        calls: u64,
-    },
+    Fail { calls: u64 },
     /// `stop N FILL`: N more device calls pass, and then all fail. The next `open` finds what FILL
     /// leaves.
-    Stop {
-        calls: u64,
-        fill: Fill,
-    },
-    /// `pixel N X Y`: the colour at (X, Y) after N messages.
-    Pixel {
-        count: u64,
-        x: u16,
-        y: u16,
-    },
-    /// `join live`, `join N`: a viewer takes a free seat, live or behind the first N messages.
-    Join {
-        start: Start,
-    },
-    /// `next S LIMIT`: the next messages of seat S, LIMIT of them at most.
-    Next {
-        seat: u32,
-        limit: u32,
-    },
-    /// `seek S N`: seat S goes behind the first N messages.
-    Seek {
-        seat: u32,
-        count: u64,
-    },
-    /// `leave S`: seat S is free again.
-    Leave {
-        seat: u32,
-    },
+    Stop { calls: u64, fill: Fill },
 }

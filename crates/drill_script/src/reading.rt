@@ -8,7 +8,7 @@ ghost use Rattle.drill_script.specs.Grammar.{Command, command_of, Spells, TakesM
 ghost use Rattle.drill_script.specs.Reading.{parts, Reads, ReadsInMemory, GivesLine, KindTakesMemory, command_at, number_of, number_at, name_at, joined_at, hex_at, new_at, host_at, pixel_at, byte_told, fill_of, fill_at, fail_at, stop_at, start_of, start_at, join_at, next_at, seek_at, leave_at, rest_at};
 
 use crate::fault::LineFault;
-use crate::line::{Fill, Line, Start};
+use crate::line::{DeskLine, Fill, Line, Start};
 use crate::words::{Kind, Words, kind_of};
 use std::alloc::Global;
 
@@ -111,7 +111,7 @@ fn host_line(alloc: Global, words: &mut Words) -> Result<Line, LineFault>
 {
     let time = u32_word(words)?;
     let bytes = hex_words(alloc, words)?;
-    Ok(Line::Host { time, bytes })
+    Ok(Line::OnDesk(DeskLine::Host { time, bytes }))
 }
 
 #[tactic(auto, unfolding(crate::specs::Reading::pixel_at))]
@@ -121,7 +121,7 @@ fn pixel_line(words: &mut Words) -> Result<Line, LineFault>
     let count = u64_word(words)?;
     let x = u16_word(words)?;
     let y = u16_word(words)?;
-    Ok(Line::Pixel { count, x, y })
+    Ok(Line::OnDesk(DeskLine::Pixel { count, x, y }))
 }
 
 // The byte that two hexadecimal digits spell.
@@ -159,7 +159,7 @@ fn fail_line(words: &mut Words) -> Result<Line, LineFault>
     ensures { Reads command_of result words.new (fail_at words.old) }
 {
     let calls = u64_word(words)?;
-    Ok(Line::Fail { calls })
+    Ok(Line::OnDesk(DeskLine::Fail { calls }))
 }
 
 #[tactic(auto, unfolding(crate::specs::Reading::stop_at))]
@@ -168,7 +168,7 @@ fn stop_line(words: &mut Words) -> Result<Line, LineFault>
 {
     let calls = u64_word(words)?;
     let fill = fill_word(words)?;
-    Ok(Line::Stop { calls, fill })
+    Ok(Line::OnDesk(DeskLine::Stop { calls, fill }))
 }
 
 // The start that a word names.
@@ -194,7 +194,7 @@ fn join_line(words: &mut Words) -> Result<Line, LineFault>
     ensures { Reads command_of result words.new (join_at words.old) }
 {
     let start = start_word(words)?;
-    Ok(Line::Join { start })
+    Ok(Line::OnDesk(DeskLine::Join { start }))
 }
 
 #[tactic(auto, unfolding(crate::specs::Reading::next_at))]
@@ -203,7 +203,7 @@ fn next_line(words: &mut Words) -> Result<Line, LineFault>
 {
     let seat = u32_word(words)?;
     let limit = u32_word(words)?;
-    Ok(Line::Next { seat, limit })
+    Ok(Line::OnDesk(DeskLine::Next { seat, limit }))
 }
 
 #[tactic(auto, unfolding(crate::specs::Reading::seek_at))]
@@ -212,7 +212,7 @@ fn seek_line(words: &mut Words) -> Result<Line, LineFault>
 {
     let seat = u32_word(words)?;
     let count = u64_word(words)?;
-    Ok(Line::Seek { seat, count })
+    Ok(Line::OnDesk(DeskLine::Seek { seat, count }))
 }
 
 #[tactic(auto, unfolding(crate::specs::Reading::leave_at))]
@@ -220,7 +220,7 @@ fn leave_line(words: &mut Words) -> Result<Line, LineFault>
     ensures { Reads command_of result words.new (leave_at words.old) }
 {
     let seat = u32_word(words)?;
-    Ok(Line::Leave { seat })
+    Ok(Line::OnDesk(DeskLine::Leave { seat }))
 }
 
 fn rest_of_line(alloc: Global, kind: Kind, words: &mut Words) -> Result<Line, LineFault>
@@ -230,9 +230,9 @@ fn rest_of_line(alloc: Global, kind: Kind, words: &mut Words) -> Result<Line, Li
     match kind {
         Kind::New => new_line(alloc, words),
         Kind::Host => host_line(alloc, words),
-        Kind::Take => Ok(Line::Take),
-        Kind::Body => Ok(Line::Body),
-        Kind::Gate => Ok(Line::Gate),
+        Kind::Take => Ok(Line::OnDesk(DeskLine::Take)),
+        Kind::Body => Ok(Line::OnDesk(DeskLine::Body)),
+        Kind::Gate => Ok(Line::OnDesk(DeskLine::Gate)),
         Kind::Open => Ok(Line::Open),
         Kind::Pixel => pixel_line(words),
         Kind::Fail => fail_line(words),

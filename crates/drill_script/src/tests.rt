@@ -18,26 +18,35 @@ fn each_kind_of_line(rt: HostRuntime) -> Result<(), Fail> {
     let bytes = vec![in rt.alloc(); 0x02, 0xab]?;
     assert_eq!(rt;
         read_line(rt.alloc(), b"host 4294967295 0 2 Ab"),
-        Ok(Line::Host {
+        Ok(Line::OnDesk(DeskLine::Host {
             time: 4_294_967_295,
             bytes
-        })
+        }))
     );
-    assert_eq!(rt; read_line(rt.alloc(), b"take"), Ok(Line::Take));
-    assert_eq!(rt; read_line(rt.alloc(), b"body"), Ok(Line::Body));
-    assert_eq!(rt; read_line(rt.alloc(), b"gate"), Ok(Line::Gate));
+    assert_eq!(rt;
+        read_line(rt.alloc(), b"take"),
+        Ok(Line::OnDesk(DeskLine::Take))
+    );
+    assert_eq!(rt;
+        read_line(rt.alloc(), b"body"),
+        Ok(Line::OnDesk(DeskLine::Body))
+    );
+    assert_eq!(rt;
+        read_line(rt.alloc(), b"gate"),
+        Ok(Line::OnDesk(DeskLine::Gate))
+    );
     assert_eq!(rt; read_line(rt.alloc(), b"open"), Ok(Line::Open));
     assert_eq!(rt;
         read_line(rt.alloc(), b"pixel 18446744073709551615 007 0"),
-        Ok(Line::Pixel {
+        Ok(Line::OnDesk(DeskLine::Pixel {
             count: u64::MAX,
             x: 7,
             y: 0
-        })
+        }))
     );
     assert_eq!(rt;
         read_line(rt.alloc(), b"fail 3"),
-        Ok(Line::Fail { calls: 3 })
+        Ok(Line::OnDesk(DeskLine::Fail { calls: 3 }))
     );
     let stops: [(&[u8], Fill); 4] = [
         (b"stop 9 held", Fill::Held),
@@ -46,7 +55,7 @@ fn each_kind_of_line(rt: HostRuntime) -> Result<(), Fail> {
         (b"stop 9 F0", Fill::Byte(0xf0)),
     ];
     for (text, fill) in stops {
-        let stop = Line::Stop { calls: 9, fill };
+        let stop = Line::OnDesk(DeskLine::Stop { calls: 9, fill });
         assert_eq!(rt; read_line(rt.alloc(), text), Ok(stop));
     }
     spells_one_line();
@@ -61,33 +70,36 @@ fn lines_of_seats(rt: HostRuntime) {
         (b"join 18446744073709551615", Start::At(u64::MAX)),
     ];
     for (text, start) in starts {
-        assert_eq!(rt; read_line(rt.alloc(), text), Ok(Line::Join { start }));
+        assert_eq!(rt;
+            read_line(rt.alloc(), text),
+            Ok(Line::OnDesk(DeskLine::Join { start }))
+        );
     }
     assert_eq!(rt;
         read_line(rt.alloc(), b"next 0 8"),
-        Ok(Line::Next { seat: 0, limit: 8 })
+        Ok(Line::OnDesk(DeskLine::Next { seat: 0, limit: 8 }))
     );
     assert_eq!(rt;
         read_line(rt.alloc(), b"next 4294967295 007"),
-        Ok(Line::Next {
+        Ok(Line::OnDesk(DeskLine::Next {
             seat: u32::MAX,
             limit: 7
-        })
+        }))
     );
     assert_eq!(rt;
         read_line(rt.alloc(), b"seek 0 1"),
-        Ok(Line::Seek { seat: 0, count: 1 })
+        Ok(Line::OnDesk(DeskLine::Seek { seat: 0, count: 1 }))
     );
     assert_eq!(rt;
         read_line(rt.alloc(), b"seek 1 18446744073709551615"),
-        Ok(Line::Seek {
+        Ok(Line::OnDesk(DeskLine::Seek {
             seat: 1,
             count: u64::MAX
-        })
+        }))
     );
     assert_eq!(rt;
         read_line(rt.alloc(), b"leave 0"),
-        Ok(Line::Leave { seat: 0 })
+        Ok(Line::OnDesk(DeskLine::Leave { seat: 0 }))
     );
 }
 

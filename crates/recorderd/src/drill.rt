@@ -98,14 +98,6 @@ impl Drill {
         }
     }
 
-    // A line that only a desk answers.
-    fn step(&mut self, line: Line) -> Result<Answer, AllocError> {
-        match &mut self.bench {
-            Bench::Empty | Bench::Disk(_) => Ok(Answer::Bad),
-            Bench::Desk(desk) => steps::answer(self.alloc, desk, &mut self.fuse, line),
-        }
-    }
-
     fn answer(&mut self, line: Line) -> Result<Answer, AllocError> {
         match line {
             Line::New {
@@ -115,7 +107,10 @@ impl Drill {
                 name,
             } => self.start(width, height, key_interval, &name),
             Line::Open => self.open(),
-            line => self.step(line),
+            Line::OnDesk(line) => match &mut self.bench {
+                Bench::Empty | Bench::Disk(_) => Ok(Answer::Bad),
+                Bench::Desk(desk) => steps::answer(self.alloc, desk, &mut self.fuse, line),
+            },
         }
     }
 }

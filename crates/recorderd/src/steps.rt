@@ -1,44 +1,59 @@
 //! The steps of a drill on its desk.
 
-ghost use Rattle.std.specs.Prelude.{◌≡◌};
-ghost use Rattle.broadcast.specs.Steps.{IsSizedStep};
+ghost use Rattle.std.specs.Prelude.{IfOk};
+ghost use Rattle.broadcast.specs.Steps.{IsSizedStep, IsStep};
 
 use crate::answer::Answer;
 use crate::fuse::Fuse;
 use broadcast::{Desk, Reply, Start, Step};
 use disk::FusedDisk;
-use drill_script::Line;
+use drill_script::DeskLine;
 use rfb_wire::HostMessage;
 use std::alloc::{AllocError, Global};
 
-/// The answer to a line of a desk. `new` and `open` are none. Only want of memory for the list of a
-/// step, or of its reply, is an error.
+/// The answer to a line that wants a desk. Only want of memory for the list of a step, or of its
+/// reply, is an error.
 pub fn answer(
     alloc: Global,
     desk: &mut Desk<FusedDisk>,
     fuse: &mut Fuse,
-    line: Line,
+    line: DeskLine,
 ) -> Result<Answer, AllocError> {
     match line {
-        Line::New { .. } | Line::Open => Ok(Answer::Bad),
-        Line::Host { time, bytes } => host(alloc, desk, time, &bytes),
-        Line::Take => step(alloc, desk, Step::Take),
-        Line::Body => step(alloc, desk, Step::Body),
-        Line::Gate => step(alloc, desk, Step::Gate),
-        Line::Join { start } => step(alloc, desk, Step::Join(start_of(start))),
-        Line::Next { seat, limit } => step(alloc, desk, Step::Next(seat, limit)),
-        Line::Seek { seat, count } => step(alloc, desk, Step::Seek(seat, count)),
-        Line::Leave { seat } => step(alloc, desk, Step::Leave(seat)),
-        Line::Pixel { count, x, y } => Ok(pixel(desk, count, x, y)),
-        Line::Fail { calls } => {
+        DeskLine::Host { time, bytes } => host(alloc, desk, time, &bytes),
+        DeskLine::Take => take(alloc, desk),
+        DeskLine::Body => body(alloc, desk),
+        DeskLine::Gate => gate(alloc, desk),
+        DeskLine::Join { start } => join(alloc, desk, start_of(start)),
+        DeskLine::Next { seat, limit } => next(alloc, desk, seat, limit),
+        DeskLine::Seek { seat, count } => seek(alloc, desk, seat, count),
+        DeskLine::Leave { seat } => leave(alloc, desk, seat),
+        DeskLine::Pixel { count, x, y } => Ok(pixel(desk, count, x, y)),
+        DeskLine::Fail { calls } => {
             fuse.fail_after(calls);
             Ok(Answer::Set)
         }
-        Line::Stop { calls, fill } => {
+        DeskLine::Stop { calls, fill } => {
             fuse.stop_after(calls, fill);
             Ok(Answer::Set)
         }
     }
+}
+
+// A run of one step, and its reply.
+fn reply_to(alloc: Global, desk: &mut Desk<FusedDisk>, step: Step) -> Result<Reply, AllocError>
+    requires { IsSizedStep desk.old.head step }
+    ensures { IfOk result (λ reply. IsStep desk.old.head desk.old.state step reply desk.new.state) }
+{
+    let mut replies = Vec::new(alloc);
+    let steps = vec![in alloc; step]?;
+    if let Err((error, _)) = desk.run(steps, &mut replies) {
+        return Err(error);
+    }
+    let Some(reply) = replies.pop() else {
+        unreachable!()
+    };
+    Ok(reply)
 }
 
 // `host T HEX`.
@@ -49,10 +64,113 @@ fn host(
     bytes: &[u8],
 ) -> Result<Answer, AllocError> {
     let (width, height) = desk.header().size();
-    match HostMessage::from_bytes(alloc, width, height, bytes) {
-        Ok(message) => step(alloc, desk, Step::Host(time, message)),
-        Err(fault) => Ok(Answer::BytesRefused(fault.number())),
-    }
+    let message = match HostMessage::from_bytes(alloc, width, height, bytes) {
+        Ok(message) => message,
+        Err(fault) => return Ok(Answer::BytesRefused(fault.number())),
+    };
+    let Reply::Host(reply) = reply_to(alloc, desk, Step::Host(time, message))? else {
+        unreachable!()
+    };
+    Ok(match reply {
+        Ok(number) => Answer::Accepted(number),
+        Err(refused) => Answer::HostRefused(refused.why.number()),
+    })
+}
+
+// `take`.
+fn take(alloc: Global, desk: &mut Desk<FusedDisk>) -> Result<Answer, AllocError> {
+    let Reply::Take(reply) = reply_to(alloc, desk, Step::Take)? else {
+        unreachable!()
+    };
+    Ok(match reply {
+        Ok(taken) => Answer::Taken {
+            first: taken.first,
+            count: taken.count,
+        },
+        Err(refusal) => Answer::TakeRefused(refusal.number()),
+    })
+}
+
+// `body`.
+fn body(alloc: Global, desk: &mut Desk<FusedDisk>) -> Result<Answer, AllocError> {
+    let Reply::Body(reply) = reply_to(alloc, desk, Step::Body)? else {
+        unreachable!()
+    };
+    Ok(match reply {
+        Ok(()) => Answer::Written,
+        Err(refusal) => Answer::BodyRefused(refusal.number()),
+    })
+}
+
+// `gate`. What is answered ends at the committed count, so no sum is cut at the limit of its type.
+fn gate(alloc: Global, desk: &mut Desk<FusedDisk>) -> Result<Answer, AllocError> {
+    let Reply::Gate(reply) = reply_to(alloc, desk, Step::Gate)? else {
+        unreachable!()
+    };
+    Ok(match reply {
+        Ok(slice) => { Answer::Committed(slice.first.saturating_add(slice.messages.len() as u64)) }
+        Err(refusal) => Answer::GateRefused(refusal.number()),
+    })
+}
+
+// `join live`, `join N`.
+fn join(alloc: Global, desk: &mut Desk<FusedDisk>, start: Start) -> Result<Answer, AllocError> {
+    let Reply::Join(reply) = reply_to(alloc, desk, Step::Join(start))? else {
+        unreachable!()
+    };
+    Ok(match reply {
+        Ok(seated) => Answer::Seated {
+            seat: seated.number,
+            position: seated.position,
+        },
+        Err(refusal) => Answer::JoinRefused(refusal.number()),
+    })
+}
+
+// `next S LIMIT`.
+fn next(
+    alloc: Global,
+    desk: &mut Desk<FusedDisk>,
+    seat: u32,
+    limit: u32,
+) -> Result<Answer, AllocError> {
+    let Reply::Next(reply) = reply_to(alloc, desk, Step::Next(seat, limit))? else {
+        unreachable!()
+    };
+    Ok(match reply {
+        Ok(slice) => Answer::Slice {
+            first: slice.first,
+            count: slice.messages.len(),
+        },
+        Err(refusal) => Answer::NextRefused(refusal.number()),
+    })
+}
+
+// `seek S N`.
+fn seek(
+    alloc: Global,
+    desk: &mut Desk<FusedDisk>,
+    seat: u32,
+    position: u64,
+) -> Result<Answer, AllocError> {
+    let Reply::Seek(reply) = reply_to(alloc, desk, Step::Seek(seat, position))? else {
+        unreachable!()
+    };
+    Ok(match reply {
+        Ok(()) => Answer::Seated { seat, position },
+        Err(refusal) => Answer::SeekRefused(refusal.number()),
+    })
+}
+
+// `leave S`.
+fn leave(alloc: Global, desk: &mut Desk<FusedDisk>, seat: u32) -> Result<Answer, AllocError> {
+    let Reply::Leave(reply) = reply_to(alloc, desk, Step::Leave(seat))? else {
+        unreachable!()
+    };
+    Ok(match reply {
+        Ok(()) => Answer::Left(seat),
+        Err(refusal) => Answer::LeaveRefused(refusal.number()),
+    })
 }
 
 // Where a viewer begins.
@@ -60,70 +178,6 @@ fn start_of(start: drill_script::Start) -> Start {
     match start {
         drill_script::Start::Live => Start::Live,
         drill_script::Start::At(count) => Start::At(count),
-    }
-}
-
-// The seat that a step moves, and how many messages are to stand before its next one: 0 where the
-// step names none.
-fn place_of(step: &Step) -> (u32, u64) {
-    match step {
-        Step::Seek(seat, count) => (*seat, *count),
-        Step::Leave(seat) => (*seat, 0),
-        _ => (0, 0),
-    }
-}
-
-// A run of one step, and its reply.
-fn step(alloc: Global, desk: &mut Desk<FusedDisk>, step: Step) -> Result<Answer, AllocError>
-    requires { IsSizedStep desk.old.head step }
-{
-    let (seat, count) = place_of(&step);
-    let mut replies = Vec::new(alloc);
-    let steps = vec![in alloc; step]?;
-    if let Err((error, _)) = desk.run(steps, &mut replies) {
-        return Err(error);
-    }
-    match replies.pop() {
-        Some(reply) => Ok(answer_of(reply, seat, count)),
-        None => Ok(Answer::Bad),
-    }
-}
-
-// What a reply says. That to `seek` or `leave` has no number in it, so theirs are those of the
-// line. A desk's slice ends at a count of committed messages, so no sum is cut at the limit of its
-// type.
-fn answer_of(reply: Reply, seat: u32, count: u64) -> Answer {
-    match reply {
-        Reply::Host(Ok(number)) => Answer::Accepted(number),
-        Reply::Host(Err(refused)) => Answer::HostRefused(refused.why.number()),
-        Reply::Take(Ok(taken)) => Answer::Taken {
-            first: taken.first,
-            count: taken.count,
-        },
-        Reply::Take(Err(refusal)) => Answer::TakeRefused(refusal.number()),
-        Reply::Body(Ok(())) => Answer::Written,
-        Reply::Body(Err(refusal)) => Answer::BodyRefused(refusal.number()),
-        Reply::Gate(Ok(slice)) => Answer::Committed(
-            slice.first.saturating_add(slice.messages.len() as u64),
-        ),
-        Reply::Gate(Err(refusal)) => Answer::GateRefused(refusal.number()),
-        Reply::Join(Ok(seated)) => Answer::Seated {
-            seat: seated.number,
-            position: seated.position,
-        },
-        Reply::Join(Err(refusal)) => Answer::JoinRefused(refusal.number()),
-        Reply::Next(Ok(slice)) => Answer::Slice {
-            first: slice.first,
-            count: slice.messages.len(),
-        },
-        Reply::Next(Err(refusal)) => Answer::NextRefused(refusal.number()),
-        Reply::Seek(Ok(())) => Answer::Seated {
-            seat,
-            position: count,
-        },
-        Reply::Seek(Err(refusal)) => Answer::SeekRefused(refusal.number()),
-        Reply::Leave(Ok(())) => Answer::Left(seat),
-        Reply::Leave(Err(refusal)) => Answer::LeaveRefused(refusal.number()),
     }
 }
 

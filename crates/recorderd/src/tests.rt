@@ -6,7 +6,7 @@ use crate::fuse::Fuse;
 use crate::steps;
 use broadcast::Desk;
 use disk::{FusedDisk, MemoryDisk};
-use drill_script::read_line;
+use drill_script::{Line, read_line};
 use flusher_core::Book;
 use gated_journal::{Header, OpenFault};
 use key_index::IndexFault;
@@ -465,7 +465,9 @@ fn disk_after(
     lines: &[&str],
 ) -> Result<MemoryDisk, Fail> {
     for line in lines {
-        let line = read_line(alloc, line.as_bytes())?;
+        let Line::OnDesk(line) = read_line(alloc, line.as_bytes())? else {
+            return Err("a line of a desk".into());
+        };
         steps::answer(alloc, &mut desk, fuse, line)?;
     }
     let fill = fuse.disarm().unwrap_or(disk::Fill::Now);
