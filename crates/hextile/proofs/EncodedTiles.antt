@@ -3,7 +3,7 @@ use Rattle.std.proofs.Common.{◌≡◌, ℕ, ◌+◌, ◌*◌, ◌/◌, ◌%◌
 use Rattle.std.specs.Prelude.{None, All}
 use Rattle.std.specs.List.{flat_map}
 use Rattle.std.proofs.lemmas.Grind.{flat_map-append}
-use Rattle.std.proofs.Math.Nat.{mod-lt, div-lt_iff_lt-mul, mul_comm}
+use Rattle.std.proofs.Math.Nat.{mod-lt, div-lt_iff_lt-mul, mul_comm, mul-le-mul}
 use Rattle.pixel_format.specs.Pixel.{IsWithin}
 use Rattle.std.proofs.lemmas.Bool.{cases_eq}
 use Rattle.std.proofs.lemmas.List.{append-nil, get_or-take, get_or_default, length-take-le}
@@ -172,6 +172,10 @@ all_written f w h colors number known old new is a =
         picture = λ column row across down. done.shows column row across down (rw is (number_within w h column row across down));
       };
     }
+
+-- a tile has at most 256 places
+pub few_places : (w h n : ℕ) → w ≤ 16 → h ≤ 16 → n ≡ 256 → w * h ≤ n
+few_places w h n wide high all = rw all (mul-le-mul wide high)
 
 -- the colours of a tile keep to what the rectangle's colours keep to
 pub tile_within : (f : Format) (w h : ℕ) (colors tile : List Color) (number tw th : ℕ) → number < tile_count w h → tw ≡ tile_width w number → th ≡ tile_height w h number

@@ -15,6 +15,13 @@ pub some_across : (places : ℕ) → 0 < places → 0 < tiles_across places
 unfolding tiles_across
 some_across places some = omega arith
 
+-- a rectangle that has a tile has places
+pub some_places : (w h number : ℕ) → number < tile_count w h → (0 < w) × (0 < h)
+unfolding tiles_across
+some_places zero h number less = absurd (omega (arith, mul-zero ((h + 15) / 16)))
+some_places (suc w) zero number less = absurd (omega (arith, zero-mul ((suc w + 15) / 16)))
+some_places (suc w) (suc h) number less = (omega arith, omega arith)
+
 -- the same of a tile, where the rectangle has so many columns of them
 pub left_in : (w number columns : ℕ) → columns ≡ tiles_across w → 0 < w → number % columns * 16 < w
 left_in w number columns is some =
@@ -23,6 +30,16 @@ left_in w number columns is some =
 pub top_in : (w h number columns : ℕ) → columns ≡ tiles_across w → 0 < w → number < tile_count w h → number / columns * 16 < h
 top_in w h number columns is some less =
     rw is (column_within h (number / tiles_across w) ((div-lt_iff_lt-mul {x = number} {y = tiles_across h} (some_across w some)).1 less))
+
+-- a tile begins within the rectangle
+pub record Corner (w h x y : ℕ) : Type 0 where
+  pub left : x < w
+  pub top : y < h
+
+pub corner_in : (w h number columns : ℕ) → columns ≡ tiles_across w → number < tile_count w h → Corner w h (number % columns * 16) (number / columns * 16)
+corner_in w h number columns is less =
+    let some = some_places w h number less in
+    record { left = left_in w number columns is some.0; top = top_in w h number columns is some.0 less }
 
 pub left_within : (w number : ℕ) → 0 < w → tile_left w number < w
 unfolding tile_left
@@ -109,10 +126,3 @@ tile_across w number some = let left = left_within w number some in omega arith
 
 pub tile_down : (w h number : ℕ) → 0 < w → number < tile_count w h → tile_top w number + tile_height w h number ≤ h
 tile_down w h number some less = let top = top_within w h number some less in omega arith
-
--- a rectangle that has a tile has places
-pub some_places : (w h number : ℕ) → number < tile_count w h → (0 < w) × (0 < h)
-unfolding tiles_across
-some_places zero h number less = absurd (omega (arith, mul-zero ((h + 15) / 16)))
-some_places (suc w) zero number less = absurd (omega (arith, zero-mul ((suc w + 15) / 16)))
-some_places (suc w) (suc h) number less = (omega arith, omega arith)

@@ -55,16 +55,18 @@ pub(crate) fn count_tiles(w: u16, h: u16) -> u32
     across(h) * across(w)
 }
 
-/// The area of the tile of this number, in a rectangle of w by h that has places.
+/// The area of the tile of this number, in a rectangle of w by h, which has places then.
 #[tactic(auto, unfolding(crate::specs::Tiles::tile_left, crate::specs::Tiles::tile_top))]
 pub(crate) fn tile_area(w: u16, h: u16, number: u32) -> TileArea
-    requires across { 0 < w }
-    requires down { 0 < h }
-    requires number { number < tile_count w h }
+    requires { number < tile_count w h }
     ensures left { result.x ≡ tile_left w number }
     ensures top { result.y ≡ tile_top w number }
     ensures width { result.w ≡ tile_width w number }
     ensures height { result.h ≡ tile_height w h number }
+    ensures columns { result.x + result.w ≤ w }
+    ensures rows { result.y + result.h ≤ h }
+    ensures across { 0 < result.w }
+    ensures down { 0 < result.h }
 {
     let columns = across(w);
     let x = number % columns * 16;

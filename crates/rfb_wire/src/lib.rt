@@ -10,7 +10,11 @@ mod reader;
 mod step;
 mod write;
 
-pub use client_wire::{Area, WireFault};
+pub use client_wire::{
+    Area, ClientMessage, ClientReader, Encodings, WireFault, read_client_message,
+    write_client_cut_text, write_key_event, write_pointer_event, write_request,
+    write_set_encodings, write_set_pixel_format,
+};
 pub use fault::BytesFault;
 pub use laws::{
     a_rest_begins_none, grammar_reads_messages, no_message_begins_another, one_reading_of_a_stream,

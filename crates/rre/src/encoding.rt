@@ -28,10 +28,11 @@ fn background_color(
 }
 
 /// Appends data of a rectangle of w by h that has these colours, by rows from the top and each from
-/// the left, in a format to whose maxima they keep (RFC 6143, section 7.7.3). The background is a
-/// colour that stands at the most places; the subrectangles are as wide, and then as high, as one
-/// colour reaches. It looks at each place a bounded number of times. Want of memory leaves `bytes`
-/// as it was.
+/// the left, in a format to whose maxima they keep (RFC 6143, section 7.7.3). Bits of a pixel that
+/// belong to no channel are 0. Which background and which subrectangles it lists isn't promised:
+/// today the background is a colour that stands at the most places, and the subrectangles are as
+/// wide, and then as high, as one colour reaches. It looks at each place a bounded number of times.
+/// Want of memory leaves `bytes` as it was.
 pub fn encode(
     alloc: Global,
     format: &PixelFormat,

@@ -1,120 +1,34 @@
-use Rattle.std.proofs.Common.{◌≡◌, ◌<◌, ◌≤◌, ◌*◌, length, take, sym, refl, arith}
+use Rattle.std.proofs.Common.{◌≡◌, ◌<◌, ◌*◌, length, take, sym, refl, arith}
 use Rattle.std.proofs.lemmas.List.{length-take-le}
-use Rattle.std.proofs.Math.Nat.{mul-le-mul, mul-le-mul_right}
 use Rattle.hextile.specs.Tiles.{tile_count}
-use Rattle.hextile.proofs.Tiling.{some_places, tile_across, tile_down, some_width, some_height}
-use Rattle.hextile.proofs.EncodedTiles.{none_written, one_written, all_written, tile_within}
+use Rattle.hextile.proofs.EncodedTiles.{few_places, none_written, one_written, all_written, tile_within}
 use Rattle.hextile.proofs.encoding.append_tiles.Goals as goal
-
-pub tile_area-area-requires-clause-across : goal.tile_area-area-requires-clause-across
-tile_area-area-requires-clause-across c =
-    let w = c.args.w in
-    let h = c.args.h in
-    let number = c.loop-number.number in
-    let less : number < tile_count w h = omega (arith, c.loop-number-test.true, c.count_tiles-number-end.ensures) in
-    let some = some_places w h number less in
-    some.0
-
-pub tile_area-area-requires-clause-down : goal.tile_area-area-requires-clause-down
-tile_area-area-requires-clause-down c =
-    let w = c.args.w in
-    let h = c.args.h in
-    let number = c.loop-number.number in
-    let less : number < tile_count w h = omega (arith, c.loop-number-test.true, c.count_tiles-number-end.ensures) in
-    let some = some_places w h number less in
-    some.1
-
-pub tile_colors-tile-requires-clause-across : goal.tile_colors-tile-requires-clause-across
-tile_colors-tile-requires-clause-across c =
-    let w = c.args.w in
-    let h = c.args.h in
-    let number = c.loop-number.number in
-    let less : number < tile_count w h = omega (arith, c.loop-number-test.true, c.count_tiles-number-end.ensures) in
-    let some = some_places w h number less in
-    let area = c.tile_area-area.ensures in
-    rw area.width (some_width w number some.0)
-
-pub append_tile-requires-clause-across : goal.append_tile-requires-clause-across
-append_tile-requires-clause-across c =
-    let w = c.args.w in
-    let h = c.args.h in
-    let number = c.loop-number.number in
-    let less : number < tile_count w h = omega (arith, c.loop-number-test.true, c.count_tiles-number-end.ensures) in
-    let some = some_places w h number less in
-    let area = c.tile_area-area.ensures in
-    rw area.width (some_width w number some.0)
-
-pub append_tile-requires-clause-down : goal.append_tile-requires-clause-down
-append_tile-requires-clause-down c =
-    let w = c.args.w in
-    let h = c.args.h in
-    let number = c.loop-number.number in
-    let less : number < tile_count w h = omega (arith, c.loop-number-test.true, c.count_tiles-number-end.ensures) in
-    let some = some_places w h number less in
-    let area = c.tile_area-area.ensures in
-    rw area.height (some_height w h number some.0 less)
-
-pub tile_colors-tile-requires-clause-columns : goal.tile_colors-tile-requires-clause-columns
-tile_colors-tile-requires-clause-columns c =
-    let w = c.args.w in
-    let h = c.args.h in
-    let number = c.loop-number.number in
-    let less : number < tile_count w h = omega (arith, c.loop-number-test.true, c.count_tiles-number-end.ensures) in
-    let some = some_places w h number less in
-    let area = c.tile_area-area.ensures in
-    rw (area.left, area.width) (tile_across w number some.0)
-
-pub tile_colors-tile-requires-clause-rows : goal.tile_colors-tile-requires-clause-rows
-tile_colors-tile-requires-clause-rows c =
-    let w = c.args.w in
-    let h = c.args.h in
-    let number = c.loop-number.number in
-    let less : number < tile_count w h = omega (arith, c.loop-number-test.true, c.count_tiles-number-end.ensures) in
-    let some = some_places w h number less in
-    let area = c.tile_area-area.ensures in
-    let down = tile_down w h number some.0 less in
-    rw (area.top, area.height, c.requires.size) (mul-le-mul_right w down)
 
 pub slice_bounds-tile-end : goal.slice_bounds-tile-end
 slice_bounds-tile-end c =
-    let area = c.tile_area-area.ensures in
-    let wide : c.tile_area-area.result.w ≤ 16 = omega arith in
-    let high : c.tile_area-area.result.h ≤ 16 = omega arith in
-    let most : c.tile_area-area.result.w * c.tile_area-area.result.h ≤ 256 = mul-le-mul wide high in
-    let fits : c.tile_area-area.result.w * c.tile_area-area.result.h ≤ length c.tile_colors-tile.result = omega (arith, most, c.tile_colors-tile.ensures.size) in
-    fits
+    few_places c.tile_area-area.result.w c.tile_area-area.result.h (length c.tile_colors-tile.result)
+    (omega (arith, c.tile_area-area.ensures.width)) (omega (arith, c.tile_area-area.ensures.height)) c.tile_colors-tile.ensures.size
 
 pub slice_bounds-append_tile-end : goal.slice_bounds-append_tile-end
 slice_bounds-append_tile-end c =
-    let area = c.tile_area-area.ensures in
-    let wide : c.tile_area-area.result.w ≤ 16 = omega arith in
-    let high : c.tile_area-area.result.h ≤ 16 = omega arith in
-    let most : c.tile_area-area.result.w * c.tile_area-area.result.h ≤ 256 = mul-le-mul wide high in
-    let fits : c.tile_area-area.result.w * c.tile_area-area.result.h ≤ length c.tile_colors-tile.result = omega (arith, most, c.tile_colors-tile.ensures.size) in
+    let fits = few_places c.tile_area-area.result.w c.tile_area-area.result.h (length c.tile_colors-tile.result)
+    (omega (arith, c.tile_area-area.ensures.width)) (omega (arith, c.tile_area-area.ensures.height)) c.tile_colors-tile.ensures.size in
     sym (length-take-le _ c.tile_colors-tile.result fits)
 
 pub append_tile-requires-clause-size : goal.append_tile-requires-clause-size
 append_tile-requires-clause-size c =
-    let area = c.tile_area-area.ensures in
-    let wide : c.tile_area-area.result.w ≤ 16 = omega arith in
-    let high : c.tile_area-area.result.h ≤ 16 = omega arith in
-    let most : c.tile_area-area.result.w * c.tile_area-area.result.h ≤ 256 = mul-le-mul wide high in
-    let fits : c.tile_area-area.result.w * c.tile_area-area.result.h ≤ length c.tile_colors-tile.result = omega (arith, most, c.tile_colors-tile.ensures.size) in
+    let fits = few_places c.tile_area-area.result.w c.tile_area-area.result.h (length c.tile_colors-tile.result)
+    (omega (arith, c.tile_area-area.ensures.width)) (omega (arith, c.tile_area-area.ensures.height)) c.tile_colors-tile.ensures.size in
     length-take-le _ c.tile_colors-tile.result fits
 
 pub append_tile-requires-clause-within : goal.append_tile-requires-clause-within
 append_tile-requires-clause-within c =
-    let w = c.args.w in
-    let h = c.args.h in
     let number = c.loop-number.number in
-    let less : number < tile_count w h = omega (arith, c.loop-number-test.true, c.count_tiles-number-end.ensures) in
-    let some = some_places w h number less in
+    let less : number < tile_count c.args.w c.args.h = omega (arith, c.loop-number-test.true, c.count_tiles-number-end.ensures) in
     let area = c.tile_area-area.ensures in
-    let wide : c.tile_area-area.result.w ≤ 16 = omega arith in
-    let high : c.tile_area-area.result.h ≤ 16 = omega arith in
-    let most : c.tile_area-area.result.w * c.tile_area-area.result.h ≤ 256 = mul-le-mul wide high in
-    let fits : c.tile_area-area.result.w * c.tile_area-area.result.h ≤ length c.tile_colors-tile.result = omega (arith, most, c.tile_colors-tile.ensures.size) in
-    tile_within c.args.format.now w h c.args.colors.now c.tile_colors-tile.result number c.tile_area-area.result.w c.tile_area-area.result.h less area.width area.height
+    let fits = few_places c.tile_area-area.result.w c.tile_area-area.result.h (length c.tile_colors-tile.result)
+    (omega (arith, c.tile_area-area.ensures.width)) (omega (arith, c.tile_area-area.ensures.height)) c.tile_colors-tile.ensures.size in
+    tile_within c.args.format.now c.args.w c.args.h c.args.colors.now c.tile_colors-tile.result number c.tile_area-area.result.w c.tile_area-area.result.h less area.width area.height
     c.requires.size (rw (area.left, area.top) at c.tile_colors-tile.ensures.colors) fits c.requires.within
 
 pub loop-number-preserved : goal.loop-number-preserved
@@ -123,7 +37,6 @@ loop-number-preserved c =
     let h = c.args.h in
     let number = c.loop-number.number in
     let less : number < tile_count w h = omega (arith, c.loop-number-test.true, c.count_tiles-number-end.ensures) in
-    let some = some_places w h number less in
     let area = c.tile_area-area.ensures in
     one_written c.args.format.now w h c.args.colors.now c.tile_colors-tile.result (take (c.tile_area-area.result.w * c.tile_area-area.result.h) c.tile_colors-tile.result) number
     c.loop-number.known c.in_ok-known.known c.tile_area-area.result.w c.tile_area-area.result.h c.args.bytes.now.items c.loop-number.bytes.items c.append_tile.new.bytes.items less

@@ -1,7 +1,7 @@
 use Rattle.std.proofs.Common.{◌≡◌, ◌∙◌, ◌<◌, ℕ, subst, arith, refl, []}
 use Rattle.hextile.proofs.Held.{black_pixel}
 use Rattle.hextile.specs.Tiles.{tile_count}
-use Rattle.hextile.proofs.Tiling.{some_places, tile_across, tile_down}
+use Rattle.hextile.proofs.Tiling.{some_places}
 use Rattle.hextile.proofs.PaintedTiles.{TilesProgress, tiles_begin, next_tile, tiles_go, tiles_end}
 use Rattle.hextile.proofs.painting.paint.Goals as goal
 
@@ -14,96 +14,6 @@ loop-number-init g c = record {
   painted = λ tiles is. tiles_begin c.args.format.now c.args.x c.args.y c.args.w c.args.h tiles c.args.bytes.now
       (g.C.Canvas.width c.args.canvas.now) (g.C.Canvas.height c.args.canvas.now) (g.C.Canvas.picture c.args.canvas.now) is;
 }
-
-pub tile_area-tile-requires-clause-across : goal.tile_area-tile-requires-clause-across
-tile_area-tile-requires-clause-across g c =
-    let w = c.args.w in
-    let h = c.args.h in
-    let number = c.loop-number.number in
-    let less : number < tile_count w h = omega (arith, c.loop-number-test.true, c.count_tiles-number-end.ensures) in
-    let some = some_places w h number less in
-    some.0
-
-pub tile_area-tile-requires-clause-down : goal.tile_area-tile-requires-clause-down
-tile_area-tile-requires-clause-down g c =
-    let w = c.args.w in
-    let h = c.args.h in
-    let number = c.loop-number.number in
-    let less : number < tile_count w h = omega (arith, c.loop-number-test.true, c.count_tiles-number-end.ensures) in
-    let some = some_places w h number less in
-    some.1
-
-pub overflow_add-area : goal.overflow_add-area
-overflow_add-area g c =
-    let w = c.args.w in
-    let h = c.args.h in
-    let number = c.loop-number.number in
-    let less : number < tile_count w h = omega (arith, c.loop-number-test.true, c.count_tiles-number-end.ensures) in
-    let some = some_places w h number less in
-    let tile = c.tile_area-tile.ensures in
-    let across = tile_across w number some.0 in
-    let down = tile_down w h number some.0 less in
-    omega (arith, across, tile.left, c.requires.last_column)
-
-pub overflow_add-area-in-loop-number : goal.overflow_add-area-in-loop-number
-overflow_add-area-in-loop-number g c =
-    let w = c.args.w in
-    let h = c.args.h in
-    let number = c.loop-number.number in
-    let less : number < tile_count w h = omega (arith, c.loop-number-test.true, c.count_tiles-number-end.ensures) in
-    let some = some_places w h number less in
-    let tile = c.tile_area-tile.ensures in
-    let across = tile_across w number some.0 in
-    let down = tile_down w h number some.0 less in
-    omega (arith, down, tile.top, c.requires.last_row)
-
-pub paint_tile-rest-requires-clause-columns : goal.paint_tile-rest-requires-clause-columns
-paint_tile-rest-requires-clause-columns g c =
-    let w = c.args.w in
-    let h = c.args.h in
-    let number = c.loop-number.number in
-    let less : number < tile_count w h = omega (arith, c.loop-number-test.true, c.count_tiles-number-end.ensures) in
-    let some = some_places w h number less in
-    let tile = c.tile_area-tile.ensures in
-    let across = tile_across w number some.0 in
-    let down = tile_down w h number some.0 less in
-    omega (arith, across, tile.left, tile.width, c.requires.columns, c.loop-number.invariant.width)
-
-pub paint_tile-rest-requires-clause-rows : goal.paint_tile-rest-requires-clause-rows
-paint_tile-rest-requires-clause-rows g c =
-    let w = c.args.w in
-    let h = c.args.h in
-    let number = c.loop-number.number in
-    let less : number < tile_count w h = omega (arith, c.loop-number-test.true, c.count_tiles-number-end.ensures) in
-    let some = some_places w h number less in
-    let tile = c.tile_area-tile.ensures in
-    let across = tile_across w number some.0 in
-    let down = tile_down w h number some.0 less in
-    omega (arith, down, tile.top, tile.height, c.requires.rows, c.loop-number.invariant.height)
-
-pub paint_tile-rest-requires-clause-last_column : goal.paint_tile-rest-requires-clause-last_column
-paint_tile-rest-requires-clause-last_column g c =
-    let w = c.args.w in
-    let h = c.args.h in
-    let number = c.loop-number.number in
-    let less : number < tile_count w h = omega (arith, c.loop-number-test.true, c.count_tiles-number-end.ensures) in
-    let some = some_places w h number less in
-    let tile = c.tile_area-tile.ensures in
-    let across = tile_across w number some.0 in
-    let down = tile_down w h number some.0 less in
-    omega (arith, across, tile.left, tile.width, c.requires.last_column)
-
-pub paint_tile-rest-requires-clause-last_row : goal.paint_tile-rest-requires-clause-last_row
-paint_tile-rest-requires-clause-last_row g c =
-    let w = c.args.w in
-    let h = c.args.h in
-    let number = c.loop-number.number in
-    let less : number < tile_count w h = omega (arith, c.loop-number-test.true, c.count_tiles-number-end.ensures) in
-    let some = some_places w h number less in
-    let tile = c.tile_area-tile.ensures in
-    let across = tile_across w number some.0 in
-    let down = tile_down w h number some.0 less in
-    omega (arith, down, tile.top, tile.height, c.requires.last_row)
 
 pub paint_tile-rest-requires-clause-begin : goal.paint_tile-rest-requires-clause-begin
 paint_tile-rest-requires-clause-begin g c =
