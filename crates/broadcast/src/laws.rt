@@ -5,14 +5,14 @@ ghost use Rattle.std.specs.Prelude.{◌≡◌, ◌+◌, List, ◌∷◌, ◌++�
 ghost use Rattle.std.specs.List.{AllByRecursion};
 ghost use Rattle.disk.specs.History.{History};
 ghost use Rattle.gated_journal.specs.Recording.{Head};
-ghost use Rattle.flusher_core.specs.State.{State as BookState, accepted_of, accepted_count};
+ghost use Rattle.flusher_core.specs.State.{State as BookState, committed_of, accepted_of, accepted_count};
 ghost use Rattle.flusher_core.specs.Lives.{Grows};
 ghost use Rattle.broadcast.specs.declared.step.Step.{Step};
 ghost use Rattle.broadcast.specs.declared.step.Reply.{Reply};
 ghost use Rattle.broadcast.specs.Seats.{State};
 ghost use Rattle.broadcast.specs.Steps.{IsStep, accepted_by};
 ghost use Rattle.broadcast.specs.Run.{IsRun};
-ghost use Rattle.broadcast.specs.Headline.{NothingIsLost};
+ghost use Rattle.broadcast.specs.Headline.{HandsOut, NothingIsLost};
 ghost use Rattle.broadcast.specs.Lives.{Run, Life, IsMade, AreLives, last_of, Keeps};
 
 /// Whatever is replied to a step, messages are only appended; and no step but `host` changes how
@@ -24,7 +24,7 @@ pub fn steps_only_append()
 {}
 
 /// Two runs, the second from where the first ended, are one run. A run that ended may be followed
-/// by one of no steps.
+/// by one of no steps. What was handed out from the committed messages stands in them for good.
 pub fn runs_go_on()
     ensures run { (head : Head) (old mid new : State) (first second : List Step) (replies more : List Reply)
         → IsRun head old first replies mid → IsRun head mid second more new → IsRun head old (first ++ second) (replies ++ more) new }
@@ -33,6 +33,8 @@ pub fn runs_go_on()
         → NothingIsLost old new head before after × Grows before after }
     ensures at_rest { (old new : History) (head : Head) (before after : BookState) → NothingIsLost old new head before after
         → IsMade head (record { old = new; new = new; before = after; after = after; replies = [] }) }
+    ensures handed { (head : Head) (before after : BookState) (reply : Reply) → Grows before after
+        → HandsOut head (committed_of before) reply → HandsOut head (committed_of after) reply }
 {}
 
 /// However many runs, crashes and openings there are: the last crash leaves a recording of whole
