@@ -3,13 +3,16 @@
 //! Each word names a file: what a host of 320 by 240 places sent behind its ServerInit, in the host
 //! format. Printed are the type and length of each recorded message, the colour of some places, and
 //! the SHA-256 of some screens, which are three bytes for each place, red, green and blue, by rows.
-//! They are compared with what an independent painter made.
+//! They are compared with what an independent painter made. Last comes what a session with such a
+//! host makes of a handshake and the stream.
 #![tactic(auto)]
 
 mod painting;
+mod session;
 mod stream;
 
 use painting::print_screens;
+use session::print_sessions;
 use std::{env, fs, io};
 use stream::messages_in_pieces;
 
@@ -22,6 +25,7 @@ fn main(rt: HostRuntime) -> io::Result<()> {
             continue;
         };
         print_screens(&rt, &messages)?;
+        print_sessions(&rt, &stream, &messages)?;
     }
     Ok(())
 }

@@ -32,8 +32,8 @@ fn messages_of(alloc: Global, stream: &[u8], length: usize) -> Result<Vec<HostMe
     Ok(messages)
 }
 
-// Whether the messages have the same bytes and rectangles.
-fn are_same(first: &[HostMessage], second: &[HostMessage]) -> bool {
+/// Whether the messages have the same bytes and rectangles.
+pub(crate) fn are_same(first: &[HostMessage], second: &[HostMessage]) -> bool {
     if first.len() != second.len() {
         return false;
     }
