@@ -16,8 +16,8 @@ pub record IsInHandshake (expected : Option (ℕ × ℕ)) (stream : List ℕ) (m
   pub reads : handshake_at expected stream ≡ record { said = said; heard = More }
   pub none : messages ≡ []
 
--- The handshake is whole: it was answered with these bytes, and this is told. Messages follow, and a
--- tail; those that are recorded are given.
+-- The handshake is whole: it was answered with these bytes, and this is told. Messages follow, and
+-- a tail; those that are recorded are given.
 pub record IsInMessages (limit : ℕ) (expected : Option (ℕ × ℕ)) (stream : List ℕ) (messages : List Host) (told : Told) (answers tail : List ℕ) : Type 0 where
   pub rest : List ℕ
   pub handshake : handshake_at expected stream ≡ record { said = answers; heard = Got told rest }
@@ -25,8 +25,8 @@ pub record IsInMessages (limit : ℕ) (expected : Option (ℕ × ℕ)) (stream :
   pub reads : Reads (message_at limit told.width told.height) rest parts tail
   pub messages_are : messages ≡ given_of (given told.width told.height) parts
 
--- The tail is an unfinished message. What was said is the handshake's answers and a request for each
--- update.
+-- The tail is an unfinished message. What was said is the handshake's answers and a request for
+-- each update.
 pub record WaitsForMore (limit : ℕ) (expected : Option (ℕ × ℕ)) (stream : List ℕ) (messages : List Host) (said : List ℕ) (told : Told) : Type 0 where
   pub answers : List ℕ
   pub tail : List ℕ
@@ -34,8 +34,8 @@ pub record WaitsForMore (limit : ℕ) (expected : Option (ℕ × ℕ)) (stream :
   pub waits : message_at limit told.width told.height tail ≡ More
   pub said_is : said ≡ answers ++ requests_after told.width told.height messages
 
--- A stream that isn't refused: what is told, once the handshake is whole, the messages that are given,
--- and what is said.
+-- A stream that isn't refused: what is told, once the handshake is whole, the messages that are
+-- given, and what is said.
 abbrev pub IsConversation : ℕ → Option (ℕ × ℕ) → List ℕ → Option Told → List Host → List ℕ → Type 0
 IsConversation limit expected stream None messages said = IsInHandshake expected stream messages said
 IsConversation limit expected stream (Some told) messages said = WaitsForMore limit expected stream messages said told
@@ -56,7 +56,8 @@ pub record IsRefusedInMessages (limit : ℕ) (expected : Option (ℕ × ℕ)) (s
   pub said_is : said ≡ answers ++ requests_after told.width told.height messages
   pub no_reason : reason ≡ []
 
--- What is told of a stream that is refused, the messages that are given, what is said, and the fault.
+-- What is told of a stream that is refused, the messages that are given, what is said, and the
+-- fault.
 abbrev pub IsRefusal : ℕ → Option (ℕ × ℕ) → List ℕ → Option Told → List Host → List ℕ → HostFault → List ℕ → Type 0
 IsRefusal limit expected stream None messages said f reason = IsRefusedInHandshake expected stream messages said f reason
 IsRefusal limit expected stream (Some told) messages said f reason = IsRefusedInMessages limit expected stream messages said told f reason

@@ -1,4 +1,5 @@
--- The handshake of a host's stream, as it is heard and answered (RFC 6143, sections 7.1 to 7.3, in version 3.8).
+-- The handshake of a host's stream, as it is heard and answered (RFC 6143, sections 7.1 to 7.3, in
+-- version 3.8).
 use Rattle.std.specs.Prelude.{ℕ, ◌+◌, ◌-◌, ◌*◌, ◌≤◌, min, List, [], ◌∷◌, ◌++◌, slice_index, nat_eq, nat_le, nat_lt, Bool, true, false, ◌&&◌, ◌||◌, Option, Some, None, if◌then◌else◌}
 use Rattle.std.specs.Str.{bytes_eq}
 use Rattle.pixel_format.specs.Format.{host_format}
@@ -16,7 +17,7 @@ pub record Told : Type 0 where
   pub height : ℕ
   pub name : List ℕ
 
--- why an handshake ends, and the host's own reason where it gives one
+-- why a handshake ends, and the host's own reason where it gives one
 pub record Refusal : Type 0 where
   pub fault : HostFault
   pub reason : List ℕ
@@ -54,7 +55,8 @@ whole width height = record { x = 0; y = 0; w = width; h = height }
 abbrev pub set_encodings : List ℕ
 set_encodings = 2 ∷ 0 ∷ 0 ∷ 4 ∷ 0 ∷ 0 ∷ 0 ∷ 1 ∷ 0 ∷ 0 ∷ 0 ∷ 5 ∷ 0 ∷ 0 ∷ 0 ∷ 2 ∷ 0 ∷ 0 ∷ 0 ∷ 0 ∷ []
 
--- what is sent once the screen is known: the format and the encodings, and a request for the whole screen
+-- what is sent once the screen is known: the format and the encodings, and a request for the whole
+-- screen
 abbrev pub first_requests : ℕ → ℕ → List ℕ
 first_requests width height = set_pixel_format_bytes host_format ++ set_encodings ++ request_bytes false (whole width height)
 

@@ -27,9 +27,10 @@ request_after width height m = if is_update m.bytes then request_bytes true (who
 abbrev pub requests_after : ℕ → ℕ → List Host → List ℕ
 requests_after width height messages = flat_map (request_after width height) messages
 
--- What contracts see of a session: the size that is expected, if one is; in the handshake what comes
--- next; what is kept of it and, behind the handshake, the host's name; behind the handshake, the reader
--- of its messages; the bytes that are due to the host; and the fault that was met, if one was.
+-- What contracts see of a session: the size that is expected, if one is; in the handshake what
+-- comes next; what is kept of it and, behind the handshake, the host's name; behind the handshake,
+-- the reader of its messages; the bytes that are due to the host; and the fault that was met, if
+-- one was.
 pub record Session : Type 0 where
   pub expected : Option (ℕ × ℕ)
   pub position : Position
@@ -42,7 +43,8 @@ pub record Session : Type 0 where
 abbrev pub start : Position
 start = positions.Field stages.Version
 
--- The handshake isn't whole: the stream so far, answered with this, leads to where the session stands.
+-- The handshake isn't whole: the stream so far, answered with this, leads to where the session
+-- stands.
 pub record IsHandshake (expected : Option (ℕ × ℕ)) (position : Position) (kept stream : List ℕ) (messages : List Host) (said : List ℕ) : Type 0 where
   pub leads : Leads expected start [] stream said position kept
   -- nothing is refused so far, and all that is due was said
@@ -74,8 +76,8 @@ abbrev pub Stands : ℕ → Option (ℕ × ℕ) → Position → List ℕ → Op
 Stands limit expected position kept None stream messages said = IsHandshake expected position kept stream messages said
 Stands limit expected position kept (Some r) stream messages said = IsListening limit expected kept r stream messages said
 
--- A session that has got this stream, has given these messages, and has put out these bytes. Nothing
--- in the stream is refused.
+-- A session that has got this stream, has given these messages, and has put out these bytes.
+-- Nothing in the stream is refused.
 abbrev pub IsAfter : ℕ → Session → List ℕ → List Host → List ℕ → Type 0
 IsAfter limit s stream messages sent = Stands limit s.expected s.position s.kept s.reader stream messages (sent ++ s.due)
 

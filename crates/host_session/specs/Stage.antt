@@ -96,7 +96,8 @@ IsStep expected stage field step = (more : List ℕ)
 abbrev pub IsFault : Option (ℕ × ℕ) → Stage → List ℕ → HostFault → Type 0
 IsFault expected stage field f = (more : List ℕ) → resume expected stage (field ++ more) ≡ failed f field
 
--- From a position on, these bytes are answered with these and lead to another position, whatever comes.
+-- From a position on, these bytes are answered with these and lead to another position, whatever
+-- comes.
 pub record Leads (expected : Option (ℕ × ℕ)) (old : Position) (before bytes said : List ℕ) (new : Position) (after : List ℕ) : Type 0 where
   pub link : (more : List ℕ) → position_at expected old before (bytes ++ more) ≡ say said (position_at expected new after more)
 

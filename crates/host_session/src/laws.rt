@@ -7,8 +7,8 @@ ghost use Rattle.host_session.specs.Handshake.{Told};
 ghost use Rattle.host_session.specs.Session.{Session, IsAfter, EndsAfter, AreGiven, told_by, reason_in};
 ghost use Rattle.host_session.specs.Conversation.{IsConversation, IsRefusal, AreOfStream};
 
-/// What a session has given and said is what its stream says, and no more. The size and the name are
-/// told as soon as the handshake is whole.
+/// What a session has given and said is what its stream says, and no more. The size and the name
+/// are told as soon as the handshake is whole.
 pub fn a_session_follows_its_stream()
     ensures { (limit : ℕ) → (s : Session) → (stream sent : List ℕ) → (messages : List Host)
         → IsAfter limit s stream messages sent
@@ -29,8 +29,8 @@ pub fn a_stopped_session_follows_its_stream()
         → AreOfStream limit s.expected stream (told_by s.reader s.kept) messages }
 {}
 
-/// A stream is one conversation at most, and none that is refused is one. A stream that is refused is
-/// refused with one fault and one reason.
+/// A stream is one conversation at most, and none that is refused is one. A stream that is refused
+/// is refused with one fault and one reason.
 pub fn one_conversation()
     ensures same { (limit : ℕ) → (expected : Option (ℕ × ℕ)) → (stream said answered : List ℕ)
         → (told known : Option Told) → (messages others : List Host)

@@ -58,8 +58,8 @@ impl Progress {
         Ok(Some(whole.taken))
     }
 
-    /// Takes a piece of the stream, gives each message that is whole now, and appends what is due to
-    /// the host.
+    /// Takes a piece of the stream, gives each message that is whole now, and appends what is due
+    /// to the host.
     pub fn feed(
         &mut self,
         alloc: Global,

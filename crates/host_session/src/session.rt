@@ -31,9 +31,9 @@ fn make_due(heard: Result<(), HostFault>, said: &[u8], due: &mut Vec<u8>) -> Res
 }
 
 /// The recorder's side of a connection to a VNC host (RFC 6143, sections 7.1 to 7.6), without a
-/// socket. It is fed the host's bytes in pieces of any length, gives the recorded messages, and puts
-/// out the bytes that are due to the host: its part of the handshake, and then a request for each
-/// update. Each byte is looked at once, and memory is taken for bytes that have come alone.
+/// socket. It is fed the host's bytes in pieces of any length, gives the recorded messages, and
+/// puts out the bytes that are due to the host: its part of the handshake, and then a request for
+/// each update. Each byte is looked at once, and memory is taken for bytes that have come alone.
 #[derive(Drop)]
 pub struct HostSession {
     alloc: Global,
@@ -80,9 +80,9 @@ impl HostSession {
     }
 
     /// Takes the next piece of the host's stream, and appends each recorded message that is whole
-    /// now. A fault is answered at the last byte of the field that holds it, once the messages before
-    /// it are appended and are answered; from then on each call answers the same fault and does
-    /// nothing else, also where memory ran out.
+    /// now. A fault is answered at the last byte of the field that holds it, once the messages
+    /// before it are appended and are answered; from then on each call answers the same fault and
+    /// does nothing else, also where memory ran out.
     pub fn feed(&mut self, piece: &[u8], out: &mut Vec<HostMessage>) -> Result<(), HostFault>
         // Whatever stream the session has got, it has got the piece too, and goes on: the messages
         // of all that stream are given, and what is due to it is due.
@@ -119,8 +119,8 @@ impl HostSession {
         Ok(())
     }
 
-    /// Appends the bytes that are due to the host, each once. Want of memory changes nothing. After a
-    /// fault it still gives what was due.
+    /// Appends the bytes that are due to the host, each once. Want of memory changes nothing. After
+    /// a fault it still gives what was due.
     pub fn out(&mut self, out: &mut Vec<u8>) -> Result<(), NoMemory>
         ensures ok { OnOk result ((out.new.items ≡ out.old.items ++ self.old.due)
             × (self.new ≡ record self.old { due = [] })) }
@@ -153,8 +153,8 @@ impl HostSession {
         }
     }
 
-    /// The reason that the host gave for its refusal, once `feed` has answered `Failed`; of a longer
-    /// one the first 1,024 bytes. Else it is empty.
+    /// The reason that the host gave for its refusal, once `feed` has answered `Failed`; of a
+    /// longer one the first 1,024 bytes. Else it is empty.
     pub fn reason(&self) -> &[u8]
         ensures value { result.now ≡ reason_in self.now.fault self.now.kept }
     {

@@ -315,8 +315,8 @@ fn reasons_of_any_length(rt: HostRuntime) -> Result<(), Fail> {
     Ok(())
 }
 
-// With memory at hand all is given and said. Where an allocation fails, `feed` answers that for good
-// and `out` has changed nothing, and what was put out is a beginning of it.
+// With memory at hand all is given and said. Where an allocation fails, `feed` answers that for
+// good and `out` has changed nothing, and what was put out is a beginning of it.
 #[test]
 fn want_of_memory(rt: HostRuntime) -> Result<(), Fail> {
     let stream = red_stream(rt.alloc())?;
