@@ -13,6 +13,3 @@ pub use laws::{any_number_of_runs_and_crashes, runs_go_on, steps_only_append};
 pub use refusal::{JoinRefusal, LeaveRefusal, NextRefusal, SeekRefusal};
 pub use seat::{Seat, Seated, Start};
 pub use step::{Reply, Step};
-
-#[cfg(test)]
-mod tests;

@@ -24,6 +24,3 @@ pub use write::{
     write_set_encodings, write_set_pixel_format, written_encodings_are_read,
     written_format_is_read, written_input_is_read, written_request_is_read,
 };
-
-#[cfg(test)]
-mod tests;

@@ -19,6 +19,3 @@ pub use laws::{grammar_reads_data, no_data_begin_others, one_reading_of_data};
 pub use measuring::{Measuring, measure};
 pub use painting::paint;
 pub use position::{Position, TileHead};
-
-#[cfg(test)]
-mod tests;

@@ -6,7 +6,6 @@
 #![tactic(auto)]
 
 mod rectangle;
-mod sheet;
 
 use rectangle::{Rectangle, first_rectangle};
 use std::{env, fs, io};

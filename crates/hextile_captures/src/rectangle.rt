@@ -4,9 +4,11 @@ ghost use Rattle.std.specs.Prelude.{◌≤◌, ◌+◌, length, IfSome};
 ghost use Rattle.pixel_format.specs.Format.{host_format};
 ghost use Rattle.hextile.specs.Data.{AreData};
 
-use crate::sheet::{HEIGHT, Sheet, WIDTH};
 use hextile::{Measure, Measuring, measure, paint};
-use pixel_format::PixelFormat;
+use pixel_format::{Color, PixelFormat};
+use wire_tests::{HEIGHT, Sheet, WIDTH};
+
+const BLACK: Color = Color { r: 0, g: 0, b: 0 };
 
 /// A rectangle that fits on a sheet, and the bytes of its data.
 #[derive(Clone, Copy)]
@@ -75,7 +77,7 @@ impl Rectangle<'_> {
         requires columns { self.now.w ≤ 320 }
         requires rows { self.now.h ≤ 120 }
     {
-        let mut sheet = Sheet::black();
+        let mut sheet = Sheet::new(BLACK);
         paint(
             &PixelFormat::host(),
             0,
@@ -85,6 +87,14 @@ impl Rectangle<'_> {
             self.bytes,
             &mut sheet,
         );
-        sheet.checksum(self.w, self.h)
+        let mut sum = 0u32;
+        for y in 0..self.h {
+            for x in 0..self.w {
+                let color = sheet.color(x, y);
+                let number = ((color.r as u32) << 16) | ((color.g as u32) << 8) | color.b as u32;
+                sum = sum.wrapping_mul(31).wrapping_add(number).wrapping_add(1);
+            }
+        }
+        sum
     }
 }

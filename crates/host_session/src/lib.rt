@@ -16,6 +16,3 @@ pub use laws::{
     one_conversation,
 };
 pub use session::HostSession;
-
-#[cfg(test)]
-mod tests;

@@ -8,6 +8,3 @@ mod screen;
 
 pub use laws::written_update_paints;
 pub use screen::Screen;
-
-#[cfg(test)]
-mod tests;

@@ -23,6 +23,3 @@ pub struct Color {
     pub g: u16,
     pub b: u16,
 }
-
-#[cfg(test)]
-mod tests;

@@ -1,6 +1,7 @@
 //! The command line.
 
-use crate::drill;
+ghost use Rattle.std.specs.Prelude.{◌≤◌, IfOk};
+
 use clap::Command;
 use clap::error::ErrorKind;
 use std::alloc::Global;
@@ -45,7 +46,9 @@ fn run<I: Read + Drop, O: Write, E: Write>(
     input: I,
     out: &mut O,
     err: &mut E,
-) -> io::Result<u8> {
+) -> io::Result<u8>
+    ensures { IfOk result (λ status. status ≤ 2) }
+{
     let status = match read_words(alloc, words)? {
         Chosen::Drill => {
             if drill::run(alloc, input, out)? {
@@ -76,7 +79,9 @@ pub fn command<I: Read + Drop, O: Write, E: Write>(
     input: I,
     out: &mut O,
     err: &mut E,
-) -> u8 {
+) -> u8
+    ensures { result ≤ 2 }
+{
     match run(alloc, words, input, out, err) {
         Ok(status) => status,
         Err(_) => REFUSED,

@@ -1,11 +1,7 @@
 //! `recorderd`, a crash-safe recorder of VNC sessions.
 #![tactic(auto)]
 
-mod answer;
 mod command;
-mod drill;
-mod fuse;
-mod steps;
 
 use std::process::ExitCode;
 use std::{env, io};
@@ -25,7 +21,5 @@ fn main(rt: HostRuntime) -> ExitCode {
     }
 }
 
-#[cfg(test)]
-mod crash_tests;
 #[cfg(test)]
 mod tests;

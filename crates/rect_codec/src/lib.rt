@@ -10,6 +10,3 @@ mod update;
 pub use encoding::{Encoding, pick};
 pub use laws::written_update_is_read;
 pub use update::write_update;
-
-#[cfg(test)]
-mod tests;

@@ -13,6 +13,3 @@ pub use fields::{lies_inside, source_at};
 pub use judging::Judging;
 pub use laws::{grammar_reads_data, no_data_begin_others};
 pub use measuring::measure;
-
-#[cfg(test)]
-mod tests;

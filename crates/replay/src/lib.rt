@@ -8,6 +8,3 @@ mod screens;
 pub use fault::ReplayFault;
 pub use playing::{Replay, from_block};
 pub use screens::screen_at;
-
-#[cfg(test)]
-mod tests;

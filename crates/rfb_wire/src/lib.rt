@@ -28,6 +28,3 @@ pub use write::{
     write_bell, write_color_map, write_cut_text, write_raw_update, written_bell_is_read,
     written_color_map_is_read, written_text_is_read, written_update_is_read,
 };
-
-#[cfg(test)]
-mod tests;

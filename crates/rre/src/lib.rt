@@ -17,6 +17,3 @@ pub use fault::Measure;
 pub use laws::{grammar_reads_data, no_data_begin_others, one_reading_of_data};
 pub use measuring::{Measuring, measure};
 pub use painting::paint;
-
-#[cfg(test)]
-mod tests;

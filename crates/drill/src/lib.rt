@@ -1,0 +1,14 @@
+//! Drills: scripts that run on a desk over a disk in memory, which fails when they say so.
+#![tactic(auto)]
+
+mod answer;
+mod bench;
+mod fuse;
+mod steps;
+
+pub use bench::run;
+
+#[cfg(test)]
+mod crash_tests;
+#[cfg(test)]
+mod tests;

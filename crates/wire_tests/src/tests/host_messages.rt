@@ -1,0 +1,383 @@
+//! What no clause says: messages of a host worked by hand, in pieces of every length.
+
+ghost use Rattle.std.specs.Prelude.{◌<◌, length};
+
+use pixel_format::Color;
+use rfb_wire::*;
+use std::alloc::Global;
+use std::test::Fail;
+
+mod encodings;
+
+// One red pixel at (0, 0): an update of one Raw rectangle.
+const RED: [u8; 20] = [0, 0, 0, 1, 0, 0, 0, 0, 0, 1, 0, 1, 0, 0, 0, 0, 0, 0, 255, 0];
+
+// What a reader of a screen of 1 by 1 makes of bytes that come in pieces of this length: its
+// messages, and its fault.
+fn read(alloc: Global, bytes: &[u8], length: usize) -> (Vec<HostMessage>, Option<WireFault>)
+    requires { 0 < length }
+{
+    let mut reader = ServerReader::new(alloc, 1, 1);
+    let mut messages = Vec::new(alloc);
+    let mut fault = None;
+    for piece in bytes.chunks(length) {
+        fault = reader.feed(piece, &mut messages).err();
+    }
+    (messages, fault)
+}
+
+#[test]
+fn one_message_in_any_pieces(rt: HostRuntime) {
+    for length in 1..=20 {
+        let (messages, fault) = read(rt.alloc(), &RED, length);
+        assert_eq!(rt; fault, None);
+        assert_eq!(rt; messages.len(), 1);
+        assert_eq!(rt; messages[0].bytes(), RED.as_slice());
+        assert_eq!(rt; messages[0].size(), (1, 1));
+    }
+    let (messages, fault) = read(rt.alloc(), &RED[..19], 20);
+    assert_eq!(rt; (messages.len(), fault), (0, None));
+}
+
+#[test]
+fn rectangle_of_an_update(rt: HostRuntime) -> Result<(), Fail> {
+    let message = HostMessage::from_bytes(rt.alloc(), 1, 1, &RED)?;
+    let area = Area {
+        x: 0,
+        y: 0,
+        w: 1,
+        h: 1,
+    };
+    let rectangle = Rectangle {
+        area,
+        encoding: Encoding::Raw,
+        start: 16,
+        end: 20,
+    };
+    assert_eq!(rt; message.rectangles(), [rectangle].as_slice());
+    let again = message.copy(rt.alloc())?;
+    assert_eq!(rt; again.bytes(), RED.as_slice());
+    Ok(())
+}
+
+#[test]
+fn messages_told_apart(rt: HostRuntime) -> Result<(), Fail> {
+    let red = HostMessage::from_bytes(rt.alloc(), 1, 1, &RED)?;
+    let bell = HostMessage::from_bytes(rt.alloc(), 1, 1, &[2])?;
+    let other = HostMessage::from_bytes(rt.alloc(), 2, 1, &[2])?;
+    assert!(rt; red.is_update());
+    assert!(rt; !bell.is_update());
+    assert!(rt; red.same(&red.copy(rt.alloc())?));
+    assert!(rt; !red.same(&bell));
+    assert!(rt; !bell.same(&other));
+    assert_eq!(rt; ServerReader::new(rt.alloc(), 3, 2).size(), (3, 2));
+    Ok(())
+}
+
+// The fault stands at the last of the bytes: one byte less has none, and the reader keeps it.
+fn faults_at_the_end(alloc: Global, bytes: &[u8], expected: WireFault) -> bool
+    requires { 0 < length bytes.now }
+{
+    let (_, before) = read(alloc, &bytes[..bytes.len() - 1], 1);
+    let (_, fault) = read(alloc, bytes, 1);
+    before.is_none() && fault == Some(expected)
+}
+
+#[test]
+fn each_fault_at_its_byte(rt: HostRuntime) {
+    let alloc = rt.alloc();
+    assert!(rt; faults_at_the_end(alloc, &[9], WireFault::UnknownType));
+    let mut outside = RED;
+    outside[5] = 1;
+    assert!(rt; faults_at_the_end(alloc, &outside[..16], WireFault::OutsideScreen));
+    // The area is judged before the encoding.
+    outside[12] = 255;
+    assert!(rt; faults_at_the_end(alloc, &outside[..16], WireFault::OutsideScreen));
+    let mut encoding = RED;
+    encoding[12] = 255;
+    encoding[13] = 255;
+    encoding[14] = 255;
+    encoding[15] = 17;
+    assert!(rt; faults_at_the_end(alloc, &encoding[..16], WireFault::Encoding(-239)));
+    assert_eq!(rt; WireFault::Encoding(-239).number(), 3);
+}
+
+#[test]
+fn a_fault_is_for_good(rt: HostRuntime) {
+    let mut reader = ServerReader::new(rt.alloc(), 1, 1);
+    let mut messages = Vec::new(rt.alloc());
+    let mut bytes = [0; 21];
+    bytes[..20].copy_from_slice(&RED);
+    bytes[20] = 9;
+    assert_eq!(rt;
+        reader.feed(&bytes, &mut messages),
+        Err(WireFault::UnknownType)
+    );
+    assert_eq!(rt; messages.len(), 1);
+    assert_eq!(rt;
+        reader.feed(&RED, &mut messages),
+        Err(WireFault::UnknownType)
+    );
+    assert_eq!(rt; messages.len(), 1);
+}
+
+#[test]
+fn too_long_at_its_byte(rt: HostRuntime) -> Result<(), Fail> {
+    let mut reader = ServerReader::new(rt.alloc(), 8_192, 2_049);
+    let mut messages = Vec::new(rt.alloc());
+    // One Raw rectangle over the whole screen: 67,141,648 bytes in all.
+    let head = [0, 0, 0, 1, 0, 0, 0, 0, 32, 0, 8, 1, 0, 0, 0, 0];
+    let zeros = vec![in rt.alloc(); 0; 65_536]?;
+    assert_eq!(rt; reader.feed(&head, &mut messages), Ok(()));
+    for _ in 0..1_023 {
+        assert_eq!(rt; reader.feed(&zeros, &mut messages), Ok(()));
+    }
+    assert_eq!(rt; zeros.len(), 65_536);
+    assert_eq!(rt; reader.feed(&zeros[16..], &mut messages), Ok(()));
+    assert_eq!(rt;
+        reader.feed(&zeros[..1], &mut messages),
+        Err(WireFault::TooLong)
+    );
+    assert_eq!(rt; messages.len(), 0);
+    Ok(())
+}
+
+#[test]
+fn bytes_that_are_no_message(rt: HostRuntime) {
+    let alloc = rt.alloc();
+    for bytes in [&RED[..19], &RED[..0]] {
+        let fault = HostMessage::from_bytes(alloc, 1, 1, bytes).err();
+        assert_eq!(rt; fault, Some(BytesFault::NotOne));
+    }
+    let fault = HostMessage::from_bytes(alloc, 1, 1, &[9]).err();
+    assert_eq!(rt; fault.map(|f| f.number()), Some(1));
+    assert_eq!(rt; BytesFault::NotOne.number(), 0);
+}
+
+// The messages that a reader of a screen of 1 by 1 makes of the bytes, in one piece and byte by
+// byte, are this one.
+fn is_one_message(alloc: Global, bytes: &[u8], expected: &[u8]) -> bool {
+    for length in [1, 7, 200_000] {
+        let (messages, fault) = read(alloc, bytes, length);
+        if fault.is_some() || messages.len() != 1 || messages[0].bytes() != expected {
+            return false;
+        }
+    }
+    true
+}
+
+#[test]
+fn messages_without_rectangles(rt: HostRuntime) -> Result<(), Fail> {
+    let alloc = rt.alloc();
+    // A colour map of one colour is read over, and a bell follows.
+    let bytes = [1, 0, 0, 0, 0, 1, 0, 0, 0, 0, 0, 0, 2];
+    assert!(rt; is_one_message(alloc, &bytes, &[2]));
+    // A text of two bytes, and one of none.
+    let text = [3, 0, 0, 0, 0, 0, 0, 2, 104, 105];
+    assert!(rt; is_one_message(alloc, &text, &text));
+    let empty = [3, 9, 9, 9, 0, 0, 0, 0];
+    assert!(rt; is_one_message(alloc, &empty, &empty));
+    let bell = HostMessage::from_bytes(alloc, 1, 1, &[2])?;
+    assert_eq!(rt; bell.rectangles().len(), 0);
+    // An empty colour map is no recorded message.
+    let fault = HostMessage::from_bytes(alloc, 1, 1, &[1, 0, 0, 0, 0, 0]).err();
+    assert_eq!(rt; fault, Some(BytesFault::NotOne));
+    let fault = HostMessage::from_bytes(alloc, 1, 1, &[2, 2]).err();
+    assert_eq!(rt; fault, Some(BytesFault::NotOne));
+    let fault = HostMessage::from_bytes(alloc, 1, 1, &[2, 9]).err();
+    assert_eq!(rt; fault, Some(BytesFault::Wire(WireFault::UnknownType)));
+    Ok(())
+}
+
+#[test]
+fn texts_at_the_limit(rt: HostRuntime) -> Result<(), Fail> {
+    let alloc = rt.alloc();
+    // 65,536 bytes are recorded, 65,537 are read over; a bell follows each.
+    let mut recorded = vec![in alloc; 0; 8 + 65_536 + 1]?;
+    recorded[0] = 3;
+    recorded[5] = 1;
+    recorded[8 + 65_536] = 2;
+    let (messages, fault) = read(alloc, &recorded, 1_000);
+    assert_eq!(rt; (messages.len(), fault), (2, None));
+    assert_eq!(rt; messages[0].bytes().len(), 8 + 65_536);
+    let mut over = vec![in alloc; 0; 8 + 65_537 + 1]?;
+    over[0] = 3;
+    over[5] = 1;
+    over[7] = 1;
+    over[8 + 65_537] = 2;
+    assert!(rt; is_one_message(alloc, &over, &[2]));
+    Ok(())
+}
+
+#[test]
+fn two_rectangles_are_too_long(rt: HostRuntime) -> Result<(), Fail> {
+    let mut reader = ServerReader::new(rt.alloc(), 4_096, 2_048);
+    let mut messages = Vec::new(rt.alloc());
+    // Two Raw rectangles over the whole screen: 67,108,892 bytes in all.
+    let head = [0, 0, 0, 2];
+    let rectangle = [0, 0, 0, 0, 16, 0, 8, 0, 0, 0, 0, 0];
+    let zeros = vec![in rt.alloc(); 0; 65_536]?;
+    assert_eq!(rt; reader.feed(&head, &mut messages), Ok(()));
+    assert_eq!(rt; reader.feed(&rectangle, &mut messages), Ok(()));
+    for _ in 0..512 {
+        assert_eq!(rt; reader.feed(&zeros, &mut messages), Ok(()));
+    }
+    assert_eq!(rt; reader.feed(&rectangle, &mut messages), Ok(()));
+    for _ in 0..511 {
+        assert_eq!(rt; reader.feed(&zeros, &mut messages), Ok(()));
+    }
+    assert_eq!(rt; zeros.len(), 65_536);
+    // 2 ^ 26 bytes are there, and then one more.
+    assert_eq!(rt; reader.feed(&zeros[28..], &mut messages), Ok(()));
+    assert_eq!(rt;
+        reader.feed(&zeros[..1], &mut messages),
+        Err(WireFault::TooLong)
+    );
+    assert_eq!(rt; messages.len(), 0);
+    Ok(())
+}
+
+#[test]
+fn messages_that_are_written(rt: HostRuntime) -> Result<(), Fail> {
+    let alloc = rt.alloc();
+    let mut host = Vec::new(alloc);
+    write_cut_text(b"hi", &mut host)?;
+    assert!(rt; is_one_message(alloc, &host, &[3, 0, 0, 0, 0, 0, 0, 2, 104, 105]));
+    host.clear();
+    write_bell(&mut host)?;
+    assert!(rt; is_one_message(alloc, &host, &[2]));
+    // One red pixel, as a viewer of 16 bits has it.
+    host.clear();
+    let area = Area {
+        x: 1,
+        y: 258,
+        w: 1,
+        h: 1,
+    };
+    write_raw_update(area, &[0, 248], &mut host)?;
+    let update = [0, 0, 0, 1, 0, 1, 1, 2, 0, 1, 0, 1, 0, 0, 0, 0, 0, 248];
+    assert_eq!(rt; host.as_slice(), update.as_slice());
+    host.clear();
+    let color = Color {
+        r: 65_535,
+        g: 256,
+        b: 1,
+    };
+    write_color_map(258, &[color], &mut host)?;
+    let map = [1, 0, 1, 2, 0, 1, 255, 255, 1, 0, 0, 1];
+    assert_eq!(rt; host.as_slice(), map.as_slice());
+    written_update_is_read();
+    written_color_map_is_read();
+    written_bell_is_read();
+    written_text_is_read();
+    Ok(())
+}
+
+// Whether the plain function and a reader, which gets one byte at a time, say the same of bytes
+// that begin with at most one message.
+fn agree(alloc: Global, bytes: &[u8]) -> bool {
+    let (messages, fault) = read(alloc, bytes, 1);
+    match read_message(alloc, 1, 1, bytes) {
+        Ok(Some(Front::Recorded(message))) => {
+            messages.len() == 1 && messages[0].bytes() == message.bytes()
+        }
+        Ok(Some(Front::ReadOver(length))) => {
+            messages.is_empty() && fault.is_none() && length == bytes.len()
+        }
+        Ok(None) => messages.is_empty() && fault.is_none(),
+        Err(expected) => messages.is_empty() && fault == Some(expected),
+    }
+}
+
+#[test]
+fn plain_function_and_reader_agree(rt: HostRuntime) -> Result<(), Fail> {
+    for length in 0..=RED.len() {
+        assert!(rt; agree(rt.alloc(), &RED[..length]));
+    }
+    for place in 0..16 {
+        let mut bytes = RED;
+        bytes[place] = 200;
+        assert!(rt; agree(rt.alloc(), &bytes), "at {place}");
+    }
+    // A colour map of one colour, and a text of two bytes.
+    let map = [1, 0, 0, 0, 0, 1, 0, 0, 0, 0, 0, 0];
+    let text = [3, 0, 0, 0, 0, 0, 0, 2, 104, 105];
+    for length in 0..=map.len() {
+        assert!(rt; agree(rt.alloc(), &map[..length]));
+    }
+    for length in 0..=text.len() {
+        assert!(rt; agree(rt.alloc(), &text[..length]));
+    }
+    assert!(rt; agree(rt.alloc(), &[2]));
+    assert!(rt; agree(rt.alloc(), &[4]));
+    let Some(Front::Recorded(message)) = read_message(rt.alloc(), 1, 1, &RED)? else {
+        return Err("a message")?;
+    };
+    assert_eq!(rt; message.bytes(), RED.as_slice());
+    assert_eq!(rt; message.rectangles().len(), 1);
+    Ok(())
+}
+
+// A bell, a cut text of two bytes, a colour map of one colour, and an update.
+const STREAM: [u8; 43] = [
+    2, 3, 0, 0, 0, 0, 0, 0, 2, 104, 105, 1, 0, 0, 0, 0, 1, 0, 0, 0, 0, 0, 0, 0, 0, 0, 1, 0, 0, 0,
+    0, 0, 1, 0, 1, 0, 0, 0, 0, 0, 0, 255, 0,
+];
+
+// Also run with each allocation failing in turn.
+#[test]
+fn reading_while_memory_lasts(rt: HostRuntime) {
+    let mut reader = ServerReader::new(rt.alloc(), 1, 1);
+    let mut messages = Vec::new(rt.alloc());
+    let mut stopped = None;
+    for piece in STREAM.chunks(1) {
+        let before = messages.len();
+        let fault = reader.feed(piece, &mut messages).err();
+        assert!(rt; fault.is_none() || fault == Some(WireFault::NoMemory));
+        assert!(rt; stopped.is_none() || (fault == stopped && messages.len() == before));
+        stopped = fault;
+    }
+    assert!(rt; stopped.is_some() || messages.len() == 3);
+    for (message, length) in messages.iter().zip(&[1, 10, 20]) {
+        assert_eq!(rt; message.bytes().len(), *length);
+    }
+}
+
+// Also run with each allocation failing in turn.
+#[test]
+fn writing_while_memory_lasts(rt: HostRuntime) {
+    let mut out = Vec::new(rt.alloc());
+    let area = Area {
+        x: 0,
+        y: 0,
+        w: 1,
+        h: 1,
+    };
+    let color = Color { r: 0, g: 0, b: 0 };
+    for _ in 0..9 {
+        let before = out.len();
+        let written = write_raw_update(area, &[0, 0, 255, 0], &mut out);
+        assert_eq!(rt;
+            out.len(),
+            if written.is_ok() { before + 20 } else { before }
+        );
+        let before = out.len();
+        let written = write_color_map(7, &[color], &mut out);
+        assert_eq!(rt;
+            out.len(),
+            if written.is_ok() { before + 12 } else { before }
+        );
+        let before = out.len();
+        let written = write_cut_text(b"hello", &mut out);
+        assert_eq!(rt;
+            out.len(),
+            if written.is_ok() { before + 13 } else { before }
+        );
+        let before = out.len();
+        let written = write_bell(&mut out);
+        assert_eq!(rt;
+            out.len(),
+            if written.is_ok() { before + 1 } else { before }
+        );
+    }
+}

@@ -1,0 +1,257 @@
+//! What no clause says: RRE data and pictures worked by hand.
+
+ghost use Rattle.std.specs.Prelude.{◌≡◌, ℕ, IfOk, All, ◌/◌, ◌%◌, length, ◌<◌, ◌≤◌, ◌+◌, ◌*◌, ◌∷◌, [], slice_index_or, if◌then◌else◌};
+ghost use Rattle.pixel_format.specs.Canvas.{covers};
+ghost use Rattle.pixel_format.specs.Pixel.{IsWithin, IsScreenColor};
+
+use crate::tests::samples::{
+    BLACK, EIGHT, GREEN, RED, SIXTEEN, WHITE, any_color, below, converted, pixel_of,
+};
+use crate::sheet::Sheet;
+use pixel_format::{Color, NoMemory, PixelFormat};
+use rre::{
+    Measure, Subrectangle, encode, grammar_reads_data, measure, no_data_begin_others,
+    one_reading_of_data, paint,
+};
+use std::alloc::Global;
+use std::test::Fail;
+
+mod shortness;
+
+// The rectangle that the bytes are, in the upper left corner of a white sheet.
+fn painted(format: &PixelFormat, w: u16, h: u16, bytes: &[u8]) -> Result<Sheet, Measure>
+    requires columns { w ≤ 320 }
+    requires rows { h ≤ 120 }
+{
+    let length = measure(format, w, h, bytes)?;
+    let mut sheet = Sheet::new(WHITE);
+    paint(format, 0, 0, w, h, &bytes[..length], &mut sheet);
+    Ok(sheet)
+}
+
+// 4 by 4: black; red at (0, 0), 3 by 3; green at (2, 2), 2 by 2; blue at (1, 0), of no width.
+const FOUR_BY_FOUR: [u8; 44] = [
+    0, 0, 0, 3, 0, 0, 0, 0, 0, 0, 255, 0, 0, 0, 0, 0, 0, 3, 0, 3, 0, 255, 0, 0, 0, 2, 0, 2, 0, 2,
+    0, 2, 255, 0, 0, 0, 0, 1, 0, 0, 0, 0, 0, 4,
+];
+
+#[test]
+fn four_by_four(rt: HostRuntime) -> Result<(), Fail> {
+    let host = PixelFormat::host();
+    let sheet = painted(&host, 4, 4, &FOUR_BY_FOUR)?;
+    assert_eq!(rt; sheet.color(1, 1), RED);
+    assert_eq!(rt; sheet.color(2, 2), GREEN);
+    assert_eq!(rt; sheet.color(3, 3), GREEN);
+    assert_eq!(rt; sheet.color(0, 3), BLACK);
+    assert_eq!(rt; sheet.color(4, 3), WHITE);
+    assert_eq!(rt; sheet.color(3, 4), WHITE);
+    Ok(())
+}
+
+#[test]
+fn whole_at_the_last_byte(rt: HostRuntime) {
+    let host = PixelFormat::host();
+    for n in 0..44 {
+        assert_eq!(rt;
+            measure(&host, 4, 4, &FOUR_BY_FOUR[..n]),
+            Err(Measure::NeedMore)
+        );
+    }
+    assert_eq!(rt; measure(&host, 4, 4, &FOUR_BY_FOUR), Ok(44));
+    grammar_reads_data();
+    one_reading_of_data();
+    no_data_begin_others();
+}
+
+// The second subrectangle, which ends at byte 32, is the first to leave a rectangle of 3 columns,
+// or of 3 rows.
+#[test]
+fn refused_at_the_last_byte(rt: HostRuntime) {
+    let host = PixelFormat::host();
+    for n in 0..45 {
+        let answer = Err(if n < 32 {
+            Measure::NeedMore
+        } else {
+            Measure::Bad
+        });
+        assert_eq!(rt; measure(&host, 3, 4, &FOUR_BY_FOUR[..n]), answer);
+        assert_eq!(rt; measure(&host, 4, 3, &FOUR_BY_FOUR[..n]), answer);
+    }
+}
+
+// A rectangle of no area has a background, and takes subrectangles of no area.
+#[test]
+fn no_area(rt: HostRuntime) {
+    let host = PixelFormat::host();
+    assert_eq!(rt; measure(&host, 0, 0, &[0, 0, 0, 0, 1, 2, 3, 4]), Ok(8));
+    let mut one = [0; 20];
+    one[3] = 1;
+    assert_eq!(rt; measure(&host, 0, 0, &one), Ok(20));
+    one[17] = 1;
+    assert_eq!(rt; measure(&host, 0, 0, &one), Err(Measure::Bad));
+    assert_eq!(rt; measure(&host, 1, 0, &one), Ok(20));
+}
+
+#[test]
+fn one_place_of_each_width(rt: HostRuntime) -> Result<(), Fail> {
+    let host = PixelFormat::host();
+    let one = painted(&host, 1, 1, &[0, 0, 0, 0, 1, 2, 3, 4])?;
+    assert_eq!(rt; one.color(0, 0), Color { r: 3, g: 2, b: 1 });
+    let sixteen = PixelFormat::read(&SIXTEEN)?;
+    let one = painted(&sixteen, 1, 1, &[0, 0, 0, 0, 0xfc, 0x01])?;
+    assert_eq!(rt; one.color(0, 0), Color { r: 31, g: 32, b: 1 });
+    let eight = PixelFormat::read(&EIGHT)?;
+    let covered = [0, 0, 0, 1, 0, 0b10_001_111, 0, 0, 0, 0, 0, 1, 0, 1];
+    let one = painted(&eight, 1, 1, &covered)?;
+    assert_eq!(rt; one.color(0, 0), Color { r: 7, g: 1, b: 2 });
+    Ok(())
+}
+
+// A subrectangle within 16 by 12 places, in one of a few colours.
+fn any_part(seed: &mut u64) -> Subrectangle {
+    let (x, y) = (below(seed, 17), below(seed, 13));
+    Subrectangle {
+        x,
+        y,
+        w: below(seed, 17 - x),
+        h: below(seed, 13 - y),
+        color: any_color(seed),
+    }
+}
+
+// The data of these subrectangles, in the host format.
+fn written(alloc: Global, background: Color, parts: &[Subrectangle]) -> Result<Vec<u8>, NoMemory> {
+    let mut bytes = vec![in alloc; 0, 0, 0, (parts.len() % 256) as u8]?;
+    bytes.extend_from_slice(&pixel_of(background))?;
+    for part in parts {
+        bytes.extend_from_slice(&pixel_of(part.color))?;
+        for number in [part.x, part.y, part.w, part.h] {
+            bytes.extend_from_slice(&number.to_be_bytes())?;
+        }
+    }
+    Ok(bytes)
+}
+
+// The colour of the last part that covers the place.
+fn plain(background: Color, parts: &[Subrectangle], column: u16, row: u16) -> Color {
+    for part in parts.iter().rev() {
+        if part.x <= column
+            && u32::from(column) < u32::from(part.x) + u32::from(part.w)
+            && part.y <= row
+            && u32::from(row) < u32::from(part.y) + u32::from(part.h)
+        {
+            return part.color;
+        }
+    }
+    background
+}
+
+#[test]
+fn as_the_plain_way(rt: HostRuntime) -> Result<(), Fail> {
+    let host = PixelFormat::host();
+    let mut seed = 1;
+    for count in 0..40 {
+        let background = any_color(&mut seed);
+        let mut parts = Vec::new(rt.alloc());
+        for _ in 0..count {
+            parts.push(any_part(&mut seed))?;
+        }
+        let bytes = written(rt.alloc(), background, &parts)?;
+        assert_eq!(rt; measure(&host, 16, 12, &bytes), Ok(bytes.len()));
+        let sheet = painted(&host, 16, 12, &bytes)?;
+        for row in 0..12 {
+            for column in 0..16 {
+                assert_eq!(rt;
+                    sheet.color(column, row),
+                    plain(background, &parts, column, row)
+                );
+            }
+        }
+    }
+    Ok(())
+}
+
+// A picture of 16 by 12 places: squares of a few colours, and single places.
+fn any_picture(alloc: Global, seed: &mut u64) -> Result<Vec<Color>, NoMemory>
+    ensures { IfOk result (λ colors. length colors.items ≡ 12 * 16) }
+{
+    let palette = [RED, GREEN, WHITE, any_color(seed)];
+    let mut colors = vec![in alloc; RED; 12 * 16]?;
+    for k in 0..192 {
+        let square = (k / 64 + k % 16 / 4) % 4;
+        let index = if below(seed, 8) == 0 {
+            below(seed, 4) as usize
+        } else {
+            square
+        };
+        colors[k] = palette[index];
+    }
+    Ok(colors)
+}
+
+#[test]
+fn encoded_and_painted(rt: HostRuntime) -> Result<(), Fail> {
+    let formats = [
+        PixelFormat::host(),
+        PixelFormat::read(&SIXTEEN)?,
+        PixelFormat::read(&EIGHT)?,
+    ];
+    let mut seed = 1;
+    for k in 0..21 {
+        let format = &formats[k % 3];
+        let picture = any_picture(rt.alloc(), &mut seed)?;
+        let colors = converted(rt.alloc(), format, &picture)?;
+        let mut bytes = vec![in rt.alloc(); 9, 9]?;
+        encode(rt.alloc(), format, 16, 12, &colors, &mut bytes)?;
+        assert_eq!(rt; &bytes[..2], [9, 9].as_slice());
+        assert_eq!(rt; measure(format, 16, 12, &bytes[2..]), Ok(bytes.len() - 2));
+        let sheet = painted(format, 16, 12, &bytes[2..])?;
+        for row in 0..12 {
+            for column in 0..16 {
+                assert_eq!(rt;
+                    sheet.color(column, row),
+                    colors[16 * row as usize + column as usize]
+                );
+            }
+        }
+    }
+    Ok(())
+}
+
+// The data of 16 by 16 places, in the host format.
+fn encoded(alloc: Global, picture: &[Color]) -> Result<Vec<u8>, NoMemory>
+    requires { length picture.now ≡ 16 * 16 }
+{
+    let host = PixelFormat::host();
+    let colors = converted(alloc, &host, picture)?;
+    let mut bytes = Vec::new(alloc);
+    encode(alloc, &host, 16, 16, &colors, &mut bytes)?;
+    Ok(bytes)
+}
+
+// One colour is a background and no subrectangle, and a rectangle in it is one subrectangle.
+#[test]
+fn encoded_shortly(rt: HostRuntime) -> Result<(), Fail> {
+    let mut picture = vec![in rt.alloc(); RED; 16 * 16]?;
+    let bytes = encoded(rt.alloc(), &picture)?;
+    assert_eq!(rt; bytes.as_slice(), [0, 0, 0, 0, 0, 0, 255, 0].as_slice());
+    for row in 3..7 {
+        for column in 2..12 {
+            picture[16 * row + column] = GREEN;
+        }
+    }
+    let bytes = encoded(rt.alloc(), &picture)?;
+    let green = [
+        0, 0, 0, 1, 0, 0, 255, 0, 0, 255, 0, 0, 0, 2, 0, 3, 0, 10, 0, 4,
+    ];
+    assert_eq!(rt; bytes.as_slice(), green.as_slice());
+    Ok(())
+}
+
+#[test]
+fn nothing_encoded(rt: HostRuntime) -> Result<(), Fail> {
+    let mut bytes = Vec::new(rt.alloc());
+    encode(rt.alloc(), &PixelFormat::host(), 0, 5, &[], &mut bytes)?;
+    assert_eq!(rt; bytes.as_slice(), [0; 8].as_slice());
+    Ok(())
+}

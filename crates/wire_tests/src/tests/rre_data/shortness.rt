@@ -1,0 +1,241 @@
+//! How many subrectangles the encoder lists, against libvncserver's RRE encoder as it is described:
+//! the background is a colour at the most places; by rows, from each place of another colour that
+//! isn't covered, it takes the larger of two rectangles, the run to the right as far down as it
+//! goes, and the run down as far to the right as it goes.
+
+ghost use Rattle.std.specs.Prelude.{◌≡◌, ◌*◌, length, IfOk};
+
+use super::{any_part, any_picture, plain};
+use crate::tests::samples::{BLACK, GREEN, RED, WHITE, any_color, below, converted};
+use pixel_format::{Color, NoMemory, PixelFormat};
+use rre::encode;
+use std::alloc::Global;
+use std::process::Abort;
+use std::test::Fail;
+
+/// Places that are still to be covered, by rows.
+#[derive(Drop)]
+struct Places {
+    w: usize,
+    h: usize,
+    open: Vec<Option<Color>>,
+}
+
+impl Places {
+    fn has(&self, column: usize, row: usize, color: Color) -> bool {
+        column < self.w
+            && self.open.get(row.wrapping_mul(self.w).wrapping_add(column)) == Some(&Some(color))
+    }
+
+    // How many places of the colour stand side by side, from this one to the right.
+    fn across(&self, column: usize, row: usize, color: Color) -> usize {
+        (column..self.w)
+            .take_while(|x| self.has(*x, row, color))
+            .count()
+    }
+
+    // The larger of the two rectangles at a place: its width and height.
+    fn larger(&self, column: usize, row: usize, color: Color) -> (usize, usize) {
+        let width = self.across(column, row, color);
+        let height = (row..self.h)
+            .take_while(|y| self.across(column, *y, color) >= width)
+            .count();
+        let down = (row..self.h)
+            .take_while(|y| self.has(column, *y, color))
+            .count();
+        let narrowest = (row..row.saturating_add(down))
+            .map(|y| self.across(column, y, color))
+            .min()
+            .unwrap_or(0);
+        if width.wrapping_mul(height) > narrowest.wrapping_mul(down) {
+            (width, height)
+        } else {
+            (narrowest, down)
+        }
+    }
+
+    fn cover(&mut self, column: usize, row: usize, width: usize, height: usize) {
+        for y in row..row.saturating_add(height) {
+            for x in column..column.saturating_add(width) {
+                if let Some(place) = self.open.get_mut(y.wrapping_mul(self.w).wrapping_add(x)) {
+                    *place = None;
+                }
+            }
+        }
+    }
+}
+
+// How many subrectangles libvncserver would list over this background.
+fn expected(
+    alloc: Global,
+    w: u16,
+    h: u16,
+    background: Color,
+    colors: &[Color],
+) -> Result<u32, NoMemory> {
+    let mut open = Vec::new(alloc);
+    for color in colors {
+        open.push((*color != background).then_some(*color))?;
+    }
+    let mut places = Places {
+        w: w.into(),
+        h: h.into(),
+        open,
+    };
+    let mut count = 0u32;
+    for (k, color) in colors.iter().enumerate() {
+        let (column, row) = (k % w.max(1) as usize, k / w.max(1) as usize);
+        if places.has(column, row, *color) {
+            let (width, height) = places.larger(column, row, *color);
+            places.cover(column, row, width, height);
+            count = count.saturating_add(1);
+        }
+    }
+    Ok(count)
+}
+
+fn times(color: Color, colors: &[Color]) -> usize {
+    colors.iter().filter(|other| **other == color).count()
+}
+
+// Encodes a picture in the host format: no colour is more frequent than the background, and
+// libvncserver would list no fewer subrectangles over it.
+fn compare(rt: &impl Abort, alloc: Global, w: u16, h: u16, picture: &[Color]) -> Result<(), Fail>
+    requires { length picture.now ≡ h * w }
+{
+    let host = PixelFormat::host();
+    let colors = converted(alloc, &host, picture)?;
+    let mut bytes = Vec::new(alloc);
+    encode(alloc, &host, w, h, &colors, &mut bytes)?;
+    let head = bytes.first_chunk::<8>().ok_or("no head")?;
+    let count = u32::from_be_bytes([head[0], head[1], head[2], head[3]]);
+    let background = host.pixel(&head[4..]);
+    let most = times(background, &colors);
+    for color in &colors {
+        assert!(rt;
+            times(*color, &colors) <= most,
+            "{color:?} is more frequent"
+        );
+    }
+    let enough = expected(alloc, w, h, background, &colors)?;
+    assert!(rt;
+        count <= enough,
+        "{count} subrectangles, and {enough} would do"
+    );
+    Ok(())
+}
+
+#[derive(Clone, Copy, Debug)]
+enum Pattern {
+    Flat,
+    Across,
+    Down,
+    Diagonal,
+    Checked,
+    Crossing,
+    Text,
+}
+
+// The rows of a few letters of five columns.
+const LETTERS: [[u8; 7]; 6] = [
+    [
+        0b01110, 0b10001, 0b10001, 0b11111, 0b10001, 0b10001, 0b10001,
+    ],
+    [
+        0b11110, 0b10001, 0b10001, 0b11110, 0b10001, 0b10001, 0b11110,
+    ],
+    [
+        0b11111, 0b10000, 0b10000, 0b11110, 0b10000, 0b10000, 0b11111,
+    ],
+    [
+        0b11111, 0b00100, 0b00100, 0b00100, 0b00100, 0b00100, 0b00100,
+    ],
+    [
+        0b10001, 0b11001, 0b10101, 0b10011, 0b10001, 0b10001, 0b10001,
+    ],
+    [
+        0b10001, 0b01010, 0b00100, 0b00100, 0b00100, 0b01010, 0b10001,
+    ],
+];
+
+fn is_inked(column: usize, row: usize) -> bool {
+    let letter = LETTERS[(column / 6 ^ row / 9) % 6];
+    let (x, y) = (column % 6, row % 9);
+    x < 5 && y < 7 && letter[y] >> (4 - x) & 1 == 1
+}
+
+fn patterned(pattern: Pattern, column: usize, row: usize) -> Color {
+    let palette = [RED, GREEN, WHITE];
+    match pattern {
+        Pattern::Flat => RED,
+        Pattern::Across => palette[row / 3 % 3],
+        Pattern::Down => palette[column / 5 % 3],
+        Pattern::Diagonal => palette[(column / 4 ^ row / 3) % 3],
+        Pattern::Checked => palette[(column / 4 ^ row / 4) % 2],
+        Pattern::Crossing if column % 11 < 2 || row % 7 < 2 => BLACK,
+        Pattern::Text if is_inked(column, row) => BLACK,
+        Pattern::Crossing | Pattern::Text => WHITE,
+    }
+}
+
+#[test]
+fn patterns_take_no_more_subrectangles(rt: HostRuntime) -> Result<(), Fail> {
+    let alloc = rt.alloc();
+    for pattern in [
+        Pattern::Flat,
+        Pattern::Across,
+        Pattern::Down,
+        Pattern::Diagonal,
+        Pattern::Checked,
+        Pattern::Crossing,
+        Pattern::Text,
+    ] {
+        let mut picture = vec![in alloc; RED; 27 * 32]?;
+        for k in 0..864 {
+            picture[k] = patterned(pattern, k % 32, k / 32);
+        }
+        compare(&rt, alloc, 32, 27, &picture)?;
+    }
+    Ok(())
+}
+
+// Places of so many colours, at random.
+fn noise(alloc: Global, seed: &mut u64, colors: u16) -> Result<Vec<Color>, NoMemory>
+    ensures { IfOk result (λ v. length v.items ≡ 12 * 16) }
+{
+    let mut picture = vec![in alloc; BLACK; 12 * 16]?;
+    for k in 0..192 {
+        picture[k].r = below(seed, colors.max(1));
+    }
+    Ok(picture)
+}
+
+// Rectangles over one another, as windows are.
+fn windows(alloc: Global, seed: &mut u64) -> Result<Vec<Color>, NoMemory>
+    ensures { IfOk result (λ v. length v.items ≡ 12 * 16) }
+{
+    let background = any_color(seed);
+    let mut parts = Vec::new(alloc);
+    for _ in 0..12 {
+        parts.push(any_part(seed))?;
+    }
+    let mut picture = vec![in alloc; BLACK; 12 * 16]?;
+    for k in 0..192u16 {
+        picture[k as usize] = plain(background, &parts, k % 16, k / 16);
+    }
+    Ok(picture)
+}
+
+#[test]
+fn random_pictures_take_no_more_subrectangles(rt: HostRuntime) -> Result<(), Fail> {
+    let alloc = rt.alloc();
+    let mut seed = 1;
+    for _ in 0..40 {
+        compare(&rt, alloc, 16, 12, &any_picture(alloc, &mut seed)?)?;
+        compare(&rt, alloc, 16, 12, &windows(alloc, &mut seed)?)?;
+        for colors in [2, 3, 8] {
+            compare(&rt, alloc, 16, 12, &noise(alloc, &mut seed, colors)?)?;
+        }
+    }
+    Ok(())
+}

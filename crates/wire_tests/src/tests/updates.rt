@@ -1,0 +1,243 @@
+//! What no clause says: updates worked by hand.
+
+ghost use Rattle.std.specs.Prelude.{◌≡◌, ℕ, IfOk, All, ◌/◌, ◌%◌, length, ◌<◌, ◌≤◌, ◌+◌, ◌*◌, slice_index_or, if◌then◌else◌};
+ghost use Rattle.pixel_format.specs.Canvas.{covers};
+ghost use Rattle.pixel_format.specs.Pixel.{IsWithin, IsScreenColor};
+
+use crate::tests::samples::{EIGHT, GREEN, RED, SIXTEEN, WHITE, below, converted};
+use crate::sheet::Sheet;
+use client_wire::Area;
+use hextile::Measure;
+use pixel_format::{Canvas, Color, NoMemory, PixelFormat};
+use rect_codec::{Encoding, pick, write_update};
+use std::alloc::Global;
+use std::test::Fail;
+
+// The colour of the pixel of this number.
+fn pixel_color(format: &PixelFormat, data: &[u8], number: usize) -> Option<Color> {
+    let start = number.checked_mul(format.bytes())?;
+    let end = start.checked_add(format.bytes())?;
+    if end > data.len() {
+        return None;
+    }
+    Some(format.pixel(&data[start..end]))
+}
+
+// What an update paints on a white sheet; refused where it isn't an update of one rectangle on the
+// sheet, or has bytes behind it.
+fn painted(format: &PixelFormat, update: &[u8]) -> Result<Sheet, Measure> {
+    let [
+        0,
+        0,
+        0,
+        1,
+        0,
+        x,
+        0,
+        y,
+        0,
+        w,
+        0,
+        h,
+        0,
+        0,
+        0,
+        encoding,
+        data @ ..,
+    ] = update
+    else {
+        return Err(Measure::Bad);
+    };
+    let (x, y) = (u16::from(*x), u16::from(*y));
+    let (w, h) = (u16::from(*w), u16::from(*h));
+    if x + w > 320 || y + h > 120 {
+        return Err(Measure::Bad);
+    }
+    let mut sheet = Sheet::new(WHITE);
+    let length = match *encoding {
+        0 => {
+            for k in 0..w * h {
+                let color = pixel_color(format, data, usize::from(k)).ok_or(Measure::NeedMore)?;
+                sheet.fill(x + k % w, y + k / w, 1, 1, color);
+            }
+            usize::from(w * h) * format.bytes()
+        }
+        2 => {
+            let Ok(length) = rre::measure(format, w, h, data) else {
+                return Err(Measure::Bad);
+            };
+            rre::paint(format, x, y, w, h, &data[..length], &mut sheet);
+            length
+        }
+        5 => {
+            let length = hextile::measure(format, w, h, data)?;
+            hextile::paint(format, x, y, w, h, &data[..length], &mut sheet);
+            length
+        }
+        _ => return Err(Measure::Bad),
+    };
+    if length != data.len() {
+        return Err(Measure::Bad);
+    }
+    Ok(sheet)
+}
+
+// An update behind a byte that was there before.
+fn update(
+    alloc: Global,
+    format: &PixelFormat,
+    area: Area,
+    colors: &[Color],
+    encoding: Encoding,
+) -> Result<Vec<u8>, NoMemory>
+    requires { length colors.now ≡ area.h * area.w }
+{
+    let colors = converted(alloc, format, colors)?;
+    let mut out = vec![in alloc; 9]?;
+    write_update(alloc, format, area, &colors, encoding, &mut out)?;
+    Ok(out)
+}
+
+const ALL: [Encoding; 3] = [Encoding::Raw, Encoding::Rre, Encoding::Hextile];
+
+#[test]
+fn first_of_the_list(rt: HostRuntime) {
+    assert_eq!(rt; pick(&[]), Encoding::Raw);
+    assert_eq!(rt; pick(&[1, -239]), Encoding::Raw);
+    assert_eq!(rt; pick(&[-239, 5, 0]), Encoding::Hextile);
+    assert_eq!(rt; pick(&[7, 16, 1, 2, 5]), Encoding::Rre);
+    assert_eq!(rt; pick(&[0, 5, 2]), Encoding::Raw);
+    assert_eq!(rt; pick(&[i32::MIN, 5, 2, 5]), Encoding::Hextile);
+}
+
+#[test]
+fn one_red_place(rt: HostRuntime) -> Result<(), Fail> {
+    let area = Area {
+        x: 0,
+        y: 0,
+        w: 1,
+        h: 1,
+    };
+    let red = [
+        9, 0, 0, 0, 1, 0, 0, 0, 0, 0, 1, 0, 1, 0, 0, 0, 0, 0, 0, 255, 0,
+    ];
+    for encoding in ALL {
+        let out = update(rt.alloc(), &PixelFormat::host(), area, &[RED], encoding)?;
+        assert_eq!(rt; out.as_slice(), red.as_slice());
+    }
+    Ok(())
+}
+
+// 258 places beside one another at (770, 1), none of them high: the head, and no data.
+#[test]
+fn no_area(rt: HostRuntime) -> Result<(), Fail> {
+    let area = Area {
+        x: 770,
+        y: 1,
+        w: 258,
+        h: 0,
+    };
+    let head = [9, 0, 0, 0, 1, 3, 2, 0, 1, 1, 2, 0, 0, 0, 0, 0, 0];
+    for encoding in ALL {
+        let out = update(rt.alloc(), &PixelFormat::host(), area, &[], encoding)?;
+        assert_eq!(rt; out.as_slice(), head.as_slice());
+    }
+    Ok(())
+}
+
+// 16 by 16 red places at (5, 7): a background alone.
+#[test]
+fn red_square(rt: HostRuntime) -> Result<(), Fail> {
+    let area = Area {
+        x: 5,
+        y: 7,
+        w: 16,
+        h: 16,
+    };
+    let host = PixelFormat::host();
+    let rre = [
+        9, 0, 0, 0, 1, 0, 5, 0, 7, 0, 16, 0, 16, 0, 0, 0, 2, 0, 0, 0, 0, 0, 0, 255, 0,
+    ];
+    let hextile = [
+        9, 0, 0, 0, 1, 0, 5, 0, 7, 0, 16, 0, 16, 0, 0, 0, 5, 2, 0, 0, 255, 0,
+    ];
+    let raw = update(rt.alloc(), &host, area, &[RED; 256], Encoding::Raw)?;
+    let short = update(rt.alloc(), &host, area, &[RED; 256], Encoding::Rre)?;
+    let shorter = update(rt.alloc(), &host, area, &[RED; 256], Encoding::Hextile)?;
+    assert_eq!(rt; raw.len(), 1 + 1_040);
+    assert_eq!(rt; short.as_slice(), rre.as_slice());
+    assert_eq!(rt; shorter.as_slice(), hextile.as_slice());
+    for out in [raw, short, shorter] {
+        let sheet = painted(&host, &out[1..])?;
+        for k in 0..1024u16 {
+            let (x, y) = (k % 32, k / 32);
+            let inside = 5 <= x && x < 21 && 7 <= y && y < 23;
+            assert_eq!(rt; sheet.color(x, y), if inside { RED } else { WHITE });
+        }
+    }
+    Ok(())
+}
+
+// A picture of 21 by 18 places: a few squares over one colour, or places of any colour.
+fn any_picture(alloc: Global, seed: &mut u64, flat: bool) -> Result<Vec<Color>, NoMemory>
+    ensures { IfOk result (λ colors. length colors.items ≡ 18 * 21) }
+{
+    let mut colors = vec![in alloc; GREEN; 378]?;
+    for k in 0..378 {
+        let square = k % 21 / 7 == 1 && k / 126 == 1;
+        let any = Color {
+            r: below(seed, 256),
+            g: below(seed, 256),
+            b: below(seed, 256),
+        };
+        if !flat {
+            colors[k] = any;
+        } else if square {
+            colors[k] = RED;
+        }
+    }
+    Ok(colors)
+}
+
+// In each format a flat picture is written in the encoding that is asked for, and one of many
+// colours in Raw.
+#[test]
+fn written_and_painted(rt: HostRuntime) -> Result<(), Fail> {
+    let formats = [
+        PixelFormat::host(),
+        PixelFormat::read(&SIXTEEN)?,
+        PixelFormat::read(&EIGHT)?,
+    ];
+    let area = Area {
+        x: 3,
+        y: 11,
+        w: 21,
+        h: 18,
+    };
+    let mut seed = 1;
+    for format in formats.iter() {
+        for (flat, encoding, number) in [
+            (true, Encoding::Raw, 0),
+            (true, Encoding::Rre, 2),
+            (true, Encoding::Hextile, 5),
+            (false, Encoding::Rre, 0),
+            (false, Encoding::Hextile, 0),
+        ] {
+            let picture = any_picture(rt.alloc(), &mut seed, flat)?;
+            let out = update(rt.alloc(), format, area, &picture, encoding)?;
+            assert_eq!(rt; out.get(16), Some(&number));
+            if number == 0 {
+                assert_eq!(rt; out.len(), 17 + 378 * format.bytes());
+            } else {
+                assert!(rt; out.len() < 17 + 378 * format.bytes());
+            }
+            let sheet = painted(format, &out[1..])?;
+            let colors = converted(rt.alloc(), format, &picture)?;
+            for k in 0..378u16 {
+                let color = sheet.color(3 + k % 21, 11 + k / 21);
+                assert_eq!(rt; color, colors[k as usize]);
+            }
+        }
+    }
+    Ok(())
+}
