@@ -7,7 +7,8 @@ use broadcast::Desk;
 use disk::{Fill, FusedDisk, MemoryDisk};
 use drill_script::{Line, LineFault, read_line};
 use flusher_core::Book;
-use gated_journal::Header;
+use gated_journal::{CreateFault, Header, Refused};
+use key_index::IndexFault;
 use std::alloc::{AllocError, Global};
 use std::io::{BufRead, BufReader, Read, Write};
 use std::{io, mem};
@@ -27,6 +28,24 @@ struct Drill {
     alloc: Global,
     fuse: Fuse,
     bench: Bench,
+}
+
+// A desk with a new recording. It and the next one promise nothing: a drill's answers rest on the
+// desk's steps alone.
+fn new_desk(
+    alloc: Global,
+    disk: FusedDisk,
+    header: Header,
+) -> Result<Desk<FusedDisk>, Refused<FusedDisk, CreateFault>> {
+    Ok(Desk::new(Book::create(alloc, disk, header)?))
+}
+
+// A desk with the recording that the disk holds.
+fn opened_desk(
+    alloc: Global,
+    disk: FusedDisk,
+) -> Result<Desk<FusedDisk>, Refused<FusedDisk, IndexFault>> {
+    Ok(Desk::new(Book::open(alloc, disk)?))
 }
 
 impl Drill {
@@ -52,9 +71,9 @@ impl Drill {
     fn create(&mut self, disk: FusedDisk, header: Header) -> Answer {
         let (width, height) = header.size();
         let key_interval = header.key_interval();
-        match Book::create(self.alloc, disk, header) {
-            Ok(book) => {
-                self.bench = Bench::Desk(Desk::new(book));
+        match new_desk(self.alloc, disk, header) {
+            Ok(desk) => {
+                self.bench = Bench::Desk(desk);
                 Answer::Recording {
                     width,
                     height,
@@ -85,10 +104,10 @@ impl Drill {
     }
 
     fn opened(&mut self, disk: FusedDisk) -> Answer {
-        match Book::open(self.alloc, disk) {
-            Ok(book) => {
-                let committed = book.committed();
-                self.bench = Bench::Desk(Desk::new(book));
+        match opened_desk(self.alloc, disk) {
+            Ok(desk) => {
+                let committed = desk.committed();
+                self.bench = Bench::Desk(desk);
                 Answer::Opened(committed)
             }
             Err(refused) => {

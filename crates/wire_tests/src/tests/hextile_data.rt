@@ -4,10 +4,10 @@ ghost use Rattle.std.specs.Prelude.{◌≡◌, ℕ, IfOk, All, ◌/◌, ◌%◌,
 ghost use Rattle.pixel_format.specs.Canvas.{covers};
 ghost use Rattle.pixel_format.specs.Pixel.{IsWithin, IsScreenColor};
 
+use crate::sheet::Sheet;
 use crate::tests::samples::{
     BLACK, BLUE, EIGHT, GREEN, RED, SIXTEEN, WHITE, any_color, below, converted, pixel_of,
 };
-use crate::sheet::Sheet;
 use hextile::{
     Measure, Measuring, Subrectangle, encode, grammar_reads_data, measure, no_data_begin_others,
     one_reading_of_data, paint,
@@ -323,30 +323,47 @@ fn any_picture(alloc: Global, seed: &mut u64, w: u16, h: u16) -> Result<Vec<Colo
     Ok(colors)
 }
 
-#[test]
-fn encoded_and_painted(rt: HostRuntime) -> Result<(), Fail> {
-    let formats = [
-        PixelFormat::host(),
-        PixelFormat::read(&SIXTEEN)?,
-        PixelFormat::read(&EIGHT)?,
-    ];
-    let mut seed = 1;
-    for edge in 1..17u16 {
-        let format = &formats[edge as usize % 3];
-        let (w, h) = (16 + edge, 17 - edge);
-        let picture = any_picture(rt.alloc(), &mut seed, w, h)?;
-        let colors = converted(rt.alloc(), format, &picture)?;
-        let mut bytes = vec![in rt.alloc(); 9, 9]?;
-        encode(format, w, h, &colors, &mut bytes)?;
-        assert_eq!(rt; &bytes[..2], [9, 9].as_slice());
-        assert_eq!(rt; measure(format, w, h, &bytes[2..]), Ok(bytes.len() - 2));
-        let sheet = painted(format, w, h, &bytes[2..])?;
-        let mut all = colors.iter();
-        for row in 0..h {
-            for column in 0..w {
-                assert_eq!(rt; Some(&sheet.color(column, row)), all.next());
+// Whether a picture of w by h places is shown, in this format, by the data that it is encoded to,
+// and two bytes before them stay.
+fn comes_through(
+    alloc: Global,
+    format: &PixelFormat,
+    w: u16,
+    h: u16,
+    picture: &[Color],
+) -> Result<bool, Fail>
+    requires size { length picture.now ≡ h * w }
+    requires columns { w ≤ 320 }
+    requires rows { h ≤ 120 }
+{
+    let colors = converted(alloc, format, picture)?;
+    let mut bytes = vec![in alloc; 9, 9]?;
+    encode(format, w, h, &colors, &mut bytes)?;
+    let Some(data) = bytes.strip_prefix(&[9, 9]) else {
+        return Ok(false);
+    };
+    let sheet = painted(format, w, h, data)?;
+    let mut all = colors.iter();
+    for row in 0..h {
+        for column in 0..w {
+            if Some(&sheet.color(column, row)) != all.next() {
+                return Ok(false);
             }
         }
+    }
+    Ok(measure(format, w, h, data) == Ok(data.len()))
+}
+
+#[test]
+fn encoded_and_painted(rt: HostRuntime) -> Result<(), Fail> {
+    let alloc = rt.alloc();
+    let mut seed = 1;
+    for edge in 1..17u16 {
+        let (w, h) = (16 + edge, 17 - edge);
+        let picture = any_picture(alloc, &mut seed, w, h)?;
+        assert!(rt; comes_through(alloc, &PixelFormat::host(), w, h, &picture)?);
+        assert!(rt; comes_through(alloc, &PixelFormat::read(&SIXTEEN)?, w, h, &picture)?);
+        assert!(rt; comes_through(alloc, &PixelFormat::read(&EIGHT)?, w, h, &picture)?);
     }
     Ok(())
 }
@@ -362,15 +379,17 @@ fn encoded(alloc: Global, w: u16, picture: &[Color]) -> Result<Vec<u8>, NoMemory
     Ok(bytes)
 }
 
+// Whether a row of 48 places has these data, in the host format.
+fn encodes(alloc: Global, picture: &[Color; 48], data: &[u8]) -> Result<bool, NoMemory> {
+    Ok(encoded(alloc, 48, picture)?.as_slice() == data)
+}
+
 // A red tile, and what behind it is told again or not.
 #[test]
 fn encoded_shortly(rt: HostRuntime) -> Result<(), Fail> {
     let mut picture = [RED; 48];
     let red = [2, 0, 0, 255, 0, 0, 0];
-    assert_eq!(rt;
-        encoded(rt.alloc(), 48, &picture)?.as_slice(),
-        red.as_slice()
-    );
+    assert!(rt; encodes(rt.alloc(), &picture, &red)?);
     // green in two tiles: its pixel once
     picture[3] = GREEN;
     picture[4] = GREEN;
@@ -378,20 +397,14 @@ fn encoded_shortly(rt: HostRuntime) -> Result<(), Fail> {
     let twice = [
         14, 0, 0, 255, 0, 0, 255, 0, 0, 1, 0x30, 0x10, 8, 1, 0xe0, 0, 0,
     ];
-    assert_eq!(rt;
-        encoded(rt.alloc(), 48, &picture)?.as_slice(),
-        twice.as_slice()
-    );
+    assert!(rt; encodes(rt.alloc(), &picture, &twice)?);
     // green and blue in one tile: pixels of their own, and the next background is named
     picture[20] = BLUE;
     let colored = [
         14, 0, 0, 255, 0, 0, 255, 0, 0, 1, 0x30, 0x10, 24, 2, 255, 0, 0, 0, 0x40, 0, 0, 255, 0, 0,
         0xe0, 0, 2, 0, 0, 255, 0,
     ];
-    assert_eq!(rt;
-        encoded(rt.alloc(), 48, &picture)?.as_slice(),
-        colored.as_slice()
-    );
+    assert!(rt; encodes(rt.alloc(), &picture, &colored)?);
     // many colours: a raw tile, and the next background is named
     let mut seed = 1;
     for k in 16..32 {
@@ -426,10 +439,7 @@ fn named_again(rt: HostRuntime) -> Result<(), Fail> {
         200, 100, 29, 0, 200, 100, 30, 0, 200, 100, 31, 0, 14, 0, 0, 255, 0, 0, 255, 0, 0, 1, 0xe0,
         0,
     ];
-    assert_eq!(rt;
-        encoded(rt.alloc(), 48, &picture)?.as_slice(),
-        raw.as_slice()
-    );
+    assert!(rt; encodes(rt.alloc(), &picture, &raw)?);
     for k in 16..32 {
         picture[k] = RED;
     }
@@ -439,9 +449,6 @@ fn named_again(rt: HostRuntime) -> Result<(), Fail> {
         14, 0, 0, 255, 0, 0, 255, 0, 0, 1, 0x30, 0x10, 24, 2, 0, 255, 0, 0, 0x40, 0, 255, 0, 0, 0,
         0xe0, 0, 14, 0, 0, 255, 0, 0, 255, 0, 0, 1, 0xe0, 0,
     ];
-    assert_eq!(rt;
-        encoded(rt.alloc(), 48, &picture)?.as_slice(),
-        colored.as_slice()
-    );
+    assert!(rt; encodes(rt.alloc(), &picture, &colored)?);
     Ok(())
 }

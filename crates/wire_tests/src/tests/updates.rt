@@ -4,8 +4,8 @@ ghost use Rattle.std.specs.Prelude.{◌≡◌, ℕ, IfOk, All, ◌/◌, ◌%◌,
 ghost use Rattle.pixel_format.specs.Canvas.{covers};
 ghost use Rattle.pixel_format.specs.Pixel.{IsWithin, IsScreenColor};
 
-use crate::tests::samples::{EIGHT, GREEN, RED, SIXTEEN, WHITE, below, converted};
 use crate::sheet::Sheet;
+use crate::tests::samples::{EIGHT, GREEN, RED, SIXTEEN, WHITE, below, converted};
 use client_wire::Area;
 use hextile::Measure;
 use pixel_format::{Canvas, Color, NoMemory, PixelFormat};
@@ -199,45 +199,58 @@ fn any_picture(alloc: Global, seed: &mut u64, flat: bool) -> Result<Vec<Color>, 
     Ok(colors)
 }
 
-// In each format a flat picture is written in the encoding that is asked for, and one of many
-// colours in Raw.
-#[test]
-fn written_and_painted(rt: HostRuntime) -> Result<(), Fail> {
-    let formats = [
-        PixelFormat::host(),
-        PixelFormat::read(&SIXTEEN)?,
-        PixelFormat::read(&EIGHT)?,
-    ];
+// Whether a picture is written, in this format and with this encoding asked for, as an update in
+// the encoding of this number that shows it.
+fn is_written(
+    alloc: Global,
+    format: &PixelFormat,
+    picture: &[Color],
+    encoding: Encoding,
+    number: u8,
+) -> Result<bool, Fail>
+    requires { length picture.now ≡ 18 * 21 }
+{
     let area = Area {
         x: 3,
         y: 11,
         w: 21,
         h: 18,
     };
-    let mut seed = 1;
-    for format in formats.iter() {
-        for (flat, encoding, number) in [
-            (true, Encoding::Raw, 0),
-            (true, Encoding::Rre, 2),
-            (true, Encoding::Hextile, 5),
-            (false, Encoding::Rre, 0),
-            (false, Encoding::Hextile, 0),
-        ] {
-            let picture = any_picture(rt.alloc(), &mut seed, flat)?;
-            let out = update(rt.alloc(), format, area, &picture, encoding)?;
-            assert_eq!(rt; out.get(16), Some(&number));
-            if number == 0 {
-                assert_eq!(rt; out.len(), 17 + 378 * format.bytes());
-            } else {
-                assert!(rt; out.len() < 17 + 378 * format.bytes());
-            }
-            let sheet = painted(format, &out[1..])?;
-            let colors = converted(rt.alloc(), format, &picture)?;
-            for k in 0..378u16 {
-                let color = sheet.color(3 + k % 21, 11 + k / 21);
-                assert_eq!(rt; color, colors[k as usize]);
+    let out = update(alloc, format, area, picture, encoding)?;
+    let sheet = painted(format, &out[1..])?;
+    let colors = converted(alloc, format, picture)?;
+    let mut all = colors.iter();
+    for y in 11..29 {
+        for x in 3..24 {
+            if Some(&sheet.color(x, y)) != all.next() {
+                return Ok(false);
             }
         }
+    }
+    let raw = 17 + 378 * format.bytes();
+    let is_as_long = if number == 0 {
+        out.len() == raw
+    } else {
+        out.len() < raw
+    };
+    Ok(is_as_long && out.get(16) == Some(&number))
+}
+
+// In each format a flat picture is written in the encoding that is asked for, and one of many
+// colours in Raw.
+#[test]
+fn written_and_painted(rt: HostRuntime) -> Result<(), Fail> {
+    let alloc = rt.alloc();
+    let mut seed = 1;
+    let flat = any_picture(alloc, &mut seed, true)?;
+    let many = any_picture(alloc, &mut seed, false)?;
+    for bytes in [PixelFormat::host().write(), SIXTEEN, EIGHT] {
+        let format = PixelFormat::read(&bytes)?;
+        assert!(rt; is_written(alloc, &format, &flat, Encoding::Raw, 0)?);
+        assert!(rt; is_written(alloc, &format, &flat, Encoding::Rre, 2)?);
+        assert!(rt; is_written(alloc, &format, &flat, Encoding::Hextile, 5)?);
+        assert!(rt; is_written(alloc, &format, &many, Encoding::Rre, 0)?);
+        assert!(rt; is_written(alloc, &format, &many, Encoding::Hextile, 0)?);
     }
     Ok(())
 }

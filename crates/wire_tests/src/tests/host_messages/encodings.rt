@@ -30,11 +30,11 @@ fn is_whole(alloc: Global, size: (u16, u16), bytes: &[u8]) -> bool
         let mut reader = ServerReader::new(alloc, size.0, size.1);
         let mut messages = Vec::new(alloc);
         for piece in bytes[..bytes.len() - 1].chunks(length) {
-            if reader.feed(piece, &mut messages).is_err() || !messages.is_empty() {
+            if feed(&mut reader, piece, &mut messages).is_err() || !messages.is_empty() {
                 return false;
             }
         }
-        let last = reader.feed(&bytes[bytes.len() - 1..], &mut messages);
+        let last = feed(&mut reader, &bytes[bytes.len() - 1..], &mut messages);
         if last.is_err() || messages.len() != 1 || messages[0].bytes() != bytes {
             return false;
         }
@@ -112,11 +112,11 @@ fn refused_at_their_bytes(rt: HostRuntime) -> Result<(), Fail> {
     let mut reader = ServerReader::new(alloc, 1, 1);
     let mut messages = Vec::new(alloc);
     assert_eq!(rt;
-        reader.feed(&mask, &mut messages),
+        feed(&mut reader, &mask, &mut messages),
         Err(WireFault::BadHextile)
     );
     assert_eq!(rt;
-        reader.feed(&RED, &mut messages),
+        feed(&mut reader, &RED, &mut messages),
         Err(WireFault::BadHextile)
     );
     assert_eq!(rt; messages.len(), 0);
