@@ -380,14 +380,16 @@ fn encoded(alloc: Global, w: u16, picture: &[Color]) -> Result<Vec<u8>, NoMemory
 }
 
 // Whether a row of 48 places has these data, in the host format.
-fn encodes(alloc: Global, picture: &[Color; 48], data: &[u8]) -> Result<bool, NoMemory> {
+fn encodes(alloc: Global, picture: &[Color], data: &[u8]) -> Result<bool, NoMemory>
+    requires { length picture.now ≡ 48 }
+{
     Ok(encoded(alloc, 48, picture)?.as_slice() == data)
 }
 
 // A red tile, and what behind it is told again or not.
 #[test]
 fn encoded_shortly(rt: HostRuntime) -> Result<(), Fail> {
-    let mut picture = [RED; 48];
+    let mut picture = vec![in rt.alloc(); RED; 48]?;
     let red = [2, 0, 0, 255, 0, 0, 0];
     assert!(rt; encodes(rt.alloc(), &picture, &red)?);
     // green in two tiles: its pixel once
@@ -421,7 +423,7 @@ fn encoded_shortly(rt: HostRuntime) -> Result<(), Fail> {
 // they are those of the tile before it.
 #[test]
 fn named_again(rt: HostRuntime) -> Result<(), Fail> {
-    let mut picture = [RED; 48];
+    let mut picture = vec![in rt.alloc(); RED; 48]?;
     picture[3] = GREEN;
     picture[4] = GREEN;
     picture[46] = GREEN;

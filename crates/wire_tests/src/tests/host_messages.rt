@@ -4,7 +4,7 @@ ghost use Rattle.std.specs.Prelude.{◌<◌, length};
 
 use pixel_format::Color;
 use rfb_wire::*;
-use std::alloc::Global;
+use std::alloc::{AllocError, Global};
 use std::test::Fail;
 
 mod encodings;
@@ -130,24 +130,38 @@ fn a_fault_is_for_good(rt: HostRuntime) {
     assert_eq!(rt; messages.len(), 1);
 }
 
+// So many bytes, all zero. It promises nothing of them: a list of 65,536 is long to reason of.
+fn zeros(alloc: Global, count: usize) -> Result<Vec<u8>, AllocError> {
+    vec![in alloc; 0; count]
+}
+
+// Whether a reader takes a piece so many times, without a fault and without a message.
+fn takes(alloc: Global, reader: &mut ServerReader, piece: &[u8], times: usize) -> bool {
+    let mut messages = Vec::new(alloc);
+    for _ in 0..times {
+        if reader.feed(piece, &mut messages).is_err() {
+            return false;
+        }
+    }
+    messages.is_empty()
+}
+
+// Whether one byte more is too long.
+fn is_full(alloc: Global, reader: &mut ServerReader) -> bool {
+    let mut messages = Vec::new(alloc);
+    reader.feed(&[0], &mut messages) == Err(WireFault::TooLong) && messages.is_empty()
+}
+
 #[test]
 fn too_long_at_its_byte(rt: HostRuntime) -> Result<(), Fail> {
-    let mut reader = ServerReader::new(rt.alloc(), 8_192, 2_049);
-    let mut messages = Vec::new(rt.alloc());
+    let alloc = rt.alloc();
+    let mut reader = ServerReader::new(alloc, 8_192, 2_049);
     // One Raw rectangle over the whole screen: 67,141,648 bytes in all.
     let head = [0, 0, 0, 1, 0, 0, 0, 0, 32, 0, 8, 1, 0, 0, 0, 0];
-    let zeros = vec![in rt.alloc(); 0; 65_536]?;
-    assert_eq!(rt; feed(&mut reader, &head, &mut messages), Ok(()));
-    for _ in 0..1_023 {
-        assert_eq!(rt; feed(&mut reader, &zeros, &mut messages), Ok(()));
-    }
-    assert_eq!(rt; zeros.len(), 65_536);
-    assert_eq!(rt; feed(&mut reader, &zeros[16..], &mut messages), Ok(()));
-    assert_eq!(rt;
-        feed(&mut reader, &zeros[..1], &mut messages),
-        Err(WireFault::TooLong)
-    );
-    assert_eq!(rt; messages.len(), 0);
+    assert!(rt; takes(alloc, &mut reader, &head, 1));
+    assert!(rt; takes(alloc, &mut reader, &zeros(alloc, 65_536)?, 1_023));
+    assert!(rt; takes(alloc, &mut reader, &zeros(alloc, 65_520)?, 1));
+    assert!(rt; is_full(alloc, &mut reader));
     Ok(())
 }
 
@@ -220,29 +234,18 @@ fn texts_at_the_limit(rt: HostRuntime) -> Result<(), Fail> {
 
 #[test]
 fn two_rectangles_are_too_long(rt: HostRuntime) -> Result<(), Fail> {
-    let mut reader = ServerReader::new(rt.alloc(), 4_096, 2_048);
-    let mut messages = Vec::new(rt.alloc());
-    // Two Raw rectangles over the whole screen: 67,108,892 bytes in all.
+    let alloc = rt.alloc();
+    let mut reader = ServerReader::new(alloc, 4_096, 2_048);
+    // Two Raw rectangles over the whole screen: 67,108,892 bytes in all, 28 more than 2 ^ 26.
     let head = [0, 0, 0, 2];
     let rectangle = [0, 0, 0, 0, 16, 0, 8, 0, 0, 0, 0, 0];
-    let zeros = vec![in rt.alloc(); 0; 65_536]?;
-    assert_eq!(rt; feed(&mut reader, &head, &mut messages), Ok(()));
-    assert_eq!(rt; feed(&mut reader, &rectangle, &mut messages), Ok(()));
-    for _ in 0..512 {
-        assert_eq!(rt; feed(&mut reader, &zeros, &mut messages), Ok(()));
-    }
-    assert_eq!(rt; feed(&mut reader, &rectangle, &mut messages), Ok(()));
-    for _ in 0..511 {
-        assert_eq!(rt; feed(&mut reader, &zeros, &mut messages), Ok(()));
-    }
-    assert_eq!(rt; zeros.len(), 65_536);
-    // 2 ^ 26 bytes are there, and then one more.
-    assert_eq!(rt; feed(&mut reader, &zeros[28..], &mut messages), Ok(()));
-    assert_eq!(rt;
-        feed(&mut reader, &zeros[..1], &mut messages),
-        Err(WireFault::TooLong)
-    );
-    assert_eq!(rt; messages.len(), 0);
+    assert!(rt; takes(alloc, &mut reader, &head, 1));
+    assert!(rt; takes(alloc, &mut reader, &rectangle, 1));
+    assert!(rt; takes(alloc, &mut reader, &zeros(alloc, 65_536)?, 512));
+    assert!(rt; takes(alloc, &mut reader, &rectangle, 1));
+    assert!(rt; takes(alloc, &mut reader, &zeros(alloc, 65_536)?, 511));
+    assert!(rt; takes(alloc, &mut reader, &zeros(alloc, 65_508)?, 1));
+    assert!(rt; is_full(alloc, &mut reader));
     Ok(())
 }
 
