@@ -217,7 +217,10 @@ fn is_written(
         h: 18,
     };
     let out = update(alloc, format, area, picture, encoding)?;
-    let sheet = painted(format, &out[1..])?;
+    let Some(written) = out.strip_prefix(&[9]) else {
+        return Ok(false);
+    };
+    let sheet = painted(format, written)?;
     let colors = converted(alloc, format, picture)?;
     let mut all = colors.iter();
     for y in 11..29 {
@@ -227,13 +230,13 @@ fn is_written(
             }
         }
     }
-    let raw = 17 + 378 * format.bytes();
+    let raw = 16 + 378 * format.bytes();
     let is_as_long = if number == 0 {
-        out.len() == raw
+        written.len() == raw
     } else {
-        out.len() < raw
+        written.len() < raw
     };
-    Ok(is_as_long && out.get(16) == Some(&number))
+    Ok(is_as_long && written.get(15) == Some(&number))
 }
 
 // In each format a flat picture is written in the encoding that is asked for, and one of many
