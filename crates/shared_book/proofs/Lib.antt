@@ -1,0 +1,5 @@
+pub mod Fronts
+pub mod Adding
+pub mod Once
+pub mod Steps
+pub mod Standing

@@ -1,0 +1,25 @@
+//! The shared book: a desk under a lock, receipts and tickets for what threads were told, and the
+//! workers that host, flush and view beside each other.
+#![tactic(auto)]
+
+mod closed;
+mod compare;
+mod held;
+mod history;
+mod mark;
+mod numbers;
+mod parties;
+mod receipt;
+mod shared;
+mod workers;
+
+pub use closed::Closed;
+pub use held::Held;
+pub use mark::{Mark, Token};
+pub use parties::{HostSource, Point, ReceiptSink, Turn, Turnstile, ViewerSink};
+pub use receipt::{Receipt, Ticket};
+pub use shared::Shared;
+pub use workers::{FlusherEnd, ViewerEnd, run_flusher, run_host, run_viewer};
+
+#[cfg(test)]
+mod tests;

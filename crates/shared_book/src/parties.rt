@@ -1,0 +1,88 @@
+//! Those that the workers work for: what gives a host's messages, and what takes receipts.
+
+ghost use Rattle.std.specs.Prelude.{◌≡◌, ◌<◌, ◌^◌, ◌⊎◌, ◌+◌, IfSome, length, true};
+ghost use Rattle.shared_book.specs.Receipts.{IsOfSize, has_start};
+
+use rfb_wire::HostMessage;
+
+/// A place in a worker's work that a test may hold it at.
+#[derive(Clone, Copy, Debug, PartialEq, Eq)]
+pub enum Point {
+    /// The message of this number was accepted.
+    HostAccepted(u64),
+    /// So many messages are committed.
+    Committed(u64),
+    /// So many messages, from this number on, are about to be handed to a viewer's sink.
+    Sending { first: u64, count: u64 },
+}
+
+/// What the workers pass at each [`Point`], outside the lock. In a program it does nothing.
+pub trait Turnstile {
+    /// Returns once the worker may go on.
+    fn pass(&self, point: Point);
+}
+
+/// What gives a host's messages, each with its time in milliseconds, and takes their tickets.
+pub trait HostSource<T>: Drop {
+    ghost use Rattle.std.specs.Prelude.{ℕ};
+
+    ghost width: { Self → ℕ };
+
+    ghost height: { Self → ℕ };
+
+    /// The next message, of the source's size; `None` ends the host.
+    fn next(&mut self) -> Option<(u32, HostMessage)>
+        ensures sized { IfSome result (λ r. (r.1.width ≡ width self.old) × (r.1.height ≡ height self.old)) }
+        ensures same { (width self.new ≡ width self.old) × (height self.new ≡ height self.old) };
+
+    /// Takes the ticket of the message that was given last.
+    fn accepted(&mut self, ticket: T)
+        ensures same { (width self.new ≡ width self.old) × (height self.new ≡ height self.old) };
+}
+
+/// What takes the flusher's receipts, one for each commit.
+pub trait ReceiptSink<T>: Drop {
+    /// Takes the receipt of what was committed.
+    fn receipt(&mut self, receipt: T);
+}
+
+/// What a viewer wants next.
+#[derive(Clone, Copy, Debug, PartialEq, Eq)]
+pub enum Turn {
+    /// The messages behind its position, so many at most.
+    Want(u32),
+    /// To wait until there are some, or the host has ended.
+    Wait,
+    /// To go on behind the first so many messages.
+    Seek(u64),
+    /// To end.
+    Stop,
+}
+
+/// What takes a viewer's receipts. Each is of the sink's size, and has a start or begins where the
+/// sink stands.
+pub trait ViewerSink<T>: Drop {
+    ghost use Rattle.std.specs.Prelude.{ℕ};
+    ghost use Rattle.flusher_core.specs.declared.slice.Slice.{Slice};
+
+    ghost width: { Self → ℕ };
+
+    ghost height: { Self → ℕ };
+
+    ghost position: { Self → ℕ };
+
+    ghost slice_of: { T → Slice };
+
+    /// What it wants.
+    fn turn(&mut self) -> Turn
+        ensures same { (width self.new ≡ width self.old) × (height self.new ≡ height self.old) }
+        ensures stays { position self.new ≡ position self.old };
+
+    /// Takes a receipt, and stands at its end then.
+    fn slice(&mut self, receipt: T)
+        requires sized { IsOfSize (width self.old) (height self.old) (slice_of receipt) }
+        requires place { (has_start (slice_of receipt) ≡ true) ⊎ ((slice_of receipt).first ≡ position self.old) }
+        requires room { (slice_of receipt).first + length (slice_of receipt).messages.items < 2 ^ 64 }
+        ensures same { (width self.new ≡ width self.old) × (height self.new ≡ height self.old) }
+        ensures moved { position self.new ≡ (slice_of receipt).first + length (slice_of receipt).messages.items };
+}

@@ -1,0 +1,68 @@
+//! Receipts and tickets: what a thread was told, which all know to hold for good.
+
+ghost use Rattle.std.specs.Prelude.{◌≡◌};
+
+use crate::history::Front;
+use crate::mark::Mark;
+use crate::numbers::Stub;
+use flusher_core::Slice;
+use std::marker::Model;
+
+/// A slice that `gate` or `next` answered, of [`Shared`](crate::Shared). It is made by these alone,
+/// and its type keeps that it stands in the recording that threads share, from then on. Contracts
+/// see the slice.
+#[derive(Drop)]
+pub struct Receipt<M: Mark> {
+    pub(crate) slice: Slice,
+    pub(crate) front: Front<M>,
+}
+
+impl<M: Mark> Model for Receipt<M> {
+    ghost use Rattle.std.specs.Prelude.{◌<◌, ◌^◌, length};
+    ghost use Rattle.flusher_core.specs.declared.slice.Slice.{Slice};
+    ghost use Rattle.broadcast.specs.Headline.{Stands};
+
+    ghost Value = { Slice };
+
+    ghost view = { λ r. r.slice };
+
+    ghost invariant = { λ r. (length r.slice.messages.items < 2 ^ 32) × (M.is_modelled → Stands M.head r.front.committed r.slice) };
+}
+
+impl<M: Mark> Receipt<M> {
+    /// The slice that was answered.
+    pub fn slice(&self) -> &Slice
+        ensures { result.now ≡ self.now }
+    {
+        &self.slice
+    }
+}
+
+/// The number of a message that `host` of [`Shared`](crate::Shared) accepted. It is made by that
+/// alone. Contracts see the number, and the message that was accepted there with its time.
+#[derive(Drop)]
+pub struct Ticket<M: Mark> {
+    pub(crate) number: u64,
+    pub(crate) front: Front<M>,
+    pub(crate) stub: Stub<M>,
+}
+
+impl<M: Mark> Model for Ticket<M> {
+    ghost use Rattle.std.specs.Prelude.{◌≡◌, ◌+◌, ◌<◌, length, slice_get};
+    ghost use Rattle.shared_book.specs.Receipts.{Accepted};
+
+    ghost Value = { Accepted };
+
+    ghost view = { λ t. record { number = t.number; stamped = slice_get t.front.accepted t.number } };
+
+    ghost invariant = { λ t. M.is_modelled → (M.first + t.stub ≡ t.number) × (t.number < length t.front.accepted) };
+}
+
+impl<M: Mark> Ticket<M> {
+    /// The number of the message, counted from 0 over the whole recording.
+    pub fn number(&self) -> u64
+        ensures { result ≡ self.now.number }
+    {
+        self.number
+    }
+}
