@@ -4,3 +4,4 @@ pub mod Rows
 pub mod Screens
 pub mod Same
 pub mod Updates
+pub mod RowsRead

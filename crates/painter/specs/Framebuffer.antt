@@ -1,8 +1,11 @@
 -- A screen: a colour for each of its places.
-use Rattle.std.specs.Prelude.{◌≡◌, ℕ, ◌+◌, ◌*◌, ◌<◌, List, slice_index_or}
+use Rattle.std.specs.Prelude.{◌≡◌, ℕ, ◌+◌, ◌*◌, ◌<◌, ◌++◌, All, List, length, slice_index_or}
 use Rattle.pixel_format.specs.declared.Color.{Color}
 use Rattle.rfb_wire.specs.Host.{Host}
 use Rattle.pixel_format.specs.Canvas.{Picture}
+use Rattle.pixel_format.specs.Pixel.{IsScreenColor}
+use Rattle.client_wire.specs.declared.message.Area.{Area}
+use Rattle.rre.specs.Encoded.{rows_of}
 use Rattle.painter.specs.Picture.{black, painted}
 
 -- its size, and the colours of its places by rows, from the top and the left
@@ -23,6 +26,19 @@ pub record SameSize (old new : Framebuffer) : Type 0 where
 -- the screen has this picture at each of its places
 abbrev pub Has : Framebuffer → Picture → Type 0
 Has screen picture = (x y : ℕ) → x < screen.width → y < screen.height → color_at screen x y ≡ picture x y
+
+-- the colours of the places of an area, by rows; each channel is at most 255
+pub record AreColorsOf (screen : Framebuffer) (area : Area) (colors : List Color) : Type 0 where
+  pub size : length colors ≡ area.h * area.w
+  pub shows : (x y : ℕ) → x < area.w → y < area.h
+      → rows_of colors area.w x y ≡ color_at screen (area.x + x) (area.y + y)
+  pub each : All IsScreenColor colors
+
+-- new is old, with the colours of an area behind it
+pub record AppendsColors (screen : Framebuffer) (area : Area) (old new : List Color) : Type 0 where
+  pub colors : List Color
+  pub new_is : new ≡ old ++ colors
+  pub has : AreColorsOf screen area colors
 
 -- two screens of one size, with the same colour at each place
 pub record IsSame (one other : Framebuffer) : Type 0 where

@@ -1,6 +1,7 @@
 //! Screens that are painted by the messages of a host (RFC 6143, section 7.7).
 #![tactic(auto)]
 
+mod colors;
 mod laws;
 mod pixel;
 mod rectangle;

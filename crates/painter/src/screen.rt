@@ -1,14 +1,15 @@
 //! Screens.
 
-ghost use Rattle.std.specs.Prelude.{◌≡◌, ◌↔◌, ◌<◌, ◌≤◌, ◌+◌, ℕ, ◌++◌, ◌∷◌, [], IsTrue, IfOk, List};
+ghost use Rattle.std.specs.Prelude.{◌≡◌, ◌↔◌, ◌<◌, ◌≤◌, ◌+◌, ℕ, ◌++◌, ◌∷◌, [], IsTrue, IfOk, OnOk, OnErr, List};
 ghost use Rattle.rfb_wire.specs.Host.{Host};
 ghost use Rattle.pixel_format.specs.Pixel.{IsScreenColor};
-ghost use Rattle.painter.specs.Framebuffer.{Framebuffer, color_at, SameSize, Has, IsSame, Shows};
+ghost use Rattle.painter.specs.Framebuffer.{Framebuffer, color_at, SameSize, Has, AppendsColors, IsSame, Shows};
 ghost use Rattle.rect_codec.specs.Picture.{painted_data};
 ghost use Rattle.painter.specs.Picture.{black, painted_message};
 ghost use Rattle.pixel_format.specs.Format.{host_format};
 ghost use Rattle.rect_data.specs.Data.{AreData};
 
+use crate::colors::read_area;
 use crate::pixel::{BLACK, Pixel, color_of_pixel, pixel_of_color};
 use crate::rectangle::{copy_area, fill_area, paint_raw};
 use pixel_format::{Canvas, Color, NoMemory, PixelFormat};
@@ -74,11 +75,35 @@ impl Screen {
         color_of_pixel(self.pixels[place])
     }
 
+    /// Appends the colours of the places of an area, by rows from the top and each from the left.
+    /// Want of memory leaves `out` as it was.
+    pub fn area(&self, area: Area, out: &mut Vec<Color>) -> Result<(), NoMemory>
+        requires columns { area.x + area.w ≤ self.now.width }
+        requires rows { area.y + area.h ≤ self.now.height }
+        ensures ok { OnOk result (AppendsColors self.now area out.old.items out.new.items) }
+        ensures err { OnErr result (out.new.items ≡ out.old.items) }
+    {
+        let start = out.len();
+        let places = usize::from(area.h) * usize::from(area.w);
+        out.resize(start + places, color_of_pixel(BLACK))?;
+        read_area(&self.pixels, self.width, area, &mut out[start..]);
+        Ok(())
+    }
+
     /// Whether the other screen is the same: it has this size, and the same colour at each place.
     pub fn same(&self, other: &Screen) -> bool
         ensures { IsTrue result ↔ IsSame self.now other.now }
     {
         self.width == other.width && self.height == other.height && self.pixels == other.pixels
+    }
+
+    /// Takes over the colours of another screen of this size. It takes no memory.
+    pub fn set(&mut self, other: &Screen)
+        requires width { other.now.width ≡ self.old.width }
+        requires height { other.now.height ≡ self.old.height }
+        ensures { self.new ≡ other.now }
+    {
+        self.pixels.copy_from_slice(&other.pixels);
     }
 
     // Paints a rectangle of this area from its data.

@@ -1,0 +1,39 @@
+//! Reading the colours of areas of places that are kept by rows.
+
+ghost use Rattle.std.specs.Prelude.{◌≡◌, ◌+◌, ◌*◌, ◌<◌, ◌≤◌, ℕ, length};
+ghost use Rattle.pixel_format.specs.Pixel.{IsScreenColor};
+ghost use Rattle.rre.specs.Encoded.{nth};
+ghost use Rattle.painter.specs.Pixels.{color_in, pixel_color_at};
+
+use crate::pixel::{Pixel, color_of_pixel};
+use pixel_format::Color;
+use rfb_wire::Area;
+
+// The colours of a row of places.
+fn read_row(pixels: &[Pixel], colors: &mut [Color])
+    requires { length pixels.now ≡ length colors.old }
+    ensures value { (k : ℕ) → k < length colors.old → nth colors.new k ≡ pixel_color_at pixels.now k }
+    ensures screen { (k : ℕ) → k < length colors.old → IsScreenColor (nth colors.new k) }
+{
+    for (k, color) in colors.iter_mut().enumerate() {
+        *color = color_of_pixel(pixels[k]);
+    }
+}
+
+/// The colours of the places of an area, row by row.
+pub(crate) fn read_area(pixels: &[Pixel], width: u16, area: Area, colors: &mut [Color])
+    requires columns { area.x + area.w ≤ width }
+    requires rows { (area.y + area.h) * width ≤ length pixels.now }
+    requires size { length colors.old ≡ area.h * area.w }
+    ensures value { (x y : ℕ) → x < area.w → y < area.h → nth colors.new (y * area.w + x)
+        ≡ color_in pixels.now width (area.x + x) (area.y + y) }
+    ensures screen { (k : ℕ) → k < length colors.old → IsScreenColor (nth colors.new k) }
+{
+    let (width, w) = (usize::from(width), usize::from(area.w));
+    let (left, top) = (usize::from(area.x), usize::from(area.y));
+    for row in 0..usize::from(area.h) {
+        let start = (top + row) * width + left;
+        let from = row * w;
+        read_row(&pixels[start..start + w], &mut colors[from..from + w]);
+    }
+}

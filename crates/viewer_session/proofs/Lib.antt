@@ -1,0 +1,5 @@
+pub mod BitSets
+pub mod PlaceSets
+pub mod Views
+pub mod Answered
+pub mod Asked

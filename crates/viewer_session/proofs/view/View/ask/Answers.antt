@@ -1,0 +1,35 @@
+use Rattle.std.proofs.Common.{◌≡◌, ◌∙◌, true, false, sym, subst, ap, refl}
+use Rattle.std.specs.Prelude.{not, ◌||◌, ◌&&◌, Option, Some}
+use Rattle.client_wire.specs.declared.message.Area.{Area}
+use Rattle.rect_codec.specs.Picture.{is_in}
+use Rattle.viewer_session.specs.Places.{IsSmallest}
+use Rattle.viewer_session.specs.declared.view.View.{View}
+use Rattle.viewer_session.specs.View.{IsCut, is_pending}
+use Rattle.viewer_session.proofs.Asked.{IsMarked, asked_is}
+use Rattle.viewer_session.proofs.view.View.ask.Goals as goal
+use Rattle.viewer_session.proofs.view.View.ask.Goals.{then-not-incremental, else-not-incremental}
+
+pub returns-clause-asked : goal.returns-clause-asked
+returns-clause-asked c =
+    let old = c.args.self.now in
+    let mid : View = c.if-not-incremental.self in
+    let part = c.in-Some.area in
+    let cut : IsCut old.screen.width old.screen.height c.args.area (Some part) = rw c.size-width.ensures at c.in-Some.ensures in
+    let marked : IsMarked old mid (λ x y. not c.args.incremental && is_in part x y) = elim c.if-not-incremental.branch [
+      | then-not-incremental w ↦
+          (let plain : c.args.incremental ≡ false = w.if-not-incremental.true in
+          subst (λ (v : View). IsMarked old v (λ x y. not c.args.incremental && is_in part x y)) (sym w.self-is) (record {
+            kept = refl;
+            stale = λ x y across down. w.insert.ensures.just x y (rw (w.insert.ensures.size.width, c.requires.sound.width) across) (rw (w.insert.ensures.size.height, c.requires.sound.height) down)
+                ∙ rw plain refl;
+          }))
+      | else-not-incremental w ↦
+          (let plain : c.args.incremental ≡ true = w.if-not-incremental.false in
+          subst (λ (v : View). IsMarked old v (λ x y. not c.args.incremental && is_in part x y)) (sym w.self-is) (record {
+            kept = refl;
+            stale = λ x y across down. rw plain refl;
+          }))
+    ] in
+    let smallest : IsSmallest (λ a b. is_pending old.pending a b || is_in part a b) c.widened.result =
+    subst (λ (p : Option Area). IsSmallest (λ a b. is_pending p a b || is_in part a b) c.widened.result) (ap (λ (v : View). v.pending) marked.kept) c.widened.ensures.smallest in
+    asked_is old mid c.args.incremental c.args.area part c.widened.result cut marked smallest
