@@ -3,3 +3,4 @@ pub mod PlaceSets
 pub mod Views
 pub mod Answered
 pub mod Asked
+pub mod Greeting

@@ -3,9 +3,13 @@
 #![tactic(auto)]
 
 mod bits;
+mod fault;
+mod handshake;
 mod places;
 mod view;
 
+pub use fault::SessionFault;
+pub use handshake::is_whole;
 pub use places::Places;
 pub use view::View;
 

@@ -3,7 +3,7 @@
 ghost use Rattle.std.specs.Prelude.{◌≡◌, IfOk};
 ghost use Rattle.viewer_session.specs.View.{IsSound};
 
-use crate::View;
+use crate::{SessionFault, View, is_whole};
 use client_wire::{ClientMessage, Encodings};
 use flusher_core::Slice;
 use key_index::Stamped;
@@ -99,5 +99,17 @@ fn sixteen_bits(rt: HostRuntime) -> Result<(), Fail> {
     view.answer(alloc, &mut out)?;
     let answer = [0, 0, 0, 1, 0, 0, 0, 0, 0, 1, 0, 1, 0, 0, 0, 0, 252, 0];
     assert!(rt; out.as_slice() == answer.as_slice());
+    Ok(())
+}
+
+// A whole handshake; another version, once it is whole; another security type.
+#[test]
+fn handshakes(rt: HostRuntime) -> Result<(), Fail> {
+    assert!(rt; is_whole(b"RFB 003.008\n\x01\x00")?);
+    assert!(rt; !is_whole(b"RFB 003.003")?);
+    assert!(rt; is_whole(b"RFB 003.003\n") == Err(SessionFault::Version));
+    assert!(rt; is_whole(b"RFB 003.008\n\x02") == Err(SessionFault::Security));
+    assert!(rt; SessionFault::Version.number() == 20);
+    assert!(rt; SessionFault::Security.number() == 21);
     Ok(())
 }
