@@ -1,0 +1,11 @@
+mod Blocks
+mod Judging
+mod Left
+mod Openings
+mod Parts
+mod RoundTrip
+mod Said
+mod Shown
+mod Texts
+mod Times
+mod Writes

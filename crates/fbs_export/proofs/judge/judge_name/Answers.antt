@@ -1,0 +1,22 @@
+use Rattle.std.proofs.Common.{[], ◌≡◌, ℕ, List, ◌++◌, length, take, drop, arith, refl, sym, ap, ◌∙◌}
+use Rattle.std.proofs.lemmas.List.{take_all, drop_all}
+use Rattle.client_wire.specs.Number.{u32_at}
+use Rattle.fbs_export.specs.Opening.{name_at, named}
+use Rattle.fbs_export.proofs.Judging.{part_short, part_whole}
+use Rattle.fbs_export.proofs.judge.judge_name.Goals as goal
+
+pub returns-then-bytes-lt4 : goal.returns-then-bytes-lt4
+unfolding name_at
+returns-then-bytes-lt4 c =
+    let short = c.if-bytes-lt4.true in
+    (part_short 4 c.args.bytes.now (λ count rest. named c.args.width c.args.height (u32_at count 0) rest) short, short)
+
+pub returns : goal.returns
+unfolding name_at
+returns c = λ more.
+    let bytes = c.args.bytes.now in
+    let all : take 4 bytes ≡ bytes = take_all 4 bytes c.requires in
+    let count : u32_at bytes 0 ≡ c.from_be_bytes-count.result = omega (arith, c.from_be_bytes-count.ensures) in
+    let none : drop 4 bytes ≡ [] = drop_all 4 bytes c.requires in
+    part_whole 4 bytes more (λ count rest. named c.args.width c.args.height (u32_at count 0) rest) (c.if-bytes-lt4.false)
+    ∙ rw (all, none, count) refl

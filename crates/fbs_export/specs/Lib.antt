@@ -1,0 +1,7 @@
+pub mod Blocks
+pub mod Export
+pub mod Faults
+pub mod Judged
+pub mod Opening
+pub mod Summary
+pub mod Written

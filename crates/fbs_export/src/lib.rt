@@ -1,0 +1,14 @@
+//! FBS files: a part of a recording as such a file, and what such a file says.
+#![tactic(auto)]
+
+mod exporting;
+mod fault;
+mod judge;
+mod laws;
+mod summary;
+mod writing;
+
+pub use exporting::{export, first_exported};
+pub use fault::{ExportFault, FbsFault};
+pub use laws::exported_is_read;
+pub use summary::Summary;
