@@ -1,5 +1,5 @@
 -- Judging the parts of an opening, one behind the other.
-use Rattle.std.proofs.Common.{◌≡◌, ◌<◌, ◌≤◌, ℕ, ◌+◌, List, [], ◌++◌, length, take, drop, refl, sym, ap, ◌∙◌, arith, append-nil, append_assoc, take-append-drop, length-drop, Bool, true, false, Result, Ok, Err}
+use Rattle.std.proofs.Common.{◌≡◌, ◌<◌, ◌≤◌, ℕ, ◌+◌, List, [], ◌++◌, length, take, drop, refl, sym, ap, ◌∙◌, arith, append-nil, append_assoc, take-append-drop, length-drop, drop-drop, Bool, true, false, Result, Ok, Err}
 use Rattle.std.specs.Prelude.{Option, Some, None}
 use Rattle.std.proofs.lemmas.List.{length-take}
 use Rattle.pixel_format.specs.Reading.{Reading, Got, More, Bad, ◌>>=◌, field, guard}
@@ -8,7 +8,7 @@ use Rattle.fbs_export.specs.declared.fault.FbsFault.{FbsFault}
 use Rattle.fbs_export.specs.declared.fault.FbsFault.TheVariants as faults
 use Rattle.fbs_export.specs.declared.judge.Announced.{Announced}
 use Rattle.fbs_export.specs.Judged.{OfOpening, IsJudged}
-use Rattle.fbs_export.specs.Opening.{Opening}
+use Rattle.fbs_export.specs.Opening.{Opening, named}
 
 -- a part that isn't whole
 pub part_short : {B : Type 0} (n : ℕ) (bytes : List ℕ) (next : List ℕ → List ℕ → Reading B FbsFault) → length bytes < n → (field n bytes >>= next) ≡ More
@@ -39,6 +39,8 @@ pub judged_behind : (read next : List ℕ → Reading Opening FbsFault) (n reach
 judged_behind read next n reach all bytes (Ok None) link enough is judged =
     let here : read bytes ≡ next (drop n bytes) = ap read (sym (append-nil bytes)) ∙ link [] ∙ ap next (append-nil (drop n bytes)) in
     (here ∙ judged.0, omega (arith, judged.1, length-drop n bytes, is, enough))
-judged_behind read next n reach all bytes (Ok (Some a)) link enough is judged = λ more. link more ∙ judged more
+judged_behind read next n reach all bytes (Ok (Some a)) link enough is judged =
+    let same : drop reach (drop n bytes) ≡ drop all bytes = drop-drop reach n bytes ∙ ap (λ z. drop z bytes) (omega (arith, is)) in
+    (omega (arith, judged.0, length-drop n bytes, is, enough), λ more. link more ∙ judged.1 more ∙ ap (λ z. named a.width a.height a.count (z ++ more)) same)
 judged_behind read next n reach all bytes (Err f) link enough is judged =
     of_opening_map f ((more : List ℕ) → next (drop n bytes ++ more) ≡ Bad f) ((more : List ℕ) → read (bytes ++ more) ≡ Bad f) (λ h more. link more ∙ h more) judged

@@ -1,11 +1,16 @@
 mod Blocks
+mod Heading
+mod Hearing
 mod Judging
 mod Left
+mod Naming
 mod Openings
 mod Parts
+mod Pieces
 mod RoundTrip
 mod Said
 mod Shown
+mod Stamping
 mod Texts
 mod Times
 mod Writes

@@ -2,10 +2,10 @@
 use Rattle.std.proofs.Common.{◌≡◌, ◌<◌, ◌≤◌, ◌^◌, ℕ, ◌+◌, ◌-◌, ◌*◌, ◌/◌, ◌%◌, List, [], ◌∷◌, ◌++◌, length, take, drop, true, refl, sym, ap, ◌∙◌, arith}
 use Rattle.std.proofs.lemmas.Bool.{lt-ltb}
 use Rattle.std.proofs.lemmas.List.{take_all}
-use Rattle.pixel_format.specs.Reading.{Reading, Got, ◌>>=◌, field, guard}
+use Rattle.pixel_format.specs.Reading.{Reading, Got, More, ◌>>=◌, field, guard}
 use Rattle.pixel_format.specs.Format.{host_format}
 use Rattle.pixel_format.specs.Written.{format_bytes}
-use Rattle.pixel_format.proofs.Readings.{field-whole}
+use Rattle.pixel_format.proofs.Readings.{field-short, field-whole}
 use Rattle.client_wire.specs.Number.{u32_at, u16_at, u32_bytes}
 use Rattle.rfb_wire.specs.Written.{two_bytes}
 use Rattle.gated_journal.specs.Recording.{Head, IsHead, IsSize}
@@ -61,3 +61,7 @@ unfolding opening_at opening_text
 opening_is_read h more is =
     rw (field-whole {E = FbsFault} 12 version (u32_bytes 1 ++ ((two_bytes h.width ++ two_bytes h.height) ++ (format_bytes host_format ++ (u32_bytes (length h.name) ++ (h.name ++ more))))) refl)
     (security_is_read h.width h.height h.name more is.size is.name)
+
+pub no_opening : opening_at [] ≡ More
+unfolding opening_at
+no_opening = rw (field-short {E = FbsFault} 12 [] (omega arith)) refl

@@ -1,5 +1,5 @@
 -- What is judged of the front of an opening.
-use Rattle.std.specs.Prelude.{◌≡◌, ◌<◌, ℕ, List, ◌++◌, length, Option, Some, None, Result, Ok, Err}
+use Rattle.std.specs.Prelude.{◌≡◌, ◌<◌, ◌≤◌, ℕ, List, ◌++◌, length, drop, Option, Some, None, Result, Ok, Err}
 use Rattle.pixel_format.specs.Reading.{Reading, More, Bad}
 use Rattle.fbs_export.specs.declared.fault.FbsFault.{FbsFault}
 use Rattle.fbs_export.specs.declared.fault.FbsFault.TheVariants as faults
@@ -22,5 +22,6 @@ OfOpening faults.Read P = ⊥
 -- or a fault stands in them, whatever follows.
 abbrev pub IsJudged : (List ℕ → Reading Opening FbsFault) → ℕ → List ℕ → Result (Option Announced) FbsFault → Type 0
 IsJudged read reach bytes (Ok None) = (read bytes ≡ More) × (length bytes < reach)
-IsJudged read reach bytes (Ok (Some a)) = (more : List ℕ) → read (bytes ++ more) ≡ named a.width a.height a.count more
+IsJudged read reach bytes (Ok (Some a)) =
+    (reach ≤ length bytes) × ((more : List ℕ) → read (bytes ++ more) ≡ named a.width a.height a.count (drop reach bytes ++ more))
 IsJudged read reach bytes (Err f) = OfOpening f ((more : List ℕ) → read (bytes ++ more) ≡ Bad f)

@@ -7,7 +7,7 @@ ghost use Rattle.fbs_export.specs.declared.fault.Stop.TheVariants.{NoMemory as S
 
 use crate::writing::WriteFailed;
 use client_wire::WireFault;
-use std::alloc::{AllocError, AllocFailed};
+use std::alloc::AllocError;
 use thiserror::Error;
 
 /// Why a file is refused: the fault that stands first in it, or what kept it from being read.

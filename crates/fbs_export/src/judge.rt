@@ -6,9 +6,6 @@ ghost use Rattle.fbs_export.specs.Opening.{is_host, is_size, name_at, format_the
 
 use crate::fault::FbsFault;
 
-/// How many bytes stand in front of the name.
-pub const HEAD_LENGTH: usize = 40;
-
 const VERSION: [u8; 12] = *b"RFB 003.003\n";
 
 /// Of red, green and blue in the host format: each maximum in two bytes, each shift in one.
@@ -54,13 +51,13 @@ fn is_allowed(width: u16, height: u16) -> bool
 }
 
 fn judge_name(width: u16, height: u16, bytes: &[u8]) -> Option<Announced>
-    requires { length bytes.now ≤ 4 }
     ensures { IsJudged (name_at width height) 4 bytes.now (Ok result) }
 {
     if bytes.len() < 4 {
         return None;
     }
-    let count = u32::from_be_bytes([bytes[0], bytes[1], bytes[2], bytes[3]]);
+    let (count, _) = bytes.split_at(4);
+    let count = u32::from_be_bytes([count[0], count[1], count[2], count[3]]);
     Some(Announced {
         width,
         height,
@@ -69,7 +66,6 @@ fn judge_name(width: u16, height: u16, bytes: &[u8]) -> Option<Announced>
 }
 
 fn judge_format(width: u16, height: u16, bytes: &[u8]) -> Result<Option<Announced>, FbsFault>
-    requires { length bytes.now ≤ 20 }
     ensures { IsJudged (format_then width height) 20 bytes.now result }
 {
     if bytes.len() < 16 {
@@ -83,7 +79,6 @@ fn judge_format(width: u16, height: u16, bytes: &[u8]) -> Result<Option<Announce
 }
 
 fn judge_size(bytes: &[u8]) -> Result<Option<Announced>, FbsFault>
-    requires { length bytes.now ≤ 24 }
     ensures { IsJudged size_then 24 bytes.now result }
 {
     if bytes.len() < 4 {
@@ -99,7 +94,6 @@ fn judge_size(bytes: &[u8]) -> Result<Option<Announced>, FbsFault>
 }
 
 fn judge_security(bytes: &[u8]) -> Result<Option<Announced>, FbsFault>
-    requires { length bytes.now ≤ 28 }
     ensures { IsJudged security_then 28 bytes.now result }
 {
     if bytes.len() < 4 {
@@ -115,7 +109,6 @@ fn judge_security(bytes: &[u8]) -> Result<Option<Announced>, FbsFault>
 /// What the first bytes of a stream say, up to the name's length; none while there are too few. The
 /// first fault is answered: `Version`, `Security`, `Size` or `Format`.
 pub fn judge(bytes: &[u8]) -> Result<Option<Announced>, FbsFault>
-    requires { length bytes.now ≤ 40 }
     ensures { IsJudged opening_at 40 bytes.now result }
 {
     if bytes.len() < 12 {

@@ -5,6 +5,8 @@ mod exporting;
 mod fault;
 mod judge;
 mod laws;
+mod opening;
+mod stream;
 mod summary;
 mod writing;
 

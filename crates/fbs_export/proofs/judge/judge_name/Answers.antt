@@ -13,10 +13,7 @@ returns-then-bytes-lt4 c =
 
 pub returns : goal.returns
 unfolding name_at
-returns c = λ more.
+returns c =
     let bytes = c.args.bytes.now in
-    let all : take 4 bytes ≡ bytes = take_all 4 bytes c.requires in
-    let count : u32_at bytes 0 ≡ c.from_be_bytes-count.result = omega (arith, c.from_be_bytes-count.ensures) in
-    let none : drop 4 bytes ≡ [] = drop_all 4 bytes c.requires in
-    part_whole 4 bytes more (λ count rest. named c.args.width c.args.height (u32_at count 0) rest) (c.if-bytes-lt4.false)
-    ∙ rw (all, none, count) refl
+    let count : u32_at (take 4 bytes) 0 ≡ c.from_be_bytes-count.result = rw (← c.split_at.ensures.front) (omega (arith, c.from_be_bytes-count.ensures)) in
+    (c.if-bytes-lt4.false, λ more. part_whole 4 bytes more (λ count rest. named c.args.width c.args.height (u32_at count 0) rest) c.if-bytes-lt4.false ∙ rw count refl)
