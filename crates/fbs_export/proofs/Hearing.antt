@@ -237,6 +237,10 @@ stands_open c times s e stands = subst (λ z. MatchOption z (Opens c times s) (�
 pub stands_heard : (c : Stream) (r : Reader) (times s : List ℕ) → c.reader ≡ Some r → Stands c times s → Hears c r times s
 stands_heard c r times s e stands = subst (λ z. MatchOption z (Opens c times s) (λ q. Hears c q times s)) e stands
 
+heard_or_not : (o : Option Reader) → (o ≡ None) ⊎ ((r : Reader) × (o ≡ Some r))
+heard_or_not None = inl refl
+heard_or_not (Some r) = inr (r, refl)
+
 -- a block ends, in the opening or behind it
 pub block_over : (c new : Stream) (times s : List ℕ) (n t : ℕ) → length s ≡ length times + n → new.opening ≡ c.opening → new.reader ≡ c.reader → new.hosts.items ≡ []
     → new.messages.items ≡ c.messages.items ++ at_time t c.hosts.items → Stands c times s → Stands new (times ++ replicate n t) s
@@ -255,7 +259,10 @@ block_over c new times s n t long opening reader none messages stands = elim (he
       subst (λ z. MatchOption z (Opens new (times ++ replicate n t) s) (λ r. Hears new r (times ++ replicate n t) s)) (sym (reader ∙ heard.1))
       (block_ends c new heard.0 times s n t a long opening none messages))
 ]
-  where
-    heard_or_not : (o : Option Reader) → (o ≡ None) ⊎ ((r : Reader) × (o ≡ Some r))
-    heard_or_not None = inl refl
-    heard_or_not (Some r) = inr (r, refl)
+
+-- there is no fault so far
+pub no_fault_yet : (c : Stream) (times s : List ℕ) → Stands c times s → (opening_at s ≡ More) ⊎ Waits s
+no_fault_yet c times s stands = elim (heard_or_not c.reader) [
+  | inl closed ↦ inl (opening_waits c times s (stands_open c times s closed stands))
+  | inr heard ↦ inr (waits_within c heard.0 times s (stands_heard c heard.0 times s heard.1 stands))
+]

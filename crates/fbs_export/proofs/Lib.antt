@@ -1,9 +1,13 @@
 mod Blocks
+mod Filling
+mod Fronts
 mod Heading
 mod Hearing
 mod Judging
+mod Laying
 mod Left
 mod Naming
+mod Numbers
 mod Openings
 mod Parts
 mod Pieces
@@ -11,6 +15,7 @@ mod RoundTrip
 mod Said
 mod Shown
 mod Stamping
+mod Starts
 mod Texts
 mod Times
 mod Writes

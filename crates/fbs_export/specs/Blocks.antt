@@ -1,5 +1,5 @@
 -- The blocks of an FBS file: data, padding and a time. All the data in a row are the file's stream.
-use Rattle.std.specs.Prelude.{◌≡◌, ℕ, ◌-◌, ◌%◌, Bool, true, ◌&&◌, nat_lt, List, [], ◌∷◌, ◌++◌, length, take, drop, replicate, slice_index, if◌then◌else◌}
+use Rattle.std.specs.Prelude.{◌≡◌, ℕ, ◌-◌, ◌%◌, Bool, true, ◌&&◌, nat_eq, nat_lt, List, [], ◌∷◌, ◌++◌, length, take, drop, replicate, slice_index, if◌then◌else◌}
 use Rattle.std.specs.List.{flat_map}
 use Rattle.std.specs.Str.{bytes_eq}
 use Rattle.pixel_format.specs.Reading.{Reading, Got, More, ◌>>=◌, field}
@@ -54,7 +54,7 @@ is_digit b = nat_lt 47 b && nat_lt b 58
 -- the first twelve bytes: 'FBS 001.', any three digits, and a newline
 unfoldable pub is_start : List ℕ → Bool
 is_start bytes = bytes_eq (take 8 bytes) magic && is_digit (slice_index bytes 8) && is_digit (slice_index bytes 9)
-    && is_digit (slice_index bytes 10) && bytes_eq (drop 11 bytes) (10 ∷ [])
+    && is_digit (slice_index bytes 10) && nat_eq (slice_index bytes 11) 10
 
 -- The file begins as such a file does; whole blocks follow, and then a tail that is no whole block.
 pub record Laid (file : List ℕ) (blocks : List (Part Block)) (tail : List ℕ) : Type 0 where

@@ -1,5 +1,6 @@
 -- What the readers of a file stand for.
-use Rattle.std.specs.Prelude.{◌≡◌, ◌≢◌, ◌≤◌, ◌<◌, ℕ, ◌+◌, ◌-◌, List, [], ◌++◌, length, take, drop, Option, Some, None, MatchOption}
+use Rattle.std.specs.Prelude.{◌≡◌, ◌≢◌, ◌≤◌, ◌<◌, ℕ, ◌+◌, ◌-◌, List, [], ◌++◌, length, take, drop, Option, Some, None, MatchOption, Bool, true, false}
+use Rattle.std.specs.Io.KnownBytes.{Consumes, IsAtEnd}
 use Rattle.std.specs.List.{flat_map, AllByRecursion}
 use Rattle.pixel_format.specs.Reading.{Got, More, Bad}
 use Rattle.client_wire.specs.Stream.{Part, bytes_of, IsPart, Goes}
@@ -13,6 +14,7 @@ use Rattle.fbs_export.specs.declared.fault.FbsFault.TheVariants as faults
 use Rattle.fbs_export.specs.declared.opening.Name.{Name}
 use Rattle.fbs_export.specs.declared.opening.OpeningReader.{OpeningReader}
 use Rattle.fbs_export.specs.declared.stream.Stream.{Stream}
+use Rattle.fbs_export.specs.Blocks.{Block, Laid, data_of, times_of, is_start}
 use Rattle.fbs_export.specs.Opening.{Opening, opening_at, named, name_limit}
 use Rattle.fbs_export.specs.Summary.{MessageFault, stamped}
 
@@ -94,3 +96,32 @@ pub record Hears (c : Stream) (r : Reader) (times s : List ℕ) : Type 0 where
 -- the reader of a stream, of which the bytes of former blocks have these times
 abbrev pub Stands : Stream → List ℕ → List ℕ → Type 0
 Stands c times s = MatchOption c.reader (Opens c times s) (λ r. Hears c r times s)
+
+-- The reader of a file stands behind these bytes of it: whole blocks, of whose data and times the
+-- reader of the stream stands.
+pub record IsBetween (c : Stream) (seen : List ℕ) : Type 0 where
+  pub blocks : List (Part Block)
+  pub laid : Laid seen blocks []
+  pub long : 12 ≤ length seen
+  pub stands : Stands c (times_of blocks) (data_of blocks)
+
+-- so many bytes of data came, and the reader of the stream has them
+pub record Came (old new : Option (List ℕ)) (c d : Stream) (n : ℕ) : Type 0 where
+  pub content : List ℕ
+  pub consumed : Consumes old new content
+  pub count : length content ≡ n
+  pub heard : (times s : List ℕ) → Stands c times s → Stands d times (s ++ content)
+
+-- a block more came; or the file has ended
+pub record Went (old new : Option (List ℕ)) (d : Stream) (seen : List ℕ) (more : Bool) : Type 0 where
+  pub bytes : List ℕ
+  pub consumed : Consumes old new bytes
+  pub between : IsBetween d (seen ++ bytes)
+  pub ended : more ≡ false → IsAtEnd new
+
+-- the start of a file came
+pub record Started (old new : Option (List ℕ)) : Type 0 where
+  pub bytes : List ℕ
+  pub consumed : Consumes old new bytes
+  pub count : length bytes ≡ 12
+  pub is : is_start bytes ≡ true

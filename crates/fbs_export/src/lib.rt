@@ -1,6 +1,7 @@
 //! FBS files: a part of a recording as such a file, and what such a file says.
 #![tactic(auto)]
 
+mod checking;
 mod exporting;
 mod fault;
 mod judge;
@@ -10,6 +11,7 @@ mod stream;
 mod summary;
 mod writing;
 
+pub use checking::check;
 pub use exporting::{export, first_exported};
 pub use fault::{ExportFault, FbsFault};
 pub use laws::exported_is_read;

@@ -46,8 +46,8 @@ fn four_bytes(n: u32) -> [u8; 4]
 
 const ZEROS: [u8; 3] = [0; 3];
 
-// How many bytes pad so many to a multiple of four.
-fn padding_of(length: usize) -> usize
+/// How many bytes pad so many to a multiple of four.
+pub fn padding_of(length: usize) -> usize
     ensures value { result ≡ padding_length length }
     ensures most { result ≤ 3 }
 {
