@@ -1,16 +1,14 @@
 -- The bytes in front of a name, one by one.
-use Rattle.std.proofs.Common.{◌≡◌, ◌<◌, ◌≤◌, ◌+◌, ◌-◌, ℕ, List, [], ◌++◌, length, take, drop, refl, sym, ap, ◌∙◌, subst, arith, append_assoc, append-nil, take-append-drop}
+use Rattle.std.proofs.Common.{◌≡◌, ◌+◌, ℕ, List, [], ◌++◌, take, drop, sym, ap, ◌∙◌, arith, append_assoc, take-append-drop}
 use Rattle.std.proofs.Math.Seq.{take-add}
-use Rattle.std.proofs.lemmas.List.{take_all}
-use Rattle.pixel_format.specs.Reading.{Got, More, Bad}
-use Rattle.pixel_format.proofs.Readings.{field-short}
+use Rattle.pixel_format.specs.Reading.{Bad}
 use Rattle.fbs_export.specs.declared.fault.FbsFault.{FbsFault}
 use Rattle.fbs_export.specs.declared.fault.FbsFault.TheVariants as faults
 use Rattle.fbs_export.specs.declared.judge.Announced.{Announced}
 use Rattle.fbs_export.specs.declared.opening.Name.{Name}
 use Rattle.fbs_export.specs.Judged.{OfOpening}
 use Rattle.fbs_export.specs.Opening.{opening_at, named}
-use Rattle.fbs_export.specs.Reader.{IsDataFault, IsInHead, IsInName, IsOpened}
+use Rattle.fbs_export.specs.Reader.{IsDataFault, IsInName}
 
 -- one byte more
 pub head_more : (head new s piece : List ℕ) (n k : ℕ) → s ++ take n piece ≡ head → new ≡ head ++ take k (drop n piece) → k ≡ 1 → s ++ take (n + 1) piece ≡ new

@@ -1,5 +1,5 @@
 -- What the reader of a stream stands for, from piece to piece and from block to block.
-use Rattle.std.proofs.Common.{◌≡◌, ◌≢◌, ◌<◌, ◌≤◌, ◌+◌, ◌-◌, ◌⊎◌, inl, inr, None, Some, ℕ, List, [], ◌∷◌, ◌++◌, length, take, drop, replicate, refl, sym, ap, ◌∙◌, subst, arith, append_assoc, append-nil, length-append}
+use Rattle.std.proofs.Common.{◌≡◌, ◌≢◌, ◌<◌, ◌≤◌, ◌+◌, ◌-◌, ◌⊎◌, inl, inr, None, Some, ℕ, List, [], ◌∷◌, ◌++◌, length, drop, replicate, refl, sym, ap, ◌∙◌, subst, arith, append_assoc, append-nil, length-append}
 use Rattle.std.specs.List.{flat_map, AllByRecursion}
 use Rattle.std.proofs.lemmas.List.{length-replicate}
 use Rattle.pixel_format.specs.Reading.{Got, More, Bad}
@@ -15,15 +15,14 @@ use Rattle.rfb_wire.specs.Reader.{Reader}
 use Rattle.rfb_wire.specs.Stream.{given}
 use Rattle.rfb_wire.proofs.Local.{message_local}
 use Rattle.rfb_wire.proofs.Whole.{message-empty}
-use Rattle.key_index.specs.declared.entry.Stamped.{Stamped}
 use Rattle.fbs_export.specs.declared.fault.FbsFault.{FbsFault}
 use Rattle.fbs_export.specs.declared.fault.FbsFault.TheVariants as faults
 use Rattle.fbs_export.specs.declared.opening.Name.{Name}
 use Rattle.fbs_export.specs.declared.stream.Stream.{Stream}
 use Rattle.std.specs.Prelude.{Option, MatchOption}
-use Rattle.fbs_export.specs.Opening.{Opening, opening_at, named}
+use Rattle.fbs_export.specs.Opening.{opening_at, named}
 use Rattle.fbs_export.specs.Reader.{IsDataFault, OfMessage, IsInHead, IsInName, IsInOpening, IsOpened, name_in, Opens, Hears, Stands}
-use Rattle.fbs_export.specs.Summary.{Said, Tells, Waits, MessageFault, stamped, at_time}
+use Rattle.fbs_export.specs.Summary.{Tells, Waits, stamped, at_time}
 use Rattle.fbs_export.proofs.Pieces.{goes_on, stops_in}
 use Rattle.fbs_export.proofs.Stamping.{block_stamped}
 

@@ -1,8 +1,8 @@
 -- Judging the parts of an opening, one behind the other.
-use Rattle.std.proofs.Common.{◌≡◌, ◌<◌, ◌≤◌, ℕ, ◌+◌, List, [], ◌++◌, length, take, drop, refl, sym, ap, ◌∙◌, arith, append-nil, append_assoc, take-append-drop, length-drop, drop-drop, Bool, true, false, Result, Ok, Err}
+use Rattle.std.proofs.Common.{◌≡◌, ◌<◌, ◌≤◌, ℕ, ◌+◌, List, [], ◌++◌, length, take, drop, refl, sym, ap, ◌∙◌, arith, append-nil, append_assoc, take-append-drop, length-drop, drop-drop, Result, Ok, Err}
 use Rattle.std.specs.Prelude.{Option, Some, None}
 use Rattle.std.proofs.lemmas.List.{length-take}
-use Rattle.pixel_format.specs.Reading.{Reading, Got, More, Bad, ◌>>=◌, field, guard}
+use Rattle.pixel_format.specs.Reading.{Reading, More, Bad, ◌>>=◌, field}
 use Rattle.pixel_format.proofs.Readings.{field-whole, field-short}
 use Rattle.fbs_export.specs.declared.fault.FbsFault.{FbsFault}
 use Rattle.fbs_export.specs.declared.fault.FbsFault.TheVariants as faults

@@ -1,14 +1,14 @@
 -- Blocks that come, one behind the other.
-use Rattle.std.proofs.Common.{◌≡◌, ◌≢◌, ◌<◌, ◌≤◌, ◌+◌, ◌-◌, ◌^◌, ◌⊎◌, inl, inr, ℕ, List, [], ◌∷◌, ◌++◌, length, take, drop, replicate, true, false, nat_lt, refl, sym, ap, ◌∙◌, subst, arith, append_assoc, append-nil, length-append, length-drop, take-append-drop, None, Some, IfSome}
+use Rattle.std.proofs.Common.{◌≡◌, ◌<◌, ◌≤◌, ◌+◌, ◌^◌, ◌⊎◌, inl, inr, ℕ, List, [], ◌∷◌, ◌++◌, length, take, drop, false, nat_lt, refl, sym, ap, ◌∙◌, subst, arith, append_assoc, append-nil, length-append, length-drop, take-append-drop, None, Some, IfSome}
 use Rattle.std.specs.Prelude.{Option}
-use Rattle.std.specs.List.{flat_map, AllByRecursion}
+use Rattle.std.specs.List.{flat_map}
 use Rattle.std.specs.Io.KnownBytes.{Consumes}
 use Rattle.std.proofs.lemmas.Bool.{cases_lt, le-ltb, lt-ltb}
 use Rattle.std.proofs.lemmas.List.{take-append-le, drop-append-le, take_all, take_at, length-take, length-replicate}
-use Rattle.pixel_format.specs.Reading.{Reading, Got, More, Bad, field, ◌>>=◌}
+use Rattle.pixel_format.specs.Reading.{Got, More, field}
 use Rattle.pixel_format.proofs.Readings.{field-whole, field-short}
 use Rattle.client_wire.specs.Number.{u32_at, u32_bytes}
-use Rattle.client_wire.specs.Stream.{Part, bytes_of, IsPart, Reads}
+use Rattle.client_wire.specs.Stream.{Part, bytes_of, IsPart}
 use Rattle.client_wire.specs.declared.fault.WireFault.{WireFault}
 use Rattle.client_wire.proofs.Streams.{flat_append, all_append}
 use Rattle.fbs_export.specs.declared.fault.FbsFault.{FbsFault}
@@ -16,7 +16,7 @@ use Rattle.fbs_export.specs.declared.fault.FbsFault.TheVariants as faults
 use Rattle.fbs_export.specs.Blocks.{Block, Laid, block_at, rest_of_block, padding_length, content_of, block_times, data_of, times_of, begun, stream_of, is_start}
 use Rattle.fbs_export.specs.Opening.{opening_at}
 use Rattle.fbs_export.specs.Reader.{IsDataFault}
-use Rattle.fbs_export.specs.Summary.{IsFault, InFront, IsCutShort, Waits}
+use Rattle.fbs_export.specs.Summary.{IsFault, IsCutShort, Waits}
 use Rattle.fbs_export.proofs.Blocks.{number_again}
 
 -- too few bytes for a length

@@ -1,5 +1,5 @@
 -- Messages that are written one by one.
-use Rattle.std.proofs.Common.{inl, inr, ◌≡◌, ◌<◌, ◌≤◌, ◌-◌, ◌^◌, ℕ, suc, zero, List, [], ◌∷◌, ◌++◌, length, take, drop, refl, sym, ap, ◌∙◌, subst, arith, append-nil, append_assoc}
+use Rattle.std.proofs.Common.{inl, inr, ◌≡◌, ◌<◌, ◌≤◌, ◌-◌, ◌^◌, ℕ, suc, zero, List, [], ◌∷◌, ◌++◌, take, drop, sym, ap, ◌∙◌, subst, arith, append-nil, append_assoc}
 use Rattle.std.specs.Prelude.{Option, Some, None, MatchOption}
 use Rattle.std.proofs.lemmas.Bool.{cases_lt}
 use Rattle.std.specs.List.{slice_get}
@@ -61,7 +61,7 @@ front_within all from n to a b c s time bytes far left is same w =
     let t : ℕ = first_time (between all from to) in
     let v : WroteFront b c (messages_text t (drop n (take to all))) =
     subst (λ z. WroteFront b c (messages_text t z)) (sym left) (front_of_first b c (block_text (s.time - t) s.message.bytes) (messages_text t (drop (suc n) (take to all)))
-        (subst (λ z. WroteFront b c (block_text z s.message.bytes)) is (subst (λ z. WroteFront b c (block_text time z)) same w))) in
+    (subst (λ z. WroteFront b c (block_text z s.message.bytes)) is (subst (λ z. WroteFront b c (block_text time z)) same w))) in
     subst (WroteFront a c) far.whole (front_of_second a b c far.done (messages_text t (drop n (take to all))) far.wrote v)
 
 pub one_more_so_far : (all : List Stamped) (from n to : ℕ) (a b c : Option (List ℕ)) (s : Stamped) (time : ℕ) (bytes : List ℕ) → SoFar all from n to a b

@@ -1,14 +1,13 @@
 -- A name that comes in pieces.
-use Rattle.std.proofs.Common.{◌≡◌, ◌<◌, ◌≤◌, ◌+◌, ◌-◌, ℕ, List, [], ◌∷◌, ◌++◌, length, take, drop, inl, inr, refl, sym, ap, ◌∙◌, subst, arith, append_assoc, append-nil, length-append}
+use Rattle.std.proofs.Common.{◌≡◌, ◌≤◌, ◌+◌, ◌-◌, ℕ, List, ◌++◌, length, take, inl, inr, refl, sym, ap, ◌∙◌, arith, append_assoc, append-nil, length-append}
 use Rattle.std.specs.Prelude.{min}
 use Rattle.std.proofs.lemmas.Bool.{cases_lt}
 use Rattle.std.proofs.lemmas.List.{length-take, take_all, take-append-le}
 use Rattle.std.proofs.Math.Seq.{take-append-add, take-take}
-use Rattle.pixel_format.specs.Reading.{Got}
 use Rattle.pixel_format.proofs.Readings.{field-whole}
 use Rattle.fbs_export.specs.declared.fault.FbsFault.{FbsFault}
 use Rattle.fbs_export.specs.declared.opening.Name.{Name}
-use Rattle.fbs_export.specs.Opening.{opening_at, named, name_limit}
+use Rattle.fbs_export.specs.Opening.{opening_at, named}
 use Rattle.fbs_export.specs.Reader.{IsInName, IsOpened}
 
 -- what is kept of a name and of what comes behind

@@ -1,5 +1,5 @@
 -- Four bytes are the number that they spell.
-use Rattle.std.proofs.Common.{◌≡◌, ◌<◌, ◌+◌, ◌*◌, ◌/◌, ◌%◌, ℕ, List, [], ◌∷◌, length, slice_index, refl, arith}
+use Rattle.std.proofs.Common.{◌≡◌, ◌<◌, ◌/◌, ◌%◌, ℕ, List, [], ◌∷◌, length, slice_index, refl, arith}
 use Rattle.client_wire.specs.Number.{u32_at, u32_bytes}
 
 pub number_bytes : (bytes : List ℕ) (n : ℕ) → length bytes ≡ 4 → ((i : ℕ) → slice_index bytes i < 256) → n ≡ u32_at bytes 0 → u32_bytes n ≡ bytes

@@ -1,24 +1,28 @@
 -- An opening is read from its text.
-use Rattle.std.proofs.Common.{◌≡◌, ◌<◌, ◌≤◌, ◌^◌, ℕ, ◌+◌, ◌-◌, ◌*◌, ◌/◌, ◌%◌, List, [], ◌∷◌, ◌++◌, length, take, drop, true, refl, sym, ap, ◌∙◌, arith}
+use Rattle.std.proofs.Common.{◌≡◌, ◌≤◌, ℕ, ◌*◌, List, [], ◌++◌, length, true, refl, arith}
 use Rattle.std.proofs.lemmas.Bool.{lt-ltb}
 use Rattle.std.proofs.lemmas.List.{take_all}
-use Rattle.pixel_format.specs.Reading.{Reading, Got, More, ◌>>=◌, field, guard}
+use Rattle.pixel_format.specs.Reading.{Got, More}
 use Rattle.pixel_format.specs.Format.{host_format}
 use Rattle.pixel_format.specs.Written.{format_bytes}
 use Rattle.pixel_format.proofs.Readings.{field-short, field-whole}
-use Rattle.client_wire.specs.Number.{u32_at, u16_at, u32_bytes}
+use Rattle.client_wire.specs.Number.{u16_at, u32_bytes}
 use Rattle.rfb_wire.specs.Written.{two_bytes}
 use Rattle.gated_journal.specs.Recording.{Head, IsHead, IsSize}
 use Rattle.fbs_export.specs.declared.fault.FbsFault.{FbsFault}
-use Rattle.fbs_export.specs.Opening.{Opening, opening_at, security_then, size_then, format_then, name_at, named, is_size, is_host, version}
+use Rattle.fbs_export.specs.Opening.{opening_at, security_then, size_then, format_then, name_at, named, is_size, is_host, version}
 use Rattle.fbs_export.specs.Export.{opening_text}
 use Rattle.fbs_export.proofs.Blocks.{number_again}
 
 name_is_read : (w h : ℕ) (name more : List ℕ) → length name ≤ 1024 → name_at w h (u32_bytes (length name) ++ (name ++ more)) ≡ Got (record { width = w; height = h; name = name }) more
 unfolding name_at named
 name_is_read w h name more short =
-    rw (field-whole {E = FbsFault} 4 (u32_bytes (length name)) (name ++ more) refl, number_again (length name) (omega arith),
-    field-whole {E = FbsFault} (length name) name more refl, take_all 1024 name short) refl
+    rw (
+      field-whole {E = FbsFault} 4 (u32_bytes (length name)) (name ++ more) refl,
+      number_again (length name) (omega arith),
+      field-whole {E = FbsFault} (length name) name more refl,
+      take_all 1024 name short,
+    ) refl
 
 host_is_host : is_host (format_bytes host_format) ≡ true
 unfolding is_host
@@ -32,8 +36,13 @@ format_is_read w h name more short =
 
 size_is : (w h : ℕ) → IsSize w h → is_size w h ≡ true
 size_is w h s =
-    rw (lt-ltb 0 w (omega (arith, s.wide)), lt-ltb w 8193 (omega (arith, s.not_wider)), lt-ltb 0 h (omega (arith, s.high)), lt-ltb h 8193 (omega (arith, s.not_higher)),
-    lt-ltb (w * h) 8388609 (omega (arith, s.area))) refl
+    rw (
+      lt-ltb 0 w (omega (arith, s.wide)),
+      lt-ltb w 8193 (omega (arith, s.not_wider)),
+      lt-ltb 0 h (omega (arith, s.high)),
+      lt-ltb h 8193 (omega (arith, s.not_higher)),
+      lt-ltb (w * h) 8388609 (omega (arith, s.area)),
+    ) refl
 
 first_number : (w h : ℕ) → u16_at (two_bytes w ++ two_bytes h) 0 ≡ w
 first_number w h = omega arith
@@ -45,8 +54,12 @@ size_is_read : (w h : ℕ) (name more : List ℕ) → IsSize w h → length name
     → size_then ((two_bytes w ++ two_bytes h) ++ (format_bytes host_format ++ (u32_bytes (length name) ++ (name ++ more)))) ≡ Got (record { width = w; height = h; name = name }) more
 unfolding size_then
 size_is_read w h name more size short =
-    rw (field-whole {E = FbsFault} 4 (two_bytes w ++ two_bytes h) (format_bytes host_format ++ (u32_bytes (length name) ++ (name ++ more))) refl,
-    first_number w h, second_number w h, size_is w h size) (format_is_read w h name more short)
+    rw (
+      field-whole {E = FbsFault} 4 (two_bytes w ++ two_bytes h) (format_bytes host_format ++ (u32_bytes (length name) ++ (name ++ more))) refl,
+      first_number w h,
+      second_number w h,
+      size_is w h size,
+    ) (format_is_read w h name more short)
 
 security_is_read : (w h : ℕ) (name more : List ℕ) → IsSize w h → length name ≤ 1024
     → security_then (u32_bytes 1 ++ ((two_bytes w ++ two_bytes h) ++ (format_bytes host_format ++ (u32_bytes (length name) ++ (name ++ more))))) ≡ Got (record { width = w; height = h; name = name }) more

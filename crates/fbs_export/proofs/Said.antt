@@ -1,28 +1,25 @@
 -- What an exported text says.
-use Rattle.std.proofs.Common.{◌≡◌, ◌<◌, ◌≤◌, ◌^◌, ℕ, ◌+◌, ◌-◌, ◌*◌, List, [], ◌∷◌, ◌++◌, length, take, drop, replicate, zero, suc, true, refl, sym, ap, ◌∙◌, arith, append-nil, append_assoc, length-append}
+use Rattle.std.proofs.Common.{◌≡◌, ◌<◌, ◌^◌, ℕ, ◌+◌, ◌-◌, ◌*◌, List, [], ◌∷◌, ◌++◌, length, take, drop, zero, suc, true, refl, sym, ap, ◌∙◌, arith, append-nil, length-append}
 use Rattle.std.specs.Prelude.{map}
 use Rattle.std.proofs.Math.Nat.{mul-suc}
 use Rattle.std.proofs.lemmas.Bool.{le-leb}
 use Rattle.rect_data.specs.Grammar.{is_inside}
 use Rattle.std.specs.List.{flat_map, AllByRecursion}
-use Rattle.pixel_format.specs.Reading.{Got, More}
+use Rattle.pixel_format.specs.Reading.{Got}
 use Rattle.pixel_format.specs.Canvas.{Picture}
-use Rattle.client_wire.specs.Stream.{Part, IsPart, Reads, bytes_of}
+use Rattle.client_wire.specs.Stream.{Part, IsPart, bytes_of}
 use Rattle.rfb_wire.specs.Grammar.{message_at, message_limit, Message, Recorded}
-use Rattle.rfb_wire.specs.Host.{Host, host_of}
+use Rattle.rfb_wire.specs.Host.{host_of}
 use Rattle.rfb_wire.specs.declared.message.Rectangle.{Rectangle}
-use Rattle.rfb_wire.specs.Stream.{IsFor}
 use Rattle.rfb_wire.proofs.Whole.{message-empty}
 use Rattle.gated_journal.specs.Recording.{Head, IsHead}
 use Rattle.key_index.specs.Entry.{IsStampedFor}
 use Rattle.key_index.specs.declared.entry.Stamped.{Stamped}
-use Rattle.fbs_export.specs.declared.fault.FbsFault.{FbsFault}
 use Rattle.fbs_export.specs.Blocks.{Block, Laid, block_at, data_of, times_of, is_start}
-use Rattle.fbs_export.specs.Opening.{opening_at}
-use Rattle.fbs_export.specs.Summary.{Said, Tells, IsSummary, stamped}
+use Rattle.fbs_export.specs.Summary.{Said, Tells, IsSummary}
 use Rattle.fbs_export.specs.Export.{start, block_text, opening_text, messages_text, less_first, row_text, rows_text}
 use Rattle.fbs_export.proofs.Openings.{opening_is_read}
-use Rattle.fbs_export.proofs.RoundTrip.{part_of, part_is_read, message_parts, messages_are_parts, host_part, host_parts_read, same_data, same_times, parts_read, no_block}
+use Rattle.fbs_export.proofs.RoundTrip.{part_of, part_is_read, message_parts, messages_are_parts, host_part, host_parts_read, same_data, same_times, no_block}
 use Rattle.fbs_export.proofs.Times.{last_time_of, behind_times}
 
 starts : (more : List ℕ) → is_start (take 12 (start ++ more)) ≡ true
@@ -81,9 +78,13 @@ module _ (h : Head) (is : IsHead h) (screen : List ℕ) (rects : List Rectangle)
       stream_is = ap (λ z. screen ++ z) (same_data first ms) ∙ sym (append-nil (flat_map bytes_of parts));
     };
     waits = message-empty message_limit h.width h.height;
-    messages_are = rw (times_are, behind_times (length (opening_text h)) 0 (times_of (part_of 0 screen ∷ message_parts first ms)),
-        last_time_of (length screen) 0 (times_of (message_parts first ms)) some, behind_times (length screen) 0 (times_of (message_parts first ms)),
-        ← same_times h.width h.height first ms all) refl;
+    messages_are = rw (
+      times_are,
+      behind_times (length (opening_text h)) 0 (times_of (part_of 0 screen ∷ message_parts first ms)),
+      last_time_of (length screen) 0 (times_of (message_parts first ms)) some,
+      behind_times (length screen) 0 (times_of (message_parts first ms)),
+      ← same_times h.width h.height first ms all,
+    ) refl;
     rest_is = refl;
   }
 

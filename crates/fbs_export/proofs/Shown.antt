@@ -1,5 +1,5 @@
 -- The text of a screen that shows a picture is the picture's.
-use Rattle.std.proofs.Common.{◌≡◌, ◌<◌, ◌≤◌, ◌+◌, ℕ, zero, suc, List, ◌++◌, take, refl, sym, ap, ◌∙◌, arith, append_assoc}
+use Rattle.std.proofs.Common.{◌≡◌, ◌<◌, ◌≤◌, ◌+◌, ℕ, zero, suc, List, ◌++◌, take, refl, ap, ◌∙◌, arith, append_assoc}
 use Rattle.gated_journal.specs.Recording.{Head}
 use Rattle.key_index.specs.declared.entry.Stamped.{Stamped}
 use Rattle.painter.specs.Framebuffer.{Framebuffer, Has, color_at}
@@ -7,7 +7,7 @@ use Rattle.painter.specs.Picture.{painted}
 use Rattle.pixel_format.specs.Canvas.{Picture}
 use Rattle.replay.specs.Screens.{hosts_of, IsScreenAt}
 use Rattle.rfb_wire.specs.Written.{raw_update_bytes}
-use Rattle.fbs_export.specs.Export.{start, block_text, opening_text, screen_text, front_text, export_text, messages_from, pixel_text, row_text, rows_text}
+use Rattle.fbs_export.specs.Export.{start, block_text, opening_text, screen_text, front_text, export_text, messages_from, row_text, rows_text}
 
 row_same : (a b : Picture) (w y x n : ℕ) → ((i : ℕ) → i < w → a i y ≡ b i y) → x + n ≤ w → row_text a y x n ≡ row_text b y x n
 row_same a b w y x zero same within = refl

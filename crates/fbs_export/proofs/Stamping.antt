@@ -1,11 +1,10 @@
 -- Messages that become whole in a block have its time.
-use Rattle.std.proofs.Common.{◌≡◌, ◌<◌, ◌≤◌, ◌+◌, ◌-◌, ℕ, List, [], ◌∷◌, ◌++◌, length, take, drop, replicate, slice_index, inl, inr, refl, sym, ap, ◌∙◌, subst, arith, append_assoc, append-nil, length-append, length-drop, take-append-drop}
-use Rattle.std.specs.Prelude.{map}
+use Rattle.std.proofs.Common.{◌≡◌, ◌<◌, ◌≤◌, ◌+◌, ◌-◌, ℕ, List, [], ◌∷◌, ◌++◌, length, take, drop, replicate, slice_index, inl, inr, refl, sym, ap, ◌∙◌, arith, append_assoc, append-nil, length-append, length-drop, take-append-drop}
 use Rattle.std.specs.List.{flat_map, AllByRecursion}
 use Rattle.std.proofs.lemmas.Bool.{cases_lt}
-use Rattle.std.proofs.lemmas.List.{get_or-replicate, get_or_append_left, get_or-append_right, map-append, length-replicate, drop-replicate, drop-append-le, take-append-le, take_at, drop_all, drop-drop}
-use Rattle.std.proofs.Math.Seq.{drop-append-add, drop-append_seam}
-use Rattle.pixel_format.specs.Reading.{Got, More}
+use Rattle.std.proofs.lemmas.List.{get_or-replicate, get_or_append_left, get_or-append_right, map-append, drop-replicate, drop-append-le, take-append-le, take_at, drop_all, drop-drop}
+use Rattle.std.proofs.Math.Seq.{drop-append-add}
+use Rattle.pixel_format.specs.Reading.{More}
 use Rattle.client_wire.specs.Stream.{Part, bytes_of, IsPart, BeginsNone, given_of}
 use Rattle.client_wire.proofs.Streams.{waits_begins_none}
 use Rattle.rfb_wire.specs.Grammar.{message_at, message_limit, Message}

@@ -1,5 +1,5 @@
 -- A file that is too short for its start.
-use Rattle.std.proofs.Common.{◌≡◌, ◌≤◌, ◌<◌, ◌+◌, ℕ, List, [], ◌∷◌, length, take, drop, false, true, ◌&&◌, Bool, slice_index, nat_eq, refl, sym, ap, ◌∙◌, arith}
+use Rattle.std.proofs.Common.{◌≡◌, ◌<◌, ℕ, List, length, take, false, true, ◌&&◌, Bool, refl, arith}
 use Rattle.std.proofs.lemmas.List.{take_all, get_or_past}
 use Rattle.fbs_export.specs.Blocks.{is_start}
 

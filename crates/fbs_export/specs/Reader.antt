@@ -15,7 +15,7 @@ use Rattle.fbs_export.specs.declared.opening.Name.{Name}
 use Rattle.fbs_export.specs.declared.opening.OpeningReader.{OpeningReader}
 use Rattle.fbs_export.specs.declared.stream.Stream.{Stream}
 use Rattle.fbs_export.specs.Blocks.{Block, Laid, data_of, times_of, is_start}
-use Rattle.fbs_export.specs.Opening.{Opening, opening_at, named, name_limit}
+use Rattle.fbs_export.specs.Opening.{opening_at, named, name_limit}
 use Rattle.fbs_export.specs.Summary.{MessageFault, stamped}
 
 -- what a fault in data says of the stream that they end

@@ -255,11 +255,7 @@ fn write_file<D: Disk, W: Write>(
 /// The block that is the number of blocks begins at the end. `NoBlock` is answered exactly where
 /// there are fewer blocks; else `BadEnd` exactly where `to` lies before that start, or beyond the
 /// number of messages that count.
-pub fn first_exported<D: Disk>(
-    index: &Indexed<D>,
-    block: u64,
-    to: u64,
-) -> Result<u64, ExportFault>
+pub fn first_exported<D: Disk>(index: &Indexed<D>, block: u64, to: u64) -> Result<u64, ExportFault>
     ensures first { IfOk result (λ first. (block ≤ length index.now.numbers.starts) × (first ≡ start_in index.now.numbers block) × (first ≤ to) × (to ≤ index.now.numbers.committed)) }
     ensures no_block { (result ≡ Err ExportFault.NoBlock) ↔ (length index.now.numbers.starts < block) }
     ensures bad_end { (result ≡ Err ExportFault.BadEnd) ↔ IsBadEnd index.now.numbers block to }

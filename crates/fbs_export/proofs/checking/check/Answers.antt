@@ -1,11 +1,10 @@
-use Rattle.std.proofs.Common.{◌≡◌, ◌++◌, ℕ, List, [], length, take, drop, refl, sym, ap, ◌∙◌, subst, arith, append-nil, inl}
-use Rattle.std.specs.Io.KnownBytes.{Consumes}
+use Rattle.std.proofs.Common.{◌++◌, ℕ, List, [], sym, ap, ◌∙◌, arith, append-nil, inl}
 use Rattle.std.proofs.KnownBytes.{Consumes-trans, Consumes-whole}
 use Rattle.std.proofs.lemmas.List.{take_all, drop_all}
 use Rattle.std.proofs.lemmas.Result.{err_from_is_err_and}
 use Rattle.fbs_export.specs.Blocks.{is_start, data_of, times_of}
 use Rattle.fbs_export.specs.Opening.{opening_at}
-use Rattle.fbs_export.specs.Reader.{IsBetween, Started, Went}
+use Rattle.fbs_export.specs.Reader.{Started, Went}
 use Rattle.fbs_export.specs.Summary.{IsFault, IsSummary, IsCutShort}
 use Rattle.fbs_export.proofs.Laying.{if_some_front, same_lengths}
 use Rattle.fbs_export.proofs.RoundTrip.{no_block}
@@ -13,17 +12,20 @@ use Rattle.fbs_export.proofs.checking.check.Goals as goal
 
 pub loop-init : goal.loop-init
 loop-init g c =
-    let s : Started (g.R.Read.remaining c.args.file.now) (g.R.Read.remaining c.read_start.new.file) = c.in_ok-read_start.ensures.started in
-    (s.bytes, s.consumed, record {
-      blocks = [];
-      laid = record {
-        start = ap is_start (take_all 12 s.bytes (omega (arith, s.count))) ∙ s.is;
-        reads = record { each = tt; stream_is = drop_all 12 s.bytes (omega (arith, s.count)) };
-        unfinished = no_block;
-      };
-      long = omega (arith, s.count);
-      stands = c.new-stream.ensures;
-    })
+    let s : Started (g.R.Read.remaining c.args.file.now) (g.R.Read.remaining c.read_start.new.file) = c.in_ok-read_start.ensures.started in (
+      s.bytes,
+      s.consumed,
+      record {
+        blocks = [];
+        laid = record {
+          start = ap is_start (take_all 12 s.bytes (omega (arith, s.count))) ∙ s.is;
+          reads = record { each = tt; stream_is = drop_all 12 s.bytes (omega (arith, s.count)) };
+          unfinished = no_block;
+        };
+        long = omega (arith, s.count);
+        stands = c.new-stream.ensures;
+      },
+    )
 
 pub returns-in_err-more-clause-fault : goal.returns-in_err-more-clause-fault
 returns-in_err-more-clause-fault g c =

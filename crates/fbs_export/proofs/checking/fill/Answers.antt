@@ -1,5 +1,4 @@
-use Rattle.std.proofs.Common.{◌≡◌, ◌≤◌, ◌+◌, ◌-◌, ◌++◌, length, take, refl, sym, ap, ◌∙◌, subst, arith, rules}
-use Rattle.std.specs.Io.KnownBytes.{Consumes}
+use Rattle.std.proofs.Common.{◌+◌, ◌-◌, length, take, refl, rules}
 use Rattle.std.proofs.KnownBytes.{Consumes-trans}
 use Rattle.std.proofs.lemmas.Slice.{take-put_mid}
 use Rattle.fbs_export.proofs.Filling.{filled_part}

@@ -1,4 +1,4 @@
-use Rattle.std.proofs.Common.{replicate, ◌∷◌, ◌≡◌, ◌≤◌, ◌<◌, ◌+◌, ◌-◌, ◌++◌, ℕ, List, [], length, take, drop, slice_index, refl, sym, ap, ◌∙◌, subst, arith, rules, append_assoc, append-nil, length-append}
+use Rattle.std.proofs.Common.{replicate, ◌∷◌, ◌≡◌, ◌<◌, ◌+◌, ◌++◌, ℕ, List, [], length, take, drop, sym, ap, ◌∙◌, arith, rules, length-append}
 use Rattle.std.specs.Io.KnownBytes.{Consumes}
 use Rattle.std.proofs.KnownBytes.{Consumes-trans, Consumes-whole}
 use Rattle.std.proofs.lemmas.List.{length-take, take_all}
@@ -7,7 +7,7 @@ use Rattle.std.proofs.lemmas.Slice.{take-put_mid}
 use Rattle.client_wire.specs.Number.{u32_at, u32_bytes}
 use Rattle.client_wire.specs.Stream.{Part}
 use Rattle.fbs_export.specs.Blocks.{Block, data_of, times_of, padding_length}
-use Rattle.fbs_export.specs.Reader.{Came, IsBetween, Stands}
+use Rattle.fbs_export.specs.Reader.{Came, Stands}
 use Rattle.fbs_export.specs.Summary.{IsFault, IsCutShort}
 use Rattle.fbs_export.proofs.Hearing.{no_fault_yet}
 use Rattle.fbs_export.proofs.Laying.{if_some_front, length_short, padding_short, block_part, block_whole, laid_block, data_more, times_more, same_lengths}
@@ -26,10 +26,10 @@ returns-in_err-read_content-clause-fault g c =
     let p = err_from_is_err_and c.from_residual-in_err-read_content.result c.from_residual-in_err-read_content.ensures.1 in
     let f = c.in_err-read_content.field-0.0 in
     rw (p.1, p.2) (λ seen b.
-        let n : ℕ = c.number_of-length.result in
-        let all : take c.in_ok-came.came c.fill.new.buffer ≡ c.fill.new.buffer = take_all c.in_ok-came.came c.fill.new.buffer (omega (arith, c.fill.ensures.size, c.if-came-lt4.false)) in
-            let head : u32_bytes n ≡ c.fill.new.buffer = c.number_of-length.ensures in
-        if_some_front _ _ (u32_bytes n) (λ rest. IsFault (seen ++ rest) f) (rw (head, ← all) c.in_ok-came.ensures.read) (c.in_err-read_content.ensures.fault seen b))
+    let n : ℕ = c.number_of-length.result in
+    let all : take c.in_ok-came.came c.fill.new.buffer ≡ c.fill.new.buffer = take_all c.in_ok-came.came c.fill.new.buffer (omega (arith, c.fill.ensures.size, c.if-came-lt4.false)) in
+    let head : u32_bytes n ≡ c.fill.new.buffer = c.number_of-length.ensures in
+    if_some_front _ _ (u32_bytes n) (λ rest. IsFault (seen ++ rest) f) (rw (head, ← all) c.in_ok-came.ensures.read) (c.in_err-read_content.ensures.fault seen b))
 
 pub returns-then-came-padding-clause-fault : goal.returns-then-came-padding-clause-fault
 returns-then-came-padding-clause-fault g c = λ seen b.

@@ -1,6 +1,5 @@
-use Rattle.std.proofs.Common.{◌≡◌, ◌+◌, ◌++◌, ℕ, List, length}
-use Rattle.std.specs.Io.KnownBytes.{Consumes}
-use Rattle.fbs_export.specs.Reader.{Came, Stands}
+use Rattle.std.proofs.Common.{◌≡◌, ◌+◌, ℕ}
+use Rattle.fbs_export.specs.Reader.{Came}
 use Rattle.fbs_export.proofs.checking.read_content.Given as goal
 
 -- the data so far are in the stream

@@ -1,4 +1,4 @@
-use Rattle.std.proofs.Common.{Ok, List, ℕ, ◌++◌, ◌≡◌, ap, refl, sym, ◌∙◌, length}
+use Rattle.std.proofs.Common.{Ok, List, ℕ, ◌++◌, ◌≡◌, ap, refl, ◌∙◌, length}
 use Rattle.pixel_format.specs.Format.{host_format}
 use Rattle.pixel_format.specs.Written.{format_bytes}
 use Rattle.client_wire.specs.Number.{u32_bytes}

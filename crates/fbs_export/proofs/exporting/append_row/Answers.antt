@@ -1,4 +1,4 @@
-use Rattle.std.proofs.Common.{◌-◌, ◌+◌, ◌++◌, ◌<◌, ap, subst, arith}
+use Rattle.std.proofs.Common.{◌-◌, ◌+◌, ◌<◌, ap, arith}
 use Rattle.painter.specs.Framebuffer.{color_at}
 use Rattle.fbs_export.specs.Export.{row_text, pixel_text}
 use Rattle.fbs_export.proofs.Texts.{row_step, one_more}

@@ -1,4 +1,4 @@
-use Rattle.std.proofs.Common.{◌-◌, ◌+◌, ◌++◌, ◌<◌, ◌≡◌, List, ℕ, [], ◌∷◌, ap, sym, refl, ◌∙◌, append_assoc, arith}
+use Rattle.std.proofs.Common.{◌-◌, ◌+◌, ◌++◌, ◌<◌, ◌≡◌, List, ℕ, ap, refl, ◌∙◌, append_assoc, arith}
 use Rattle.painter.specs.Framebuffer.{color_at}
 use Rattle.rfb_wire.specs.Written.{raw_head}
 use Rattle.fbs_export.specs.Export.{row_text, rows_text, screen_text}

@@ -1,13 +1,12 @@
-use Rattle.std.proofs.Common.{◌≡◌, ℕ, List, ◌++◌, refl, sym, ap, ◌∙◌, subst}
+use Rattle.std.proofs.Common.{ℕ, List, sym, subst}
 use Rattle.std.specs.Io.KnownBytes.{Appends}
 use Rattle.std.proofs.KnownBytes.{Appends-trans}
-use Rattle.gated_journal.specs.Recording.{Head}
 use Rattle.key_index.specs.Entry.{messages_in}
 use Rattle.key_index.specs.Indexed.{start_in}
 use Rattle.key_index.specs.declared.entry.Stamped.{Stamped}
 use Rattle.painter.specs.Framebuffer.{color_at}
 use Rattle.replay.specs.Screens.{IsScreenAt}
-use Rattle.fbs_export.specs.Export.{export_text, front_text, messages_from}
+use Rattle.fbs_export.specs.Export.{front_text, messages_from}
 use Rattle.fbs_export.specs.Written.{WroteFront}
 use Rattle.fbs_export.proofs.Parts.{wrote_all}
 use Rattle.fbs_export.proofs.Shown.{export_is}

@@ -1,10 +1,10 @@
-use Rattle.std.proofs.Common.{◌≡◌, ◌≤◌, ◌<◌, ◌+◌, ◌*◌, ◌^◌, ℕ, List, [], ◌∷◌, ◌++◌, length, refl, sym, ap, ◌∙◌, subst, arith}
+use Rattle.std.proofs.Common.{◌≡◌, ◌≤◌, ◌*◌, ◌^◌, ◌++◌, length, ap, ◌∙◌, arith}
 use Rattle.std.specs.Io.KnownBytes.{Appends}
 use Rattle.gated_journal.specs.Recording.{IsHead}
 use Rattle.painter.specs.Framebuffer.{color_at}
 use Rattle.fbs_export.specs.Export.{start, front_text, block_text, opening_text, screen_text, rows_text}
 use Rattle.fbs_export.specs.Written.{WroteFront}
-use Rattle.fbs_export.proofs.Parts.{wrote_none, wrote_all, in_second, in_third, three_parts}
+use Rattle.fbs_export.proofs.Parts.{wrote_all, in_second, in_third, three_parts}
 use Rattle.fbs_export.proofs.Said.{pixels_from, opening_short}
 use Rattle.fbs_export.proofs.Writes.{front_of_first}
 use Rattle.fbs_export.proofs.exporting.write_front.Goals as goal

@@ -1,4 +1,4 @@
-use Rattle.std.proofs.Common.{rules, true, false, ◌≡◌, ℕ, List, ◌++◌, length, take, drop, arith, refl, sym, ap, ◌∙◌}
+use Rattle.std.proofs.Common.{rules, true, false, ◌≡◌, ℕ, List, take, arith, refl, ◌∙◌}
 use Rattle.std.specs.Str.{bytes_eq}
 use Rattle.pixel_format.specs.Reading.{Reading, guard}
 use Rattle.fbs_export.specs.declared.fault.FbsFault.{FbsFault}

@@ -1,4 +1,4 @@
-use Rattle.std.proofs.Common.{subst, true, false, ◌≡◌, ℕ, List, ◌++◌, length, take, drop, arith, refl, sym, ap, ◌∙◌, Ok}
+use Rattle.std.proofs.Common.{subst, true, false, ◌≡◌, take, arith, refl, sym, ◌∙◌, Ok}
 use Rattle.pixel_format.specs.Reading.{guard}
 use Rattle.fbs_export.specs.declared.fault.FbsFault.TheVariants as faults
 use Rattle.fbs_export.specs.Judged.{IsJudged}

@@ -1,5 +1,4 @@
-use Rattle.std.proofs.Common.{[], ◌≡◌, ℕ, List, ◌++◌, length, take, drop, arith, refl, sym, ap, ◌∙◌}
-use Rattle.std.proofs.lemmas.List.{take_all, drop_all}
+use Rattle.std.proofs.Common.{◌≡◌, take, arith, refl, ◌∙◌}
 use Rattle.client_wire.specs.Number.{u32_at}
 use Rattle.fbs_export.specs.Opening.{name_at, named}
 use Rattle.fbs_export.proofs.Judging.{part_short, part_whole}

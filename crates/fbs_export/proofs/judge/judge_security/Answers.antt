@@ -1,4 +1,4 @@
-use Rattle.std.proofs.Common.{false, ◌≡◌, ℕ, List, ◌++◌, length, take, drop, arith, refl, sym, ap, ◌∙◌, nat_eq}
+use Rattle.std.proofs.Common.{false, ◌≡◌, ℕ, List, take, arith, refl, ◌∙◌, nat_eq}
 use Rattle.std.proofs.lemmas.Bool.{ne_eqb}
 use Rattle.pixel_format.specs.Reading.{Reading, guard}
 use Rattle.client_wire.specs.Number.{u32_at}

@@ -1,4 +1,4 @@
-use Rattle.std.proofs.Common.{◌≡◌, ℕ, List, ◌++◌, length, take, drop, arith, refl, sym, ap, ◌∙◌}
+use Rattle.std.proofs.Common.{◌≡◌, ℕ, List, take, arith, refl, sym, ◌∙◌}
 use Rattle.pixel_format.specs.Reading.{Reading, guard}
 use Rattle.client_wire.specs.Number.{u16_at}
 use Rattle.fbs_export.specs.declared.fault.FbsFault.{FbsFault}

@@ -1,9 +1,9 @@
-use Rattle.std.proofs.Common.{◌≡◌, ◌<◌, ◌≤◌, ◌+◌, ◌-◌, ℕ, List, ◌++◌, length, take, drop, refl, sym, ap, ◌∙◌, subst, arith, append-nil, length-append}
+use Rattle.std.proofs.Common.{◌≡◌, ◌<◌, ◌≤◌, ◌+◌, ◌-◌, ℕ, List, ◌++◌, length, take, drop, sym, ap, ◌∙◌, subst, arith, length-append}
 use Rattle.std.proofs.lemmas.List.{drop_all}
 use Rattle.std.proofs.lemmas.Result.{err_from_is_err_and}
 use Rattle.std.proofs.lemmas.List.{take_all, length-take}
 use Rattle.fbs_export.specs.Opening.{opening_at, named}
-use Rattle.fbs_export.specs.Reader.{IsInHead, IsDataFault}
+use Rattle.fbs_export.specs.Reader.{IsInHead}
 use Rattle.fbs_export.proofs.Heading.{head_more, data_fault, all_of}
 use Rattle.fbs_export.proofs.opening.take_head.Goals as goal
 
@@ -14,9 +14,9 @@ returns-in_err-announced-clause-fault c =
     let p = err_from_is_err_and c.from_residual-in_err-announced.result c.from_residual-in_err-announced.ensures.1 in
     let f = c.in_err-announced.field-0.0 in
     rw (p.1, p.2) (λ s stands.
-        let new : List ℕ = c.deref.result.now in
-        let front : s ++ take (n + 1) piece ≡ new = head_more c.loop-taken.head.items new s piece n (n + 1 - n) (c.loop-taken.invariant s stands).is (c.deref.ensures.value ∙ c.in_ok-extend_from_slice.ensures.items) (omega arith) in
-        data_fault f new (drop (n + 1) piece) (s ++ piece) (sym (all_of s piece (n + 1)) ∙ ap (λ z. z ++ drop (n + 1) piece) front) c.in_err-announced.ensures)
+    let new : List ℕ = c.deref.result.now in
+    let front : s ++ take (n + 1) piece ≡ new = head_more c.loop-taken.head.items new s piece n (n + 1 - n) (c.loop-taken.invariant s stands).is (c.deref.ensures.value ∙ c.in_ok-extend_from_slice.ensures.items) (omega arith) in
+    data_fault f new (drop (n + 1) piece) (s ++ piece) (sym (all_of s piece (n + 1)) ∙ ap (λ z. z ++ drop (n + 1) piece) front) c.in_err-announced.ensures)
 
 pub returns-in-Some-clause-goes : goal.returns-in-Some-clause-goes
 returns-in-Some-clause-goes c = λ s stands more.

@@ -1,4 +1,4 @@
-use Rattle.std.proofs.Common.{◌≡◌, ◌<◌, [], refl, sym, arith, length, ap, rules}
+use Rattle.std.proofs.Common.{◌≡◌, [], refl, arith}
 use Rattle.fbs_export.proofs.Openings.{no_opening}
 use Rattle.fbs_export.proofs.opening.OpeningReader.new.Goals as goal
 

@@ -1,7 +1,6 @@
-use Rattle.std.proofs.Common.{◌≡◌, ◌<◌, ◌≤◌, ◌+◌, ◌-◌, ℕ, List, ◌++◌, length, take, drop, refl, sym, ap, ◌∙◌, subst, arith, append_assoc, length-drop}
+use Rattle.std.proofs.Common.{◌≡◌, ◌-◌, ℕ, ◌++◌, length, take, drop, sym, ap, ◌∙◌, subst, arith, append_assoc, length-drop}
 use Rattle.std.proofs.lemmas.List.{take_all}
 use Rattle.std.proofs.Math.Seq.{take-add}
-use Rattle.fbs_export.specs.Opening.{opening_at, named}
 use Rattle.fbs_export.specs.Reader.{IsInHead, IsInName, IsOpened}
 use Rattle.fbs_export.proofs.Heading.{name_begins, all_of}
 use Rattle.fbs_export.proofs.opening.OpeningReader.take.Goals as goal

@@ -1,4 +1,4 @@
-use Rattle.std.proofs.Common.{◌≡◌, ◌++◌, [], ◌∷◌, length, arith, refl, sym, ap, ◌∙◌, ℕ, List, append-nil, rules}
+use Rattle.std.proofs.Common.{◌≡◌, ◌++◌, [], ◌∷◌, length, arith, refl, sym, ap, ◌∙◌, List, append-nil}
 use Rattle.std.specs.Vec.Iter.{into_iter_items}
 use Rattle.fbs_export.specs.Summary.{at_time}
 use Rattle.fbs_export.proofs.Hearing.{block_over}

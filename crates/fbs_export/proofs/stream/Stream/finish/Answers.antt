@@ -1,5 +1,4 @@
-use Rattle.std.proofs.Common.{◌≡◌, refl, ap}
-use Rattle.fbs_export.specs.Summary.{Tells}
+use Rattle.std.proofs.Common.{refl, ap}
 use Rattle.fbs_export.proofs.Hearing.{told_by, opening_waits, stands_open, stands_heard}
 use Rattle.fbs_export.proofs.stream.Stream.finish.Goals as goal
 

@@ -1,11 +1,8 @@
-use Rattle.std.proofs.Common.{◌≡◌, ◌≤◌, ◌-◌, ◌++◌, length, take, drop, refl, sym, ap, ◌∙◌, subst, ℕ, List, [], arith, length-append, length-drop}
+use Rattle.std.proofs.Common.{◌≡◌, ◌-◌, ◌++◌, length, take, drop, refl, sym, ap, ◌∙◌, ℕ, List, [], arith, length-append, length-drop}
 use Rattle.std.proofs.lemmas.List.{take_all}
 use Rattle.std.proofs.lemmas.Result.{err_from_is_err_and}
-use Rattle.rfb_wire.specs.Grammar.{message_at, message_limit}
 use Rattle.rfb_wire.specs.Reader.{Reader}
-use Rattle.rfb_wire.specs.Stream.{given}
-use Rattle.client_wire.specs.Stream.{Goes, Stops, StandsFor}
-use Rattle.fbs_export.specs.Reader.{Opens, Hears, IsOpened, name_in, OfMessage}
+use Rattle.fbs_export.specs.Reader.{Opens, IsOpened, name_in}
 use Rattle.fbs_export.proofs.Heading.{all_of}
 use Rattle.fbs_export.proofs.Hearing.{begins_to_hear, begins_with_fault, stands_open}
 use Rattle.fbs_export.proofs.stream.Stream.open.Goals as goal
@@ -18,14 +15,14 @@ returns-in_err-hear-clause-fault c =
     let p = err_from_is_err_and c.from_residual-in_err-hear.result c.from_residual-in_err-hear.ensures.1 in
     let f = c.in_err-hear.field-0.0 in
     rw (p.1, p.2) (λ none times s stands.
-        let o : Opens self times s = stands_open self times s none stands in
-        let rest : List ℕ = take (length piece - w.taken) (drop w.taken piece) in
-        let rest_is : rest ≡ drop w.taken piece = take_all (length piece - w.taken) (drop w.taken piece) (omega (arith, length-drop w.taken piece)) in
-        let went = rw c.in-Some.is at c.in_ok-whole.ensures.goes in
-        let opened : IsOpened w.width w.height (name_in c.take.new.self.name) (s ++ take w.taken piece) = went s o.opening in
-        let fault = rw c.new-reader.ensures at c.in_err-hear.ensures.fault in
-        begins_with_fault f w.width w.height (name_in c.take.new.self.name) (s ++ take w.taken piece) rest (s ++ piece) self.hosts.items c.hear.new.hosts.items opened
-        (sym (ap (λ z. (s ++ take w.taken piece) ++ z) rest_is ∙ all_of s piece w.taken)) (fault refl))
+    let o : Opens self times s = stands_open self times s none stands in
+    let rest : List ℕ = take (length piece - w.taken) (drop w.taken piece) in
+    let rest_is : rest ≡ drop w.taken piece = take_all (length piece - w.taken) (drop w.taken piece) (omega (arith, length-drop w.taken piece)) in
+    let went = rw c.in-Some.is at c.in_ok-whole.ensures.goes in
+    let opened : IsOpened w.width w.height (name_in c.take.new.self.name) (s ++ take w.taken piece) = went s o.opening in
+    let fault = rw c.new-reader.ensures at c.in_err-hear.ensures.fault in
+    begins_with_fault f w.width w.height (name_in c.take.new.self.name) (s ++ take w.taken piece) rest (s ++ piece) self.hosts.items c.hear.new.hosts.items opened
+    (sym (ap (λ z. (s ++ take w.taken piece) ++ z) rest_is ∙ all_of s piece w.taken)) (fault refl))
 
 pub returns-clause-goes : goal.returns-clause-goes
 returns-clause-goes c = λ none times s stands.
