@@ -1,6 +1,6 @@
 //! The reader of a host's stream.
 
-ghost use Rattle.std.specs.Prelude.{◌≡◌, ℕ, List, [], ◌++◌, Option, Some, None, Ok, Err, OnOk, IfErr, OnErr};
+ghost use Rattle.std.specs.Prelude.{◌≡◌, ◌+◌, ℕ, List, [], ◌++◌, length, Option, Some, None, Ok, Err, OnOk, IfErr, OnErr};
 ghost use Rattle.client_wire.specs.declared.fault.WireFault.{WireFault};
 ghost use Rattle.client_wire.specs.Stream.{StandsFor, Goes, Stops, FaultOf, Grows};
 ghost use Rattle.rfb_wire.specs.Grammar.{message_at, message_limit};
@@ -63,6 +63,17 @@ impl ServerReader {
         ensures { result ≡ (self.now.width, self.now.height) }
     {
         (self.width, self.height)
+    }
+
+    /// How many bytes have come of the message that isn't whole yet.
+    pub fn unfinished(&self) -> u64
+        ensures { result ≡ length self.now.kept + self.now.passed }
+    {
+        let passed = match self.progress.over {
+            Some(over) => over.passed,
+            None => 0,
+        };
+        self.progress.bytes.len() as u64 + passed
     }
 
     /// Takes the next piece of the stream, and appends each message that is whole now. A fault is

@@ -1,0 +1,32 @@
+-- The numbers that programs print, and what ends an export that has begun.
+use Rattle.std.specs.Prelude.{ℕ}
+use Rattle.fbs_export.specs.declared.fault.FbsFault.{FbsFault}
+use Rattle.fbs_export.specs.declared.fault.FbsFault.TheVariants as fbs
+use Rattle.fbs_export.specs.declared.fault.ExportFault.{ExportFault}
+use Rattle.fbs_export.specs.declared.fault.ExportFault.TheVariants as export
+use Rattle.fbs_export.specs.declared.fault.Stop.{Stop}
+use Rattle.fbs_export.specs.declared.fault.Stop.TheVariants as stops
+
+abbrev pub fbs_number : FbsFault → ℕ
+fbs_number fbs.NotFbs = 1
+fbs_number fbs.Truncated = 2
+fbs_number fbs.Version = 3
+fbs_number fbs.Security = 4
+fbs_number fbs.Format = 5
+fbs_number fbs.Size = 6
+fbs_number (fbs.Message f) = 7
+fbs_number fbs.NoMemory = 8
+fbs_number fbs.Read = 9
+
+abbrev pub export_number : ExportFault → ℕ
+export_number export.NoBlock = 1
+export_number export.BadEnd = 2
+export_number export.Device = 3
+export_number export.NoMemory = 4
+export_number export.Write = 5
+
+-- the fault that is answered
+abbrev pub fault_of : Stop → ExportFault
+fault_of stops.Device = export.Device
+fault_of stops.NoMemory = export.NoMemory
+fault_of stops.Write = export.Write

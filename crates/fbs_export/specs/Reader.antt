@@ -1,0 +1,127 @@
+-- What the readers of a file stand for.
+use Rattle.std.specs.Prelude.{◌≡◌, ◌≢◌, ◌≤◌, ◌<◌, ℕ, ◌+◌, ◌-◌, List, [], ◌++◌, length, take, drop, Option, Some, None, MatchOption, Bool, true, false}
+use Rattle.std.specs.Io.KnownBytes.{Consumes, IsAtEnd}
+use Rattle.std.specs.List.{flat_map, AllByRecursion}
+use Rattle.pixel_format.specs.Reading.{Got, More, Bad}
+use Rattle.client_wire.specs.Stream.{Part, bytes_of, IsPart, Goes}
+use Rattle.client_wire.specs.declared.fault.WireFault.TheVariants as wire
+use Rattle.client_wire.specs.declared.fault.WireFault.{WireFault}
+use Rattle.rfb_wire.specs.Grammar.{message_at, message_limit, Message}
+use Rattle.rfb_wire.specs.Reader.{Reader}
+use Rattle.rfb_wire.specs.Stream.{given}
+use Rattle.fbs_export.specs.declared.fault.FbsFault.{FbsFault}
+use Rattle.fbs_export.specs.declared.fault.FbsFault.TheVariants as faults
+use Rattle.fbs_export.specs.declared.opening.Name.{Name}
+use Rattle.fbs_export.specs.declared.opening.OpeningReader.{OpeningReader}
+use Rattle.fbs_export.specs.declared.stream.Stream.{Stream}
+use Rattle.fbs_export.specs.Blocks.{Block, Laid, data_of, times_of, is_start}
+use Rattle.fbs_export.specs.Opening.{opening_at, named, name_limit}
+use Rattle.fbs_export.specs.Summary.{MessageFault, stamped}
+
+-- what a fault in data says of the stream that they end
+abbrev pub IsDataFault : List ℕ → FbsFault → Type 0
+IsDataFault s faults.NotFbs = ⊥
+IsDataFault s faults.Truncated = ⊥
+IsDataFault s faults.Version = opening_at s ≡ Bad faults.Version
+IsDataFault s faults.Security = opening_at s ≡ Bad faults.Security
+IsDataFault s faults.Format = opening_at s ≡ Bad faults.Format
+IsDataFault s faults.Size = opening_at s ≡ Bad faults.Size
+IsDataFault s (faults.Message f) = MessageFault s f
+IsDataFault s faults.NoMemory = Unit {0}
+IsDataFault s faults.Read = ⊥
+
+-- what holds of a fault that a reader of messages answers
+abbrev pub OfMessage : FbsFault → (WireFault → Type 0) → Type 0
+OfMessage faults.NotFbs P = ⊥
+OfMessage faults.Truncated P = ⊥
+OfMessage faults.Version P = ⊥
+OfMessage faults.Security P = ⊥
+OfMessage faults.Format P = ⊥
+OfMessage faults.Size P = ⊥
+OfMessage (faults.Message f) P = (f ≢ wire.NoMemory) × P f
+OfMessage faults.NoMemory P = Unit {0}
+OfMessage faults.Read P = ⊥
+
+-- the stream is bytes in front of the name, which aren't whole
+pub record IsInHead (kept s : List ℕ) : Type 0 where
+  pub is : s ≡ kept
+  pub short : length kept < 40
+  pub waits : opening_at kept ≡ More
+
+-- Some bytes of the name came, of which the first are kept, and the others are to come.
+pub record IsInName (n : Name) (s : List ℕ) : Type 0 where
+  pub came : List ℕ
+  pub kept_is : n.kept.items ≡ take name_limit came
+  pub counted : length came + n.left ≡ n.announced.count
+  pub link : (more : List ℕ) → opening_at (s ++ more) ≡ named n.announced.width n.announced.height n.announced.count (came ++ more)
+
+-- the opening isn't whole
+abbrev pub IsInOpening : OpeningReader → List ℕ → Type 0
+IsInOpening o s = MatchOption o.name (IsInHead o.head.items s) (λ n. IsInName n s × (0 < n.left))
+
+-- the opening is whole at the end of the stream, whatever follows
+abbrev pub IsOpened : ℕ → ℕ → List ℕ → List ℕ → Type 0
+IsOpened w h name s = (more : List ℕ) → opening_at (s ++ more) ≡ Got (record { width = w; height = h; name = name }) more
+
+abbrev pub name_in : Option Name → List ℕ
+name_in None = []
+name_in (Some n) = n.kept.items
+
+-- The opening isn't whole, and nothing is given; `times` are those of the bytes of former blocks.
+pub record Opens (c : Stream) (times s : List ℕ) : Type 0 where
+  pub opening : IsInOpening c.opening s
+  pub no_hosts : c.hosts.items ≡ []
+  pub no_messages : c.messages.items ≡ []
+  pub before : length times ≤ length s
+
+-- The opening is whole. The messages of former blocks are stamped; at the end of those blocks stood
+-- an unfinished message, and with what came since, its messages are given and the reader stands for
+-- the rest.
+pub record Hears (c : Stream) (r : Reader) (times s : List ℕ) : Type 0 where
+  pub at : ℕ
+  pub body : List ℕ
+  pub opened : (more : List ℕ) → opening_at (s ++ more) ≡ Got (record { width = r.width; height = r.height; name = name_in c.opening.name }) (body ++ more)
+  pub length_is : length s ≡ at + length body
+  pub parts : List (Part Message)
+  pub lead : List ℕ
+  pub since : List ℕ
+  pub each : AllByRecursion (IsPart (message_at message_limit r.width r.height)) parts
+  pub lead_waits : message_at message_limit r.width r.height lead ≡ More
+  pub body_is : body ≡ flat_map bytes_of parts ++ (lead ++ since)
+  pub timed : length (flat_map bytes_of parts) + length lead ≡ length times - at
+  pub messages_are : c.messages.items ≡ stamped r.width r.height (drop at times) parts
+  pub no_fault : r.fault ≡ None
+  pub goes : Goes (message_at message_limit r.width r.height) (given r.width r.height) r.kept r.passed [] c.hosts.items (lead ++ since)
+
+-- the reader of a stream, of which the bytes of former blocks have these times
+abbrev pub Stands : Stream → List ℕ → List ℕ → Type 0
+Stands c times s = MatchOption c.reader (Opens c times s) (λ r. Hears c r times s)
+
+-- The reader of a file stands behind these bytes of it: whole blocks, of whose data and times the
+-- reader of the stream stands.
+pub record IsBetween (c : Stream) (seen : List ℕ) : Type 0 where
+  pub blocks : List (Part Block)
+  pub laid : Laid seen blocks []
+  pub long : 12 ≤ length seen
+  pub stands : Stands c (times_of blocks) (data_of blocks)
+
+-- so many bytes of data came, and the reader of the stream has them
+pub record Came (old new : Option (List ℕ)) (c d : Stream) (n : ℕ) : Type 0 where
+  pub content : List ℕ
+  pub consumed : Consumes old new content
+  pub count : length content ≡ n
+  pub heard : (times s : List ℕ) → Stands c times s → Stands d times (s ++ content)
+
+-- a block more came; or the file has ended
+pub record Went (old new : Option (List ℕ)) (d : Stream) (seen : List ℕ) (more : Bool) : Type 0 where
+  pub bytes : List ℕ
+  pub consumed : Consumes old new bytes
+  pub between : IsBetween d (seen ++ bytes)
+  pub ended : more ≡ false → IsAtEnd new
+
+-- the start of a file came
+pub record Started (old new : Option (List ℕ)) : Type 0 where
+  pub bytes : List ℕ
+  pub consumed : Consumes old new bytes
+  pub count : length bytes ≡ 12
+  pub is : is_start bytes ≡ true

@@ -1,0 +1,178 @@
+//! Reading a file, block by block.
+
+ghost use Rattle.std.specs.Prelude.{◌≡◌, ◌≤◌, ◌<◌, ◌++◌, ℕ, List, false, length, take, IfSome, IfOk, IfErr, OnOk};
+ghost use Rattle.std.specs.Io.KnownBytes.{Consumes, IsAtEnd};
+ghost use Rattle.client_wire.specs.Number.{u32_bytes};
+ghost use Rattle.fbs_export.specs.Blocks.{is_start, is_digit as digit};
+ghost use Rattle.fbs_export.specs.declared.fault.FbsFault.TheVariants.{Read as FbsRead};
+ghost use Rattle.fbs_export.specs.Reader.{Came, IsBetween, Started, Went};
+ghost use Rattle.fbs_export.specs.Summary.{IsSummary, IsFault};
+
+use crate::fault::FbsFault;
+use crate::stream::Stream;
+use crate::summary::Summary;
+use crate::writing::padding_of;
+use std::alloc::Global;
+use std::io::Read;
+
+/// The first bytes of a file: FBS 001., three digits, and a newline.
+const MAGIC: [u8; 8] = *b"FBS 001.";
+
+/// The reader failed.
+#[derive(Clone, Copy)]
+pub struct ReadFailed;
+
+impl From<ReadFailed> for FbsFault {
+    ghost from_gives = { λ _ fault. fault ≡ FbsRead };
+
+    fn from(_: ReadFailed) -> FbsFault {
+        FbsFault::Read
+    }
+}
+
+// Fills a buffer as far as the file goes; gives the number of bytes.
+fn fill<R: Read>(file: &mut R, buffer: &mut [u8]) -> Result<usize, ReadFailed>
+    ensures read { IfOk result (λ n. Consumes (R.remaining file.old) (R.remaining file.new) (take n buffer.new)) }
+    ensures most { IfOk result (λ n. n ≤ length buffer.old) }
+    ensures end { IfOk result (λ n. n < length buffer.old → IsAtEnd (R.remaining file.new)) }
+    ensures size { length buffer.new ≡ length buffer.old }
+{
+    let mut filled = 0;
+    while filled < buffer.len() {
+        match file.read(&mut buffer[filled..]) {
+            Err(_) => return Err(ReadFailed),
+            Ok(n) => {
+                if n == 0 {
+                    return Ok(filled);
+                }
+                filled += n;
+            }
+        }
+    }
+    Ok(filled)
+}
+
+fn is_digit(byte: u8) -> bool
+    ensures { result ≡ digit byte }
+{
+    47 < byte && byte < 58
+}
+
+// Whether these are the first bytes of a file.
+#[tactic(auto, unfolding(crate::specs::Blocks::is_start))]
+fn begins_a_file(start: &[u8]) -> bool
+    requires { length start.now ≡ 12 }
+    ensures { result ≡ is_start start.now }
+{
+    let (magic, _) = start.split_at(8);
+    if magic != MAGIC.as_slice() {
+        return false;
+    }
+    if !is_digit(start[8]) {
+        return false;
+    }
+    if !is_digit(start[9]) {
+        return false;
+    }
+    if !is_digit(start[10]) {
+        return false;
+    }
+    start[11] == 10
+}
+
+// Takes the first bytes of a file.
+fn read_start<R: Read>(file: &mut R) -> Result<(), FbsFault>
+    ensures started { OnOk result (Started (R.remaining file.old) (R.remaining file.new)) }
+    ensures fault { IfErr result (λ f. IfSome (R.remaining file.old) (λ bytes. IsFault bytes f)) }
+{
+    let mut start = [0; 12];
+    let came = fill(file, &mut start)?;
+    if came < 12 {
+        return Err(FbsFault::NotFbs);
+    }
+    if !begins_a_file(&start) {
+        return Err(FbsFault::NotFbs);
+    }
+    Ok(())
+}
+
+// Takes so many bytes of data, as they come.
+fn read_content<R: Read>(file: &mut R, length: u32, stream: &mut Stream) -> Result<(), FbsFault>
+    ensures came { OnOk result (Came (R.remaining file.old) (R.remaining file.new) stream.old stream.new length) }
+    ensures fault { IfErr result (λ f. (seen : List ℕ) → IsBetween stream.old seen
+        → IfSome (R.remaining file.old) (λ rest. IsFault (seen ++ (u32_bytes length ++ rest)) f)) }
+{
+    let mut buffer = [0; 4096];
+    let mut left = length;
+    while left > 0 {
+        let room = left.min(4096) as usize;
+        match file.read(&mut buffer[..room]) {
+            Err(_) => return Err(FbsFault::Read),
+            Ok(n) => {
+                if n == 0 {
+                    return Err(FbsFault::Truncated);
+                }
+                stream.feed(&buffer[..n])?;
+                left -= n as u32;
+            }
+        }
+    }
+    Ok(())
+}
+
+// The number that four bytes spell, the highest first.
+fn number_of(bytes: &[u8]) -> u32
+    requires { length bytes.now ≡ 4 }
+    ensures { u32_bytes result ≡ bytes.now }
+{
+    u32::from_be_bytes([bytes[0], bytes[1], bytes[2], bytes[3]])
+}
+
+// Takes a block; answers whether there was one.
+fn read_block<R: Read>(file: &mut R, stream: &mut Stream) -> Result<bool, FbsFault>
+    ensures went { IfOk result (λ more. (seen : List ℕ) → IsBetween stream.old seen
+        → Went (R.remaining file.old) (R.remaining file.new) stream.new seen more) }
+    ensures fault { IfErr result (λ f. (seen : List ℕ) → IsBetween stream.old seen
+        → IfSome (R.remaining file.old) (λ rest. IsFault (seen ++ rest) f)) }
+{
+    let mut head = [0; 4];
+    let came = fill(file, &mut head)?;
+    if came == 0 {
+        return Ok(false);
+    }
+    if came < 4 {
+        return Err(FbsFault::Truncated);
+    }
+    let length = number_of(&head);
+    read_content(file, length, stream)?;
+    let padding = padding_of(length as usize);
+    let mut last = [0; 7];
+    let came = fill(file, &mut last[..padding + 4])?;
+    if came < padding + 4 {
+        return Err(FbsFault::Truncated);
+    }
+    let (_, time) = last[..padding + 4].split_at(padding);
+    let time = u32::from_be_bytes([time[0], time[1], time[2], time[3]]);
+    stream.end_block(time)?;
+    Ok(true)
+}
+
+/// What a file says that a reader gives. The first fault in the file is answered, as soon as its
+/// bytes have come; each failure of the reader is `Read`. Beside the messages that are told, the
+/// bytes of one message are kept at most. A reader that asks a system for its bytes is best
+/// buffered: each block is read in three pieces or more.
+pub fn check<R: Read>(alloc: Global, file: &mut R) -> Result<Summary, FbsFault>
+    ensures ok { IfOk result (λ s. IfSome (R.remaining file.old) (λ bytes. IsSummary bytes s)) }
+    ensures fault { IfErr result (λ f. IfSome (R.remaining file.old) (λ bytes. IsFault bytes f)) }
+{
+    read_start(file)?;
+    let mut stream = Stream::new(alloc);
+    for _ in 0..u64::MAX {
+        let more = read_block(file, &mut stream)?;
+        if !more {
+            let summary = stream.finish()?;
+            return Ok(summary);
+        }
+    }
+    Err(FbsFault::Read)
+}

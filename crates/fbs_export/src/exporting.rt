@@ -1,0 +1,307 @@
+//! Writing a part of a recording as a file.
+
+ghost use Rattle.std.specs.Prelude.{Some, ◌≡◌, ◌≢◌, ◌↔◌, ◌⊎◌, ◌+◌, ◌-◌, ◌<◌, ◌≤◌, ◌^◌, ◌++◌, ℕ, List, Ok, Err, IfOk, OnOk, IfErr, IsErrOf, length};
+ghost use Rattle.std.specs.Io.KnownBytes.{Appends, Keeps};
+ghost use Rattle.disk.specs.Failures.{HasCause};
+ghost use Rattle.key_index.specs.Entry.{messages_in};
+ghost use Rattle.key_index.specs.Indexed.{start_in};
+ghost use Rattle.std.specs.List.{slice_get};
+ghost use Rattle.replay.specs.Screens.{IsScreenAt};
+ghost use Rattle.painter.specs.Framebuffer.{color_at};
+ghost use Rattle.fbs_export.specs.Export.{export_text, front_text, messages_from, opening_text, screen_text, row_text};
+ghost use Rattle.fbs_export.specs.Written.{IsBadEnd, WroteFront};
+
+use crate::fault::{ExportFault, Stop};
+use crate::writing::{write_block, write_bytes};
+use disk::Disk;
+use gated_journal::NoMemory;
+use key_index::{Indexed, Stamped};
+use painter::Screen;
+use replay::{Replay, ReplayFault, from_block};
+use std::alloc::Global;
+use std::io::Write;
+
+/// The first bytes of a file.
+const START: [u8; 12] = *b"FBS 001.000\n";
+
+// Appends the opening of the stream: the version, the security type None, and ServerInit in the
+// host format (RFC 6143, section 7.3.2).
+fn append_opening<D: Disk>(index: &Indexed<D>, out: &mut Vec<u8>) -> Result<(), NoMemory>
+    ensures { OnOk result (out.new.items ≡ out.old.items ++ opening_text index.now.head) }
+{
+    let (width, height) = index.header().size();
+    let name = index.header().name();
+    let count = name.len() as u32;
+    out.extend_from_slice(&[
+        82,
+        70,
+        66,
+        32,
+        48,
+        48,
+        51,
+        46,
+        48,
+        48,
+        51,
+        10,
+        0,
+        0,
+        0,
+        1,
+        (width / 256) as u8,
+        (width % 256) as u8,
+        (height / 256) as u8,
+        (height % 256) as u8,
+        32,
+        24,
+        0,
+        1,
+        0,
+        255,
+        0,
+        255,
+        0,
+        255,
+        16,
+        8,
+        0,
+        0,
+        0,
+        0,
+        (count / 16_777_216) as u8,
+        (count / 65_536 % 256) as u8,
+        (count / 256 % 256) as u8,
+        (count % 256) as u8,
+    ])?;
+    out.extend_from_slice(name)?;
+    Ok(())
+}
+
+// Appends the pixels of a row in the host format, each with a fourth byte of 0.
+fn append_row(screen: &Screen, y: u16, out: &mut Vec<u8>) -> Result<(), NoMemory>
+    requires { y < screen.now.height }
+    ensures { OnOk result (out.new.items
+        ≡ out.old.items ++ row_text (color_at screen.now) y 0 screen.now.width) }
+{
+    let (width, _) = screen.size();
+    for x in 0..width {
+        let color = screen.color(x, y);
+        out.extend_from_slice(&[color.b as u8, color.g as u8, color.r as u8, 0])?;
+    }
+    Ok(())
+}
+
+// Appends a Raw update of the whole screen (RFC 6143, sections 7.6.1 and 7.7.1).
+fn append_screen(screen: &Screen, out: &mut Vec<u8>) -> Result<(), NoMemory>
+    ensures { OnOk result (out.new.items
+        ≡ out.old.items ++ screen_text screen.now.width screen.now.height (color_at screen.now)) }
+{
+    let (width, height) = screen.size();
+    out.extend_from_slice(&[
+        0,
+        0,
+        0,
+        1,
+        0,
+        0,
+        0,
+        0,
+        (width / 256) as u8,
+        (width % 256) as u8,
+        (height / 256) as u8,
+        (height % 256) as u8,
+        0,
+        0,
+        0,
+        0,
+    ])?;
+    for y in 0..height {
+        append_row(screen, y, out)?;
+    }
+    Ok(())
+}
+
+// Writes what stands in front of the messages: the file's start, the opening, and the screen.
+fn write_front<D: Disk, W: Write>(
+    alloc: Global,
+    index: &Indexed<D>,
+    screen: &Screen,
+    out: &mut W,
+) -> Result<(), Stop>
+    requires width { screen.now.width ≡ index.now.head.width }
+    requires height { screen.now.height ≡ index.now.head.height }
+    ensures all { OnOk result (Appends (W.contents out.old) (W.contents out.new)
+        (front_text index.now.head (color_at screen.now))) }
+    ensures front { WroteFront (W.contents out.old) (W.contents out.new)
+        (front_text index.now.head (color_at screen.now)) }
+    ensures device { result ≢ Err Stop.Device }
+{
+    let _ = index.header().size();
+    let mut content = Vec::new(alloc);
+    append_opening(index, &mut content)?;
+    write_bytes(&START, out)?;
+    write_block(0, &content, out)?;
+    content.clear();
+    append_screen(screen, &mut content)?;
+    write_block(0, &content, out)?;
+    Ok(())
+}
+
+// Why a replay gave no message that is there.
+fn stop_of(fault: ReplayFault) -> Stop
+    requires { fault ≢ ReplayFault.NotCommitted }
+    ensures device { (result ≡ Stop.Device) ↔ (fault ≡ ReplayFault.Device) }
+{
+    match fault {
+        ReplayFault::NotCommitted => unreachable!(),
+        ReplayFault::Device => Stop::Device,
+        ReplayFault::NoMemory => Stop::NoMemory,
+    }
+}
+
+// The next message of a recording that has one.
+fn next_message<D: Disk>(replay: &mut Replay, index: &mut Indexed<D>) -> Result<Stamped, Stop>
+    requires width { replay.old.screen.width ≡ index.old.head.width }
+    requires height { replay.old.screen.height ≡ index.old.head.height }
+    requires painted { D.is_modelled → IsScreenAt index.old.head (messages_in index.old.blocks) replay.old.position replay.old.screen }
+    requires more { replay.old.position < index.old.numbers.committed }
+    ensures message { D.is_modelled → IfOk result (λ s. slice_get (messages_in index.old.blocks) replay.old.position ≡ Some s) }
+    ensures position { OnOk result (replay.new.position ≡ replay.old.position + 1) }
+    ensures short { IfOk result (λ s. length s.message.bytes < 2 ^ 32) }
+    ensures painted { D.is_modelled → IsScreenAt index.old.head (messages_in index.old.blocks) replay.new.position replay.new.screen }
+    ensures width { replay.new.screen.width ≡ replay.old.screen.width }
+    ensures height { replay.new.screen.height ≡ replay.old.screen.height }
+    ensures history { D.is_modelled → D.history index.new.disk ≡ D.history index.old.disk }
+    ensures numbers { index.new.numbers ≡ index.old.numbers }
+    ensures head { index.new.head ≡ index.old.head }
+    ensures blocks { D.is_modelled → index.new.blocks ≡ index.old.blocks }
+    ensures cause { D.is_modelled → HasCause (D.failures index.old.disk) (D.failures index.new.disk) (IsErrOf result Stop.Device) }
+{
+    match replay.next(index) {
+        Ok(Some(stamped)) => {
+            stamped.message.known();
+            Ok(stamped)
+        }
+        Ok(None) => unreachable!(),
+        Err(fault) => Err(stop_of(fault)),
+    }
+}
+
+// Writes the messages from the replay's place on, below number `to`.
+fn write_messages<D: Disk, W: Write>(
+    replay: &mut Replay,
+    index: &mut Indexed<D>,
+    to: u64,
+    out: &mut W,
+) -> Result<(), Stop>
+    requires width { replay.old.screen.width ≡ index.old.head.width }
+    requires height { replay.old.screen.height ≡ index.old.head.height }
+    requires painted { D.is_modelled → IsScreenAt index.old.head (messages_in index.old.blocks) replay.old.position replay.old.screen }
+    requires end { to ≤ index.old.numbers.committed }
+    requires start { replay.old.position ≤ to }
+    ensures all { D.is_modelled → OnOk result (Appends (W.contents out.old) (W.contents out.new)
+        (messages_from (messages_in index.old.blocks) replay.old.position to)) }
+    ensures front { D.is_modelled → WroteFront (W.contents out.old) (W.contents out.new)
+        (messages_from (messages_in index.old.blocks) replay.old.position to) }
+    ensures history { D.is_modelled → D.history index.new.disk ≡ D.history index.old.disk }
+    ensures numbers { index.new.numbers ≡ index.old.numbers }
+    ensures head { index.new.head ≡ index.old.head }
+    ensures blocks { D.is_modelled → index.new.blocks ≡ index.old.blocks }
+    ensures cause { D.is_modelled → HasCause (D.failures index.old.disk) (D.failures index.new.disk) (IsErrOf result Stop.Device) }
+{
+    let mut first = None;
+    while replay.position() < to {
+        let stamped = next_message(replay, index)?;
+        let base = first.unwrap_or(stamped.time);
+        first = Some(base);
+        let time = stamped.time.saturating_sub(base);
+        write_block(time, stamped.message.bytes(), out)?;
+    }
+    Ok(())
+}
+
+// Writes the file of the messages from the start of a block on, below number `to`.
+fn write_file<D: Disk, W: Write>(
+    alloc: Global,
+    index: &mut Indexed<D>,
+    block: u64,
+    to: u64,
+    out: &mut W,
+) -> Result<(), Stop>
+    requires block { block ≤ length index.old.numbers.starts }
+    requires start { start_in index.old.numbers block ≤ to }
+    requires end { to ≤ index.old.numbers.committed }
+    ensures all { D.is_modelled → OnOk result (Appends (W.contents out.old) (W.contents out.new)
+        (export_text index.old.head (messages_in index.old.blocks) (start_in index.old.numbers block) to)) }
+    ensures front { D.is_modelled → WroteFront (W.contents out.old) (W.contents out.new)
+        (export_text index.old.head (messages_in index.old.blocks) (start_in index.old.numbers block) to) }
+    ensures history { D.is_modelled → D.history index.new.disk ≡ D.history index.old.disk }
+    ensures numbers { index.new.numbers ≡ index.old.numbers }
+    ensures head { index.new.head ≡ index.old.head }
+    ensures blocks { D.is_modelled → index.new.blocks ≡ index.old.blocks }
+    ensures cause { D.is_modelled → HasCause (D.failures index.old.disk) (D.failures index.new.disk) (IsErrOf result Stop.Device) }
+{
+    let mut replay = match from_block(alloc, index, block) {
+        Ok(replay) => replay,
+        Err(fault) => return Err(stop_of(fault)),
+    };
+    write_front(alloc, index, replay.screen(), out)?;
+    write_messages(&mut replay, index, to, out)?;
+    Ok(())
+}
+
+/// The number of the first message of an export from the start of a block on, below number `to`.
+/// The block that is the number of blocks begins at the end. `NoBlock` is answered exactly where
+/// there are fewer blocks; else `BadEnd` exactly where `to` lies before that start, or beyond the
+/// number of messages that count.
+pub fn first_exported<D: Disk>(index: &Indexed<D>, block: u64, to: u64) -> Result<u64, ExportFault>
+    ensures first { IfOk result (λ first. (block ≤ length index.now.numbers.starts) × (first ≡ start_in index.now.numbers block) × (first ≤ to) × (to ≤ index.now.numbers.committed)) }
+    ensures no_block { (result ≡ Err ExportFault.NoBlock) ↔ (length index.now.numbers.starts < block) }
+    ensures bad_end { (result ≡ Err ExportFault.BadEnd) ↔ IsBadEnd index.now.numbers block to }
+    ensures either { IfErr result (λ f. (f ≡ ExportFault.NoBlock) ⊎ (f ≡ ExportFault.BadEnd)) }
+{
+    if block > index.blocks() {
+        return Err(ExportFault::NoBlock);
+    }
+    let first = index.start(block);
+    if to < first {
+        return Err(ExportFault::BadEnd);
+    }
+    if to > index.committed() {
+        return Err(ExportFault::BadEnd);
+    }
+    Ok(first)
+}
+
+/// Writes the messages from the start of a block on, below number `to`, as an FBS file, with the
+/// opening and the screen that they are painted over; gives their number. Refused before anything
+/// is written as by [`first_exported`]. Where the device or the writer fails, or memory runs out, a
+/// beginning of the file was written; a write that takes nothing is a writer's fault. The recording
+/// is only read, a message at a time.
+pub fn export<D: Disk, W: Write>(
+    alloc: Global,
+    index: &mut Indexed<D>,
+    block: u64,
+    to: u64,
+    out: &mut W,
+) -> Result<u64, ExportFault>
+    ensures all { D.is_modelled → OnOk result (Appends (W.contents out.old) (W.contents out.new)
+        (export_text index.old.head (messages_in index.old.blocks) (start_in index.old.numbers block) to)) }
+    ensures front { D.is_modelled → WroteFront (W.contents out.old) (W.contents out.new)
+        (export_text index.old.head (messages_in index.old.blocks) (start_in index.old.numbers block) to) }
+    ensures count { IfOk result (λ n. start_in index.old.numbers block + n ≡ to) }
+    ensures no_block { (result ≡ Err ExportFault.NoBlock) ↔ (length index.old.numbers.starts < block) }
+    ensures bad_end { (result ≡ Err ExportFault.BadEnd) ↔ IsBadEnd index.old.numbers block to }
+    ensures nothing { (result ≡ Err ExportFault.NoBlock) ⊎ (result ≡ Err ExportFault.BadEnd)
+        → Keeps (W.contents out.old) (W.contents out.new) }
+    ensures history { D.is_modelled → D.history index.new.disk ≡ D.history index.old.disk }
+    ensures numbers { index.new.numbers ≡ index.old.numbers }
+    ensures head { index.new.head ≡ index.old.head }
+    ensures blocks { D.is_modelled → index.new.blocks ≡ index.old.blocks }
+    ensures cause { D.is_modelled → HasCause (D.failures index.old.disk) (D.failures index.new.disk) (IsErrOf result ExportFault.Device) }
+{
+    let first = first_exported(index, block, to)?;
+    write_file(alloc, index, block, to, out)?;
+    Ok(to - first)
+}

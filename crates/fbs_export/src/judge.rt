@@ -1,0 +1,122 @@
+//! The opening of a stream, in front of the name: each part is judged once it is whole.
+
+ghost use Rattle.std.specs.Prelude.{◌≡◌, ◌≤◌, ◌↔◌, IsTrue, true, length, Ok};
+ghost use Rattle.fbs_export.specs.Judged.{IsJudged};
+ghost use Rattle.fbs_export.specs.Opening.{is_host, is_size, name_at, format_then, size_then, security_then, opening_at};
+
+use crate::fault::FbsFault;
+
+const VERSION: [u8; 12] = *b"RFB 003.003\n";
+
+/// Of red, green and blue in the host format: each maximum in two bytes, each shift in one.
+const MAXIMA_AND_SHIFTS: [u8; 9] = [0, 255, 0, 255, 0, 255, 16, 8, 0];
+
+/// The security type None.
+const NONE: u32 = 1;
+
+/// What stands in front of the name: the screen's size, and the length of the name in bytes.
+#[derive(Clone, Copy)]
+pub struct Announced {
+    pub width: u16,
+    pub height: u16,
+    pub count: u32,
+}
+
+#[tactic(auto, unfolding(crate::specs::Opening::is_host))]
+fn is_host_format(format: &[u8]) -> bool
+    requires { length format.now ≡ 16 }
+    ensures { result ≡ is_host format.now }
+{
+    if format[0] != 32 {
+        return false;
+    }
+    if format[2] != 0 {
+        return false;
+    }
+    if format[3] == 0 {
+        return false;
+    }
+    &format[4..13] == MAXIMA_AND_SHIFTS.as_slice()
+}
+
+// Sides of 1 to 8,192, and an area of at most 2^23.
+fn is_allowed(width: u16, height: u16) -> bool
+    ensures { result ≡ is_size width height }
+{
+    0 < width
+        && width < 8_193
+        && 0 < height
+        && height < 8_193
+        && u32::from(width) * u32::from(height) < 8_388_609
+}
+
+fn judge_name(width: u16, height: u16, bytes: &[u8]) -> Option<Announced>
+    ensures { IsJudged (name_at width height) 4 bytes.now (Ok result) }
+{
+    if bytes.len() < 4 {
+        return None;
+    }
+    let (count, _) = bytes.split_at(4);
+    let count = u32::from_be_bytes([count[0], count[1], count[2], count[3]]);
+    Some(Announced {
+        width,
+        height,
+        count,
+    })
+}
+
+fn judge_format(width: u16, height: u16, bytes: &[u8]) -> Result<Option<Announced>, FbsFault>
+    ensures { IsJudged (format_then width height) 20 bytes.now result }
+{
+    if bytes.len() < 16 {
+        return Ok(None);
+    }
+    let (format, rest) = bytes.split_at(16);
+    if !is_host_format(format) {
+        return Err(FbsFault::Format);
+    }
+    Ok(judge_name(width, height, rest))
+}
+
+fn judge_size(bytes: &[u8]) -> Result<Option<Announced>, FbsFault>
+    ensures { IsJudged size_then 24 bytes.now result }
+{
+    if bytes.len() < 4 {
+        return Ok(None);
+    }
+    let (size, rest) = bytes.split_at(4);
+    let width = u16::from_be_bytes([size[0], size[1]]);
+    let height = u16::from_be_bytes([size[2], size[3]]);
+    if !is_allowed(width, height) {
+        return Err(FbsFault::Size);
+    }
+    judge_format(width, height, rest)
+}
+
+fn judge_security(bytes: &[u8]) -> Result<Option<Announced>, FbsFault>
+    ensures { IsJudged security_then 28 bytes.now result }
+{
+    if bytes.len() < 4 {
+        return Ok(None);
+    }
+    let (security, rest) = bytes.split_at(4);
+    if u32::from_be_bytes([security[0], security[1], security[2], security[3]]) != NONE {
+        return Err(FbsFault::Security);
+    }
+    judge_size(rest)
+}
+
+/// What the first bytes of a stream say, up to the name's length; none while there are too few. The
+/// first fault is answered: `Version`, `Security`, `Size` or `Format`.
+pub fn judge(bytes: &[u8]) -> Result<Option<Announced>, FbsFault>
+    ensures { IsJudged opening_at 40 bytes.now result }
+{
+    if bytes.len() < 12 {
+        return Ok(None);
+    }
+    let (version, rest) = bytes.split_at(12);
+    if version != VERSION.as_slice() {
+        return Err(FbsFault::Version);
+    }
+    judge_security(rest)
+}

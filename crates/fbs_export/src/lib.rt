@@ -1,0 +1,21 @@
+//! FBS files: a part of a recording as such a file, and what such a file says.
+#![tactic(auto)]
+
+mod checking;
+mod exporting;
+mod fault;
+mod judge;
+mod laws;
+mod opening;
+mod stream;
+mod summary;
+mod writing;
+
+pub use checking::check;
+pub use exporting::{export, first_exported};
+pub use fault::{ExportFault, FbsFault};
+pub use laws::exported_is_read;
+pub use summary::Summary;
+
+#[cfg(test)]
+mod tests;

@@ -1,0 +1,28 @@
+//! What a file says.
+
+use key_index::Stamped;
+use std::marker::Model;
+
+/// What a file says: the size of the screen in places, the name, of a longer one its first 1,024
+/// bytes, the recorded messages with their times, and the number of bytes of an unfinished last
+/// message.
+#[derive(Drop)]
+pub struct Summary {
+    pub width: u16,
+    pub height: u16,
+    pub name: Vec<u8>,
+    pub messages: Vec<Stamped>,
+    pub rest: u64,
+}
+
+impl Model for Summary {
+    ghost use Rattle.fbs_export.specs.Summary.{Said};
+
+    ghost Value = { Said };
+
+    ghost view = { λ s. record {
+      opening = record { width = s.width; height = s.height; name = s.name.items };
+      messages = s.messages.items;
+      rest = s.rest;
+    } };
+}
