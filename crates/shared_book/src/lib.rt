@@ -20,3 +20,6 @@ pub use parties::{HostSource, Point, ReceiptSink, Turn, Turnstile, ViewerSink};
 pub use receipt::{Receipt, Ticket};
 pub use shared::Shared;
 pub use workers::{FlusherEnd, ViewerEnd, run_flusher, run_host, run_viewer};
+
+#[cfg(test)]
+mod tests;

@@ -1,0 +1,379 @@
+//! Workers in threads of their own.
+
+ghost use Rattle.std.specs.Prelude.{◌≡◌};
+ghost use Rattle.flusher_core.specs.State.{accepted_count};
+
+use super::{UPDATE, confirm, find, new_desk};
+use crate::{
+    HostSource, Mark, Point, Receipt, ReceiptSink, Shared, Ticket, Token, Turn, Turnstile,
+    ViewerSink, run_flusher, run_host, run_viewer,
+};
+use broadcast::{Desk, Start};
+use disk::{Disk, MemoryDisk};
+use gated_journal::NoMemory;
+use rfb_wire::HostMessage;
+use std::alloc::Global;
+use std::marker::Brand;
+use std::process::Abort;
+use std::sync::Wait;
+use std::sync::atomic::{AtomicBool, AtomicU64, Ordering};
+use std::test::Fail;
+use std::thread::{self, Threads, join, map_indices};
+use std::time::{Clock, Duration};
+
+/// Holds a viewer's first sending of a message until two messages are accepted, and the host's
+/// second message until that sending has begun. Who holds longer than 10,000 turns goes on, and is
+/// counted. It is also told where memory was wanting, so that nobody waits for what won't come.
+#[derive(Drop)]
+struct Gates<'a, R: Clock> {
+    rt: &'a R,
+    are_open: bool,
+    accepted: AtomicU64,
+    sending: AtomicU64,
+    missed: AtomicU64,
+    lacked: AtomicBool,
+}
+
+impl<'a, R: Clock> Gates<'a, R> {
+    fn new(rt: &'a R, are_open: bool) -> Gates<'a, R> {
+        Gates {
+            rt,
+            are_open,
+            accepted: AtomicU64::new(0),
+            sending: AtomicU64::new(0),
+            missed: AtomicU64::new(0),
+            lacked: AtomicBool::new(false),
+        }
+    }
+
+    fn lacks(&self) {
+        self.lacked.store(true, Ordering::SeqCst);
+    }
+
+    fn hold_until(&self, count: &AtomicU64, least: u64) {
+        if self.are_open {
+            return;
+        }
+        for _ in 0..10_000 {
+            if count.load(Ordering::SeqCst) >= least || self.lacked.load(Ordering::SeqCst) {
+                return;
+            }
+            let _ = thread::sleep(self.rt, Duration::from_millis(1));
+        }
+        self.missed.fetch_add(1, Ordering::SeqCst);
+    }
+}
+
+impl<'a, R: Clock> Turnstile for Gates<'a, R> {
+    fn pass(&self, point: Point) {
+        match point {
+            Point::HostAccepted(_) => {
+                self.accepted.fetch_add(1, Ordering::SeqCst);
+            }
+            Point::Sending { count, .. } => {
+                if count > 0 {
+                    self.sending.fetch_add(1, Ordering::SeqCst);
+                    self.hold_until(&self.accepted, 2);
+                }
+            }
+            Point::Committed(_) => {}
+        }
+    }
+}
+
+/// So many updates.
+#[derive(Drop)]
+struct Updates<'a, M: Mark, R: Clock> {
+    alloc: Global,
+    gates: &'a Gates<'a, R>,
+    given: u64,
+    count: u64,
+    tickets: &'a mut Vec<Ticket<M>>,
+}
+
+impl<'a, M: Mark, R: Clock> HostSource<Ticket<M>> for Updates<'a, M, R> {
+    ghost width = { λ u. 1 };
+
+    ghost height = { λ u. 1 };
+
+    fn next(&mut self) -> Option<(u32, HostMessage)> {
+        if self.given >= self.count {
+            return None;
+        }
+        if self.given == 1 {
+            self.gates.hold_until(&self.gates.sending, 1);
+        }
+        self.given += 1;
+        match HostMessage::from_bytes(self.alloc, 1, 1, &UPDATE) {
+            Ok(message) => Some((0, message)),
+            Err(_) => {
+                self.gates.lacks();
+                None
+            }
+        }
+    }
+
+    fn accepted(&mut self, ticket: Ticket<M>) {
+        if self.tickets.push(ticket).is_err() {
+            self.gates.lacks();
+        }
+    }
+}
+
+/// Keeps its receipts.
+#[derive(Drop)]
+struct Kept<'a, M: Mark, R: Clock> {
+    gates: &'a Gates<'a, R>,
+    receipts: &'a mut Vec<Receipt<M>>,
+}
+
+impl<'a, M: Mark, R: Clock> ReceiptSink<Receipt<M>> for Kept<'a, M, R> {
+    fn receipt(&mut self, receipt: Receipt<M>) {
+        if self.receipts.push(receipt).is_err() {
+            self.gates.lacks();
+        }
+    }
+}
+
+/// A viewer that wants so many messages, and gives up after as many slices without any as its
+/// patience allows.
+#[derive(Drop)]
+struct Viewer<'a, M: Mark, R: Clock> {
+    wanted: u64,
+    position: u64,
+    patience: u32,
+    waits: bool,
+    kept: Kept<'a, M, R>,
+}
+
+impl<'a, M: Mark, R: Clock> ViewerSink<Receipt<M>> for Viewer<'a, M, R> {
+    ghost width = { λ v. 1 };
+
+    ghost height = { λ v. 1 };
+
+    ghost position = { λ v. v.position };
+
+    ghost slice_of = { λ r. r };
+
+    fn turn(&mut self) -> Turn {
+        self.waits = !self.waits;
+        if self.position >= self.wanted || self.patience == 0 {
+            Turn::Stop
+        } else if self.waits {
+            Turn::Wait
+        } else {
+            Turn::Want(100)
+        }
+    }
+
+    fn slice(&mut self, receipt: Receipt<M>) {
+        self.position = receipt.slice().end();
+        if receipt.slice().messages.is_empty() {
+            self.patience = self.patience.saturating_sub(1);
+        }
+        if !receipt.slice().messages.is_empty() || receipt.slice().start.is_some() {
+            self.kept.receipt(receipt);
+        }
+    }
+}
+
+fn host<D: Disk, M: Mark, R: Wait + Clock>(
+    rt: &R,
+    alloc: Global,
+    shared: &Shared<D, M>,
+    gates: &Gates<R>,
+    count: u64,
+) -> Vec<Ticket<M>>
+    requires { (M.head.width ≡ 1) × (M.head.height ≡ 1) }
+{
+    let mut tickets = Vec::new(alloc);
+    let source = Updates {
+        alloc,
+        gates: &*gates,
+        given: 0,
+        count,
+        tickets: &mut tickets,
+    };
+    if run_host(rt, shared, source, gates).is_err() {
+        gates.lacks();
+    }
+    tickets
+}
+
+fn flush<D: Disk, M: Mark, R: Wait + Clock>(
+    rt: &R,
+    alloc: Global,
+    shared: &Shared<D, M>,
+    gates: &Gates<R>,
+) -> Vec<Receipt<M>> {
+    let mut receipts = Vec::new(alloc);
+    let kept = Kept {
+        gates: &*gates,
+        receipts: &mut receipts,
+    };
+    if run_flusher(rt, shared, kept, gates).is_err() {
+        gates.lacks();
+    }
+    receipts
+}
+
+fn view<D: Disk, M: Mark, R: Wait + Clock>(
+    rt: &R,
+    alloc: Global,
+    shared: &Shared<D, M>,
+    gates: &Gates<R>,
+    wanted: u64,
+) -> Vec<Receipt<M>>
+    requires { (M.head.width ≡ 1) × (M.head.height ≡ 1) }
+{
+    let mut receipts = Vec::new(alloc);
+    let viewer = Viewer {
+        wanted,
+        position: 0,
+        patience: 100_000,
+        waits: false,
+        kept: Kept {
+            gates: &*gates,
+            receipts: &mut receipts,
+        },
+    };
+    if run_viewer(rt, shared, Start::At(0), viewer, gates).is_err() {
+        gates.lacks();
+    }
+    receipts
+}
+
+/// What the workers were told.
+#[derive(Drop)]
+struct Told<M: Mark> {
+    tickets: Vec<Ticket<M>>,
+    committed: Vec<Receipt<M>>,
+    seen: Vec<Vec<Receipt<M>>>,
+}
+
+fn view_all<D: Disk + Send, M: Mark + Send + Sync, R: Threads + Wait + Clock + Sync>(
+    rt: &R,
+    alloc: Global,
+    shared: &Shared<D, M>,
+    gates: &Gates<R>,
+    count: u64,
+    viewers: usize,
+) -> Result<Vec<Vec<Receipt<M>>>, NoMemory>
+    requires { (M.head.width ≡ 1) × (M.head.height ≡ 1) }
+{
+    map_indices(
+        rt,
+        alloc,
+        viewers,
+        &|_| -> Vec<Receipt<M>>
+            requires { (M.head.width ≡ 1) × (M.head.height ≡ 1) }
+        { view(rt, alloc, shared, gates, count) },
+    )
+}
+
+// A host of so many updates and a flusher, each in a thread of its own.
+fn record<D: Disk + Send, M: Mark + Send + Sync, R: Threads + Wait + Clock + Sync>(
+    rt: &R,
+    alloc: Global,
+    shared: &Shared<D, M>,
+    gates: &Gates<R>,
+    count: u64,
+) -> (Vec<Ticket<M>>, Vec<Receipt<M>>)
+    requires { (M.head.width ≡ 1) × (M.head.height ≡ 1) }
+{
+    join(
+        rt,
+        move || -> Vec<Ticket<M>>
+            requires { (M.head.width ≡ 1) × (M.head.height ≡ 1) }
+        { host(rt, alloc, shared, gates, count) },
+        move || flush(rt, alloc, shared, gates),
+    )
+}
+
+// Both, and so many viewers.
+fn work<D: Disk + Send, M: Mark + Send + Sync, R: Threads + Wait + Clock + Sync>(
+    rt: &R,
+    alloc: Global,
+    shared: &Shared<D, M>,
+    gates: &Gates<R>,
+    count: u64,
+    viewers: usize,
+) -> Result<Told<M>, NoMemory>
+    requires { (M.head.width ≡ 1) × (M.head.height ≡ 1) }
+{
+    let ((tickets, committed), seen) = join(
+        rt,
+        move || -> (Vec<Ticket<M>>, Vec<Receipt<M>>)
+            requires { (M.head.width ≡ 1) × (M.head.height ≡ 1) }
+        { record(rt, alloc, shared, gates, count) },
+        move || -> Result<Vec<Vec<Receipt<M>>>, NoMemory>
+            requires { (M.head.width ≡ 1) × (M.head.height ≡ 1) }
+        { view_all(rt, alloc, shared, gates, count, viewers) },
+    );
+    Ok(Told {
+        tickets,
+        committed,
+        seen: seen?,
+    })
+}
+
+// The workers share a desk. All receipts are then confirmed, and all tickets found; where memory is
+// ample, each message is committed and handed to each viewer.
+fn share<D: Disk + Send + Drop, M: Mark + Send + Sync, R: Threads + Wait + Clock + Abort + Sync>(
+    rt: &R,
+    alloc: Global,
+    token: Token,
+    desk: Desk<D>,
+    gates: &Gates<R>,
+    count: u64,
+    viewers: usize,
+) -> Result<(), Fail>
+    requires head { desk.head ≡ M.head }
+    requires modelled { (D.is_modelled → M.is_modelled) × (M.is_modelled → D.is_modelled) }
+    requires first { accepted_count desk.state.book ≡ M.first }
+    requires names { token ≡ M.names }
+    requires sized { (M.head.width ≡ 1) × (M.head.height ≡ 1) }
+{
+    let shared = Shared::<D, M>::new(rt, token, desk);
+    let mut told = work(rt, alloc, &shared, gates, count, viewers)?;
+    let mut closed = shared.finish();
+    find(rt, &mut closed, &told.tickets)?;
+    confirm(rt, &mut closed, &told.committed)?;
+    let is_ample = !gates.lacked.load(Ordering::SeqCst);
+    assert!(rt; !is_ample || closed.committed() == count);
+    for receipts in &told.seen {
+        let handed = confirm(rt, &mut closed, receipts)?;
+        assert!(rt; !is_ample || handed == count);
+    }
+    if let (Some(mut one), Some(mut other)) = (told.tickets.pop(), told.tickets.pop()) {
+        closed.apart(rt, &mut one, &mut other);
+        assert!(rt; one.number() != other.number());
+    }
+    Ok(())
+}
+
+fn shared_by_workers<R: Threads + Wait + Clock + Abort + Sync>(
+    rt: &R,
+    alloc: Global,
+    gates: &Gates<R>,
+    count: u64,
+    viewers: usize,
+) -> Result<(), Fail> {
+    let desk = new_desk(alloc, MemoryDisk::new(alloc))?;
+    let token = Token::new(alloc)?;
+    share::<MemoryDisk, Brand, R>(rt, alloc, token, desk, gates, count, viewers)
+}
+
+#[test]
+fn the_host_goes_on_while_a_viewer_is_served(rt: HostRuntime) -> Result<(), Fail> {
+    let gates = Gates::new(&rt, false);
+    shared_by_workers(&rt, rt.alloc(), &gates, 2, 1)?;
+    assert!(&rt; gates.missed.load(Ordering::SeqCst) == 0 || gates.lacked.load(Ordering::SeqCst));
+    Ok(())
+}
+
+#[test]
+fn eight_viewers_are_handed_ten_thousand_messages(rt: HostRuntime) -> Result<(), Fail> {
+    let gates = Gates::new(&rt, true);
+    shared_by_workers(&rt, rt.alloc(), &gates, 10_000, 8)
+}
