@@ -11,8 +11,8 @@ fn a_drill_is_run(rt: HostRuntime) -> Result<(), Fail> {
     let words = ["recorderd".to_string(alloc)?, "drill".to_string(alloc)?];
     let mut out = Vec::new(alloc);
     let mut err = Vec::new(alloc);
-    let script = b"new 1 1 4 x\nhost 0 0000 0001 0000 0000 0001 0001 00000000 0000ff00\ntake\nbody\ngate\nopen\npixel 1 0 0"
-        .as_slice();
+    let script =
+        b"new 1 1 4 x\nhost 0 0000 0001 0000 0000 0001 0001 00000000 0000ff00\ntake\nbody\ngate\nopen\npixel 1 0 0".as_slice();
     assert_eq!(rt; command(alloc, &words, script, &mut out, &mut err), 0);
     assert_eq!(rt;
         out.as_slice(),
