@@ -1,6 +1,9 @@
 //! Files worked by hand.
 
-use crate::{FbsFault, check};
+use crate::{ExportFault, FbsFault, check, export};
+use disk::MemoryDisk;
+use key_index::Indexed;
+use std::alloc::Global;
 use std::test::Fail;
 
 // A file's start; a block of the opening, for a screen of 1 by 1 and the name x, at time 0.
@@ -25,5 +28,48 @@ fn a_message_over_two_blocks(rt: HostRuntime) -> Result<(), Fail> {
     assert!(rt; told.messages.is_empty() && told.rest == 7);
     let mut cut = &file[..70];
     assert!(rt; check(alloc, &mut cut).err() == Some(FbsFault::Truncated));
+    Ok(())
+}
+
+/// A recording of one place with one message, an update of a red pixel.
+const RECORDING: [u8; 54] =
+    *b"ORFBREC1\0\x01\0\x01\0\x04\0\x01xO\0\0\0\x1d\0\x01\0\0\0\0\0\0\0\0\x14\0\0\0\x01\0\0\0\0\0\x01\0\x01\0\0\0\0\0\0\xff\0C";
+
+// An update of a black pixel, and one of a red one, each in a block at time 0.
+const BLACK: [u8; 28] = *b"\0\0\0\x14\0\0\0\x01\0\0\0\0\0\x01\0\x01\0\0\0\0\0\0\0\0\0\0\0\0";
+
+const RED: [u8; 28] = *b"\0\0\0\x14\0\0\0\x01\0\0\0\0\0\x01\0\x01\0\0\0\0\0\0\xff\0\0\0\0\0";
+
+fn opened(alloc: Global) -> Result<Indexed<MemoryDisk>, Fail> {
+    let disk = MemoryDisk::from_bytes(alloc, RECORDING.to_vec(alloc)?);
+    Ok(Indexed::open(alloc, disk).map_err(|refused| refused.fault)?)
+}
+
+// What is exported from a block to a count, or why nothing is.
+fn exported(alloc: Global, block: u64, to: u64) -> Result<Result<Vec<u8>, ExportFault>, Fail> {
+    let mut index = opened(alloc)?;
+    let mut out = Vec::new(alloc);
+    match export(alloc, &mut index, block, to, &mut out) {
+        Ok(_) => Ok(Ok(out)),
+        Err(fault) => Ok(Err(fault)),
+    }
+}
+
+#[test]
+fn a_recording_is_exported(rt: HostRuntime) -> Result<(), Fail> {
+    let alloc = rt.alloc();
+    let mut whole = Vec::from_slice(alloc, &FRONT)?;
+    whole.extend_from_slice(&BLACK)?;
+    whole.extend_from_slice(&RED)?;
+    let file = exported(alloc, 0, 1)??;
+    assert!(rt; file.len() == 120 && file.as_slice() == whole.as_slice());
+    let mut reader = file.as_slice();
+    let told = check(alloc, &mut reader)?;
+    assert!(rt; told.messages.len() == 2 && told.rest == 0);
+    // Behind the last block: the opening, and the screen as it is then.
+    let end = exported(alloc, 1, 1)??;
+    assert!(rt; end.len() == 92 && end.ends_with(&RED));
+    assert!(rt; exported(alloc, 1, 0)?.err() == Some(ExportFault::BadEnd));
+    assert!(rt; exported(alloc, 2, 1)?.err() == Some(ExportFault::NoBlock));
     Ok(())
 }
