@@ -2,6 +2,7 @@
 
 mod books;
 mod desks;
+mod drills;
 mod index;
 mod journal;
 mod replays;

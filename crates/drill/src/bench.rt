@@ -49,6 +49,31 @@ fn opened_desk(
 }
 
 impl Drill {
+    fn new(alloc: Global) -> Result<Drill, AllocError> {
+        Ok(Drill {
+            alloc,
+            fuse: Fuse::new(alloc)?,
+            bench: Bench::Empty,
+        })
+    }
+
+    // Ends the fuse and the book, and gives the bytes that the disk has then: what the last stop
+    // leaves of it, where a line set one.
+    fn into_recording(self) -> Result<Vec<u8>, AllocError> {
+        let Drill {
+            alloc,
+            mut fuse,
+            bench,
+        } = self;
+        let fill = fuse.disarm().unwrap_or(Fill::Now);
+        let disk = match bench {
+            Bench::Empty => return Ok(Vec::new(alloc)),
+            Bench::Disk(disk) => disk,
+            Bench::Desk(desk) => desk.into_book().close(),
+        };
+        disk.left(fill).bytes().to_vec(alloc)
+    }
+
     // A second `new` begins again with an empty disk.
     fn start(
         &mut self,
@@ -158,24 +183,54 @@ fn run_line<O: Write>(
     Ok(true)
 }
 
-/// Runs a script, and writes an answer for each line that isn't empty. A bad line ends the run: the
-/// answer is whether there was none. An error is of the input, the output, or of memory.
-pub fn run<I: Read + Drop, O: Write>(alloc: Global, input: I, out: &mut O) -> io::Result<bool> {
-    let mut drill = Drill {
-        alloc,
-        fuse: Fuse::new(alloc)?,
-        bench: Bench::Empty,
-    };
-    let mut input = BufReader::new(alloc, input)?;
-    let mut text = Vec::new(alloc);
+// Runs the lines of a script: whether none was bad.
+fn run_lines<I: Read + Drop, O: Write>(
+    drill: &mut Drill,
+    input: I,
+    out: &mut O,
+) -> io::Result<bool> {
+    let mut input = BufReader::new(drill.alloc, input)?;
+    let mut text = Vec::new(drill.alloc);
     for number in 1..u64::MAX {
         text.clear();
         if input.read_until(b'\n', &mut text)? == 0 {
             break;
         }
-        if !run_line(&mut drill, &text, number, out)? {
+        if !run_line(drill, &text, number, out)? {
             return Ok(false);
         }
     }
     Ok(true)
+}
+
+/// Runs a script, and writes an answer for each line that isn't empty. A bad line ends the run: the
+/// answer is whether there was none. An error is of the input, the output, or of memory.
+pub fn run<I: Read + Drop, O: Write>(alloc: Global, input: I, out: &mut O) -> io::Result<bool> {
+    let mut drill = Drill::new(alloc)?;
+    run_lines(&mut drill, input, out)
+}
+
+/// How a script was run whose recording is kept.
+#[derive(Drop)]
+pub struct Ran {
+    /// Whether no line was bad.
+    pub is_whole: bool,
+    /// The bytes that its disk has then, as the last stop leaves them where a line set one; none
+    /// where there was no `new`.
+    pub recording: Vec<u8>,
+}
+
+/// Runs a script as [`run`] does, and gives the recording that it leaves, also where a line was bad.
+pub fn run_and_read<I: Read + Drop, O: Write>(
+    alloc: Global,
+    input: I,
+    out: &mut O,
+) -> io::Result<Ran> {
+    let mut drill = Drill::new(alloc)?;
+    let is_whole = run_lines(&mut drill, input, out)?;
+    let recording = drill.into_recording()?;
+    Ok(Ran {
+        is_whole,
+        recording,
+    })
 }

@@ -6,9 +6,5 @@ mod bench;
 mod fuse;
 mod steps;
 
-pub use bench::run;
-
-#[cfg(test)]
-mod crash_tests;
-#[cfg(test)]
-mod tests;
+pub use answer::Answer;
+pub use bench::{Ran, run, run_and_read};
