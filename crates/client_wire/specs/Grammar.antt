@@ -6,7 +6,8 @@ use Rattle.pixel_format.specs.Reading.{Reading, Got, Bad, ◌>>=◌, field}
 use Rattle.pixel_format.specs.Format.{Format}
 use Rattle.pixel_format.specs.Written.{format_at, is_flag}
 use Rattle.pixel_format.specs.declared.fault.FormatFault.{FormatFault}
-use Rattle.client_wire.specs.Number.{u16_at, u32_at, signed}
+use Rattle.pixel_format.specs.Number.{u16_at, u32_at}
+use Rattle.client_wire.specs.Number.{signed}
 use Rattle.client_wire.specs.declared.message.ClientMessage.{ClientMessage}
 use Rattle.client_wire.specs.declared.message.ClientMessage.TheVariants as messages
 use Rattle.client_wire.specs.declared.fault.WireFault.{WireFault}

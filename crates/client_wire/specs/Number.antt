@@ -1,12 +1,5 @@
--- Numbers of more than one byte stand with their higher byte first (RFC 6143, section 7).
-use Rattle.std.specs.Prelude.{ℕ, ℤ, pos, negsuc, suc, ◌^◌, ◌-◌, ◌+◌, ◌*◌, ◌/◌, ◌%◌, ◌<◌, nat_lt, List, [], ◌∷◌, slice_index, if◌then◌else◌}
-
--- the numbers of a field, from its byte i on
-abbrev pub u16_at : List ℕ → ℕ → ℕ
-u16_at f i = 256 * slice_index f i + slice_index f (i + 1)
-
-abbrev pub u32_at : List ℕ → ℕ → ℕ
-u32_at f i = 65536 * u16_at f i + u16_at f (i + 2)
+-- Signed numbers of four bytes, and the bytes of a number (RFC 6143, section 7).
+use Rattle.std.specs.Prelude.{ℕ, ℤ, pos, negsuc, suc, ◌^◌, ◌-◌, ◌/◌, ◌%◌, ◌<◌, nat_lt, List, [], ◌∷◌, if◌then◌else◌}
 
 -- the signed number that four bytes are, in two's complement
 abbrev pub signed : ℕ → ℤ

@@ -3,7 +3,7 @@
 ghost use Rattle.std.specs.Prelude.{◌≡◌, ℕ, List, length, drop, slice_index, IfOk, MatchResult};
 ghost use Rattle.pixel_format.specs.Reading.{Got, Bad};
 ghost use Rattle.pixel_format.specs.Written.{format_at, is_flag};
-ghost use Rattle.client_wire.specs.Number.{u16_at};
+ghost use Rattle.pixel_format.specs.Number.{u16_at};
 ghost use Rattle.client_wire.specs.Grammar.{judged, numbers_of};
 
 use crate::fault::WireFault;

@@ -6,7 +6,8 @@ use Rattle.pixel_format.specs.Reading.{Got, More}
 use Rattle.pixel_format.specs.Format.{host_format}
 use Rattle.pixel_format.specs.Written.{format_bytes}
 use Rattle.pixel_format.proofs.Readings.{field-short, field-whole}
-use Rattle.client_wire.specs.Number.{u16_at, u32_bytes}
+use Rattle.pixel_format.specs.Number.{u16_at}
+use Rattle.client_wire.specs.Number.{u32_bytes}
 use Rattle.rfb_wire.specs.Written.{two_bytes}
 use Rattle.gated_journal.specs.Recording.{Head, IsHead, IsSize}
 use Rattle.fbs_export.specs.declared.fault.FbsFault.{FbsFault}

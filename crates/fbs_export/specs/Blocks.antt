@@ -3,7 +3,7 @@ use Rattle.std.specs.Prelude.{◌≡◌, ℕ, ◌-◌, ◌%◌, Bool, true, ◌&
 use Rattle.std.specs.List.{flat_map}
 use Rattle.std.specs.Str.{bytes_eq}
 use Rattle.pixel_format.specs.Reading.{Reading, Got, More, ◌>>=◌, field}
-use Rattle.client_wire.specs.Number.{u32_at}
+use Rattle.pixel_format.specs.Number.{u32_at}
 use Rattle.client_wire.specs.Stream.{Part, Reads}
 use Rattle.client_wire.specs.declared.fault.WireFault.{WireFault}
 

@@ -4,7 +4,7 @@ use Rattle.std.specs.Prelude.{ℕ, ◌*◌, Bool, ◌&&◌, nat_eq, nat_lt, List
 use Rattle.std.specs.Str.{bytes_eq}
 use Rattle.pixel_format.specs.Reading.{Reading, Got, ◌>>=◌, field, guard}
 use Rattle.pixel_format.specs.Written.{is_flag}
-use Rattle.client_wire.specs.Number.{u16_at, u32_at}
+use Rattle.pixel_format.specs.Number.{u16_at, u32_at}
 use Rattle.fbs_export.specs.declared.fault.FbsFault.{FbsFault}
 use Rattle.fbs_export.specs.declared.fault.FbsFault.TheVariants as faults
 

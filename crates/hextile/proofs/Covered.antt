@@ -9,11 +9,10 @@ use Rattle.std.proofs.lemmas.List.Elements.{All-nil, All-push}
 use Rattle.pixel_format.specs.declared.Color.{Color}
 use Rattle.pixel_format.specs.Format.{Format}
 use Rattle.pixel_format.specs.Pixel.{IsWithin}
-use Rattle.pixel_format.specs.Canvas.{covers}
+use Rattle.pixel_format.specs.Canvas.{covers, black, nth}
+use Rattle.pixel_format.proofs.Covering.{in_is, is_in, not_in}
 use Rattle.hextile.specs.declared.cover.Part.{Part}
-use Rattle.hextile.specs.Picture.{black}
-use Rattle.hextile.specs.Encoded.{nth, AreTileColors, IsPart, IsUniform, IsCover, ShownUpto, part_picture}
-use Rattle.hextile.proofs.Covering.{in_is, is_in, not_in}
+use Rattle.hextile.specs.Encoded.{AreTileColors, IsPart, IsUniform, IsCover, ShownUpto, part_picture}
 
 -- one more of a tile's colours
 pub colors_more : (colors : List Color) (w left top tw : ℕ) (tile : List Color) (k : ℕ) (color : Color) → k < length tile

@@ -7,16 +7,17 @@ use Rattle.std.proofs.lemmas.List.{reverse-append, length-map, map-append, appen
 use Rattle.std.proofs.lemmas.List.Elements.{All-head, All-tail}
 use Rattle.pixel_format.specs.declared.Color.{Color}
 use Rattle.pixel_format.specs.Format.{Format}
-use Rattle.pixel_format.specs.Canvas.{covers}
+use Rattle.pixel_format.specs.Canvas.{covers, black}
 use Rattle.pixel_format.specs.Pixel.{IsWithin, pixel_of}
+use Rattle.pixel_format.specs.Appending.{Appends}
 use Rattle.hextile.specs.declared.fields.Mask.{Mask}
 use Rattle.hextile.specs.declared.fields.Subrectangle.{Subrectangle}
 use Rattle.hextile.specs.declared.cover.Part.{Part}
 use Rattle.hextile.specs.declared.writing.Known.{Known}
 use Rattle.hextile.specs.Grammar.{Tile, Raw, Parts}
 use Rattle.hextile.specs.Data.{background_of, foreground_of, IsAllowed, IsHead, AreRaw, AreParts}
-use Rattle.hextile.specs.Picture.{black, first_covering}
-use Rattle.hextile.specs.Encoded.{shown_if, drawn, part_picture, has_parts, is_colored, count_if, mask_number, mask_for, tile_bytes, parts_tile_bytes, IsPart, IsCover, IsKnown, ShowsTile, Appends, IsMaskFor, known_behind, IsWritten}
+use Rattle.hextile.specs.Picture.{first_covering}
+use Rattle.hextile.specs.Encoded.{shown_if, drawn, part_picture, has_parts, is_colored, count_if, mask_number, mask_for, tile_bytes, parts_tile_bytes, IsPart, IsCover, IsKnown, ShowsTile, IsMaskFor, known_behind, IsWritten}
 
 -- ---- pictures
 

@@ -10,13 +10,15 @@ use Rattle.std.proofs.lemmas.List.{append-nil, get_or-take, get_or_default, leng
 use Rattle.std.proofs.lemmas.Nat.{mul-add-lt, div-mul-add, mod-mul-add}
 use Rattle.pixel_format.specs.declared.Color.{Color}
 use Rattle.pixel_format.specs.Format.{Format}
+use Rattle.pixel_format.specs.Canvas.{black, nth, rows_of}
+use Rattle.pixel_format.specs.Appending.{Appends}
+use Rattle.pixel_format.proofs.Covering.{in_is}
 use Rattle.hextile.specs.declared.writing.Known.{Known}
 use Rattle.hextile.specs.Tiles.{tile_count, tile_number, tile_left, tile_top, tile_width, tile_height}
 use Rattle.hextile.specs.Grammar.{Tile}
 use Rattle.hextile.specs.Data.{IsTile, AreTiles, onto}
-use Rattle.hextile.specs.Picture.{black, latest_picture, tiles_picture}
-use Rattle.hextile.specs.Encoded.{nth, rows_of, tile_bytes, AreTileColors, IsKnown, ShowsTile, Shows, Appends}
-use Rattle.hextile.proofs.Covering.{in_is}
+use Rattle.hextile.specs.Picture.{latest_picture, tiles_picture}
+use Rattle.hextile.specs.Encoded.{tile_bytes, AreTileColors, IsKnown, ShowsTile, Shows}
 use Rattle.hextile.proofs.Tiling.{in_its_tile, number_within, some_places, some_width, tile_across, tile_down}
 use Rattle.hextile.proofs.PaintedTiles.{upto_same, upto_other}
 

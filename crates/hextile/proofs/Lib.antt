@@ -3,7 +3,6 @@ pub mod Steps
 pub mod FieldsRead
 pub mod TilesRead
 pub mod Refused
-pub mod Covering
 pub mod PaintedParts
 pub mod PaintedTile
 pub mod PaintedTiles

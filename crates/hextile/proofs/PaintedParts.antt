@@ -8,16 +8,16 @@ use Rattle.std.proofs.lemmas.List.{reverse-append, append-nil, drop-drop}
 use Rattle.pixel_format.specs.declared.Color.{Color}
 use Rattle.pixel_format.specs.Format.{Format, pixel_bytes}
 use Rattle.pixel_format.specs.Pixel.{pixel_color}
-use Rattle.pixel_format.specs.Canvas.{Picture, covers, filled, Agree}
+use Rattle.pixel_format.specs.Canvas.{Picture, covers, filled, Agree, black}
 use Rattle.pixel_format.specs.Reading.{Got, ◌>>=◌, field, guard}
 use Rattle.pixel_format.proofs.Readings.{bind_got, guard_got, field_got}
+use Rattle.pixel_format.proofs.Covering.{IsIn, in_is, is_in, not_in, shifted, part_outside}
 use Rattle.hextile.specs.declared.fields.Subrectangle.{Subrectangle}
 use Rattle.hextile.specs.Grammar.{Raw, Refused, pixel_if, colors_of, subrectangle_bytes, subrectangle_of, is_inside, subrectangle_at, subrectangles_at}
 use Rattle.hextile.specs.Data.{LiesWithin}
-use Rattle.hextile.specs.Picture.{black, first_covering, tile_picture, laid_over}
+use Rattle.hextile.specs.Picture.{first_covering, tile_picture, laid_over}
 use Rattle.hextile.specs.Painting.{pixel_at, pixel_rows, parts_over, AreWithin, PartsPainted}
 use Rattle.hextile.proofs.FieldsRead.{within_is}
-use Rattle.hextile.proofs.Covering.{IsIn, in_is, is_in, not_in, shifted, part_outside}
 
 -- ---- subrectangles
 

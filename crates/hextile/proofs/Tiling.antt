@@ -3,7 +3,7 @@ use Rattle.std.proofs.Common.{◌≡◌, ℕ, zero, suc, ◌+◌, ◌-◌, ◌*�
 use Rattle.std.proofs.Math.Nat.{mod-lt, div-lt_iff_lt-mul, mul-pos, div-add-mod, mul_comm}
 use Rattle.std.proofs.lemmas.Nat.{div-mul-add, mod-mul-add, mul-add-lt}
 use Rattle.pixel_format.specs.Canvas.{covers}
-use Rattle.hextile.proofs.Covering.{is_in, not_in}
+use Rattle.pixel_format.proofs.Covering.{is_in, not_in}
 use Rattle.hextile.specs.Tiles.{tiles_across, tile_count, tile_number, tile_left, tile_top, tile_width, tile_height}
 
 -- a column of tiles begins within the rectangle

@@ -6,12 +6,13 @@ use Rattle.std.proofs.lemmas.List.{append-nil, take_more, map-append}
 use Rattle.std.proofs.lemmas.Grind.{flat_map-append}
 use Rattle.pixel_format.specs.declared.Color.{Color}
 use Rattle.pixel_format.specs.Format.{Format}
+use Rattle.pixel_format.specs.Appending.{Appends, Grows}
 use Rattle.hextile.specs.declared.fields.Mask.{Mask}
 use Rattle.hextile.specs.declared.fields.Subrectangle.{Subrectangle}
 use Rattle.hextile.specs.declared.cover.Part.{Part}
 use Rattle.hextile.specs.Grammar.{mask_of}
 use Rattle.hextile.specs.Data.{IsPixel, IsPixelIf, IsCountIf, ArePixels, LiesWithin, AreBytesOf, AreSubrectangles, IsHead, AreRaw}
-use Rattle.hextile.specs.Encoded.{shown_if, drawn, IsPart, IsWritten, Appends, Grows}
+use Rattle.hextile.specs.Encoded.{shown_if, drawn, IsPart, IsWritten}
 
 -- the byte of a mask
 abbrev pub mask_byte : Bool → Bool → Bool → Bool → Bool → ℕ

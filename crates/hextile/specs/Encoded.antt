@@ -1,27 +1,19 @@
 -- What an encoder makes of colours by rows: tiles of parts of one colour each over a background, or
 -- of pixels.
-use Rattle.std.specs.Prelude.{◌≡◌, ℕ, ◌+◌, ◌-◌, ◌*◌, ◌/◌, ◌%◌, ◌<◌, ◌≤◌, List, [], ◌∷◌, ◌++◌, length, reverse, map, All, slice_index_or, Option, Some, None, is_some, Bool, true, false, if◌then◌else◌}
+use Rattle.std.specs.Prelude.{◌≡◌, ℕ, ◌+◌, ◌-◌, ◌*◌, ◌/◌, ◌%◌, ◌<◌, ◌≤◌, List, [], ◌∷◌, ◌++◌, length, reverse, map, All, Option, Some, None, is_some, Bool, true, false, if◌then◌else◌}
 use Rattle.std.specs.List.{flat_map}
 use Rattle.pixel_format.specs.declared.Color.{Color}
 use Rattle.pixel_format.specs.Format.{Format}
 use Rattle.pixel_format.specs.Pixel.{IsWithin, pixel_of}
 use Rattle.pixel_format.specs.Written.{flag}
-use Rattle.pixel_format.specs.Canvas.{Picture, covers, Agree}
+use Rattle.pixel_format.specs.Canvas.{Picture, covers, Agree, nth, rows_of}
 use Rattle.hextile.specs.declared.fields.Subrectangle.{Subrectangle}
 use Rattle.hextile.specs.declared.cover.Part.{Part}
 use Rattle.hextile.specs.declared.fields.Mask.{Mask}
 use Rattle.hextile.specs.declared.writing.Known.{Known}
 use Rattle.hextile.specs.Grammar.{Tile, Raw, Parts, mask_of}
 use Rattle.hextile.specs.Data.{background_of, foreground_of, AreSubrectangles, IsHead, IsTile, IsData}
-use Rattle.hextile.specs.Picture.{black, latest_picture, picture_of}
-
--- the colour at an index
-abbrev pub nth : List Color → ℕ → Color
-nth colors i = slice_index_or colors i black
-
--- the picture that colours by rows are, for rows of w places
-abbrev pub rows_of : List Color → ℕ → Picture
-rows_of colors w column row = nth colors (row * w + column)
+use Rattle.hextile.specs.Picture.{latest_picture, picture_of}
 
 -- ---- bytes as they are written: in each pixel the bits that belong to no channel are 0
 
@@ -130,18 +122,6 @@ pub record ShowsTile (f : Format) (w h : ℕ) (colors : List Color) (before : Li
   pub bytes_are : bytes ≡ tile_bytes f tile
   pub known_is : IsKnown (tile ∷ before) known
   pub picture : Agree w h (latest_picture w (tile ∷ before)) (rows_of colors w)
-
--- ---- what is appended
-
--- bytes of which this holds stand behind the old ones
-pub record Appends (P : List ℕ → Type 0) (old new : List ℕ) : Type 0 where
-  pub bytes : List ℕ
-  pub is : new ≡ old ++ bytes
-  pub are : P bytes
-
--- some bytes
-abbrev pub Grows : List ℕ → List ℕ → Type 0
-Grows = Appends (λ _. Unit {0})
 
 -- ---- a tile of parts
 

@@ -2,14 +2,11 @@
 -- corner, and in a tile from the tile's.
 use Rattle.std.specs.Prelude.{ℕ, ◌+◌, ◌-◌, ◌*◌, ◌%◌, Bool, List, [], ◌∷◌, length, reverse, slice_index_or, unwrap_or, nat_eq, if◌then◌else◌}
 use Rattle.pixel_format.specs.declared.Color.{Color}
-use Rattle.pixel_format.specs.Canvas.{Picture, covers}
+use Rattle.pixel_format.specs.Canvas.{Picture, covers, black}
 use Rattle.hextile.specs.declared.fields.Subrectangle.{Subrectangle}
 use Rattle.hextile.specs.Grammar.{Tile, Raw, Parts}
 use Rattle.hextile.specs.Tiles.{tile_number, tile_width}
 use Rattle.hextile.specs.Data.{background_of, foreground_of, onto}
-
-abbrev pub black : Color
-black = record { r = 0; g = 0; b = 0 }
 
 -- the subrectangle covers the place
 abbrev pub is_covered : Subrectangle → ℕ → ℕ → Bool

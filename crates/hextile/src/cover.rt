@@ -3,9 +3,9 @@
 ghost use Rattle.std.specs.Prelude.{◌≡◌, ◌↔◌, ℕ, ◌+◌, ◌*◌, ◌/◌, ◌%◌, ◌<◌, ◌≤◌, ◌&&◌, length, All, IsTrue, IfSome, nat_lt, nat_le, reverse, if◌then◌else◌};
 ghost use Rattle.pixel_format.specs.Format.{Format};
 ghost use Rattle.pixel_format.specs.Pixel.{IsWithin};
-ghost use Rattle.pixel_format.specs.Canvas.{covers};
+ghost use Rattle.pixel_format.specs.Canvas.{covers, nth, rows_of};
 ghost use Rattle.pixel_format.specs.declared.Color.{Color};
-ghost use Rattle.hextile.specs.Encoded.{nth, rows_of, AreTileColors, IsPart, IsUniform, IsCover, ShownUpto};
+ghost use Rattle.hextile.specs.Encoded.{AreTileColors, IsPart, IsUniform, IsCover, ShownUpto};
 
 use crate::position::TileArea;
 use arrayvec::ArrayVec;

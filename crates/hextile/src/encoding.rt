@@ -2,9 +2,10 @@
 
 ghost use Rattle.std.specs.Prelude.{◌≡◌, ℕ, List, ◌+◌, ◌*◌, ◌<◌, ◌≤◌, All, IsTrue, IfSome, IfOk, OnOk, OnErr, length, Some, None};
 ghost use Rattle.pixel_format.specs.Pixel.{IsWithin};
+ghost use Rattle.pixel_format.specs.Appending.{Appends, Grows};
 ghost use Rattle.hextile.specs.declared.cover.Part.{Part};
 ghost use Rattle.hextile.specs.Grammar.{Tile};
-ghost use Rattle.hextile.specs.Encoded.{IsMaskFor, known_behind, IsKnown, ShowsTile, Shows, Appends, Grows};
+ghost use Rattle.hextile.specs.Encoded.{IsMaskFor, known_behind, IsKnown, ShowsTile, Shows};
 
 use crate::cover::{Part, cover, most_voted, same, tile_colors};
 use crate::fields::{Mask, pixel_size};

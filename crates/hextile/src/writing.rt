@@ -2,10 +2,11 @@
 
 ghost use Rattle.std.specs.Prelude.{◌≡◌, ℕ, ◌+◌, ◌*◌, ◌<◌, ◌≤◌, [], ◌∷◌, ◌++◌, length, map, All, OnOk, if◌then◌else◌};
 ghost use Rattle.pixel_format.specs.Pixel.{IsWithin, pixel_of};
+ghost use Rattle.pixel_format.specs.Appending.{Appends, Grows};
 ghost use Rattle.std.specs.List.{flat_map};
 ghost use Rattle.hextile.specs.Grammar.{mask_of};
 ghost use Rattle.hextile.specs.Data.{IsPixel, IsPixelIf, ArePixels, AreBytesOf, AreSubrectangles, IsHead, AreRaw};
-ghost use Rattle.hextile.specs.Encoded.{shown_if, drawn, pixel_if, part_bytes, mask_number, parts_tile_bytes, IsPart, IsWritten, Appends, Grows};
+ghost use Rattle.hextile.specs.Encoded.{shown_if, drawn, pixel_if, part_bytes, mask_number, parts_tile_bytes, IsPart, IsWritten};
 
 use crate::cover::Part;
 use crate::fields::Mask;

@@ -5,11 +5,11 @@ use Rattle.std.specs.Str.{bytes_eq}
 use Rattle.pixel_format.specs.Format.{host_format}
 use Rattle.pixel_format.specs.Reading.{Reading, Got, Bad, field}
 use Rattle.client_wire.specs.declared.message.Area.{Area}
-use Rattle.client_wire.specs.Number.{u16_at, u32_at}
 use Rattle.client_wire.specs.Written.{set_pixel_format_bytes, request_bytes}
 use Rattle.host_session.specs.declared.fault.HostFault.{HostFault}
 use Rattle.host_session.specs.declared.fault.HostFault.TheVariants as faults
 use Rattle.pixel_format.specs.Talk.{Talk, silent, say, hear}
+use Rattle.pixel_format.specs.Number.{u16_at, u32_at}
 
 -- what a host says of its screen
 pub record Told : Type 0 where

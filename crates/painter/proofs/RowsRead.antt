@@ -7,10 +7,8 @@ use Rattle.std.proofs.Math.Nat.{mul-le-mul_left}
 use borrow.Rule.Slice.PartMut.{put_mid}
 use Rattle.pixel_format.specs.declared.Color.{Color}
 use Rattle.pixel_format.specs.Pixel.{IsScreenColor}
+use Rattle.pixel_format.specs.Canvas.{black, nth, rows_of}
 use Rattle.client_wire.specs.declared.message.Area.{Area}
-use Rattle.rre.specs.Encoded.{nth}
-use Rattle.rre.specs.Encoded as rre
-use Rattle.rre.specs.Encoded.{rows_of}
 use Rattle.painter.specs.declared.pixel.Pixel.{Pixel}
 use Rattle.painter.specs.Framebuffer.{Framebuffer, color_at, AppendsColors}
 use Rattle.painter.specs.Pixels.{color_of, pixel_color_at, color_in}
@@ -54,13 +52,13 @@ rows_more pixels colors line width w left top row n n_is read so_far x y across 
     let len = read.len in
     elim (cases_lt y row) [
       | inl above ↦
-          below_part (row * w) n colors line (y * w + x) rre.black (omega arith) (omega (arith, mul-add-lt y w x row above across))
+          below_part (row * w) n colors line (y * w + x) black (omega arith) (omega (arith, mul-add-lt y w x row above across))
           ∙ so_far x y across above
       | inr level ↦
           let same : y ≡ row = omega arith in
           let there : (top + row) * width + left + x ≡ (top + row) * width + (left + x) = omega arith in
           ap (λ (r : ℕ). nth (put_mid (row * w) n colors line) (r * w + x)) same
-          ∙ in_part (row * w) n colors line x rre.black (omega arith) (omega arith)
+          ∙ in_part (row * w) n colors line x black (omega arith) (omega arith)
           ∙ read.value x across
           ∙ ap (pixel_color_at pixels) there
           ∙ ap (λ (r : ℕ). color_in pixels width (left + x) (top + r)) (sym same)
@@ -75,12 +73,12 @@ screen_more pixels colors line width w left top row n read so_far k lt =
     let len = read.len in
     elim (cases_lt k (row * w)) [
       | inl before ↦
-          subst IsScreenColor (sym (below_part (row * w) n colors line k rre.black (omega arith) before)) (so_far k before)
+          subst IsScreenColor (sym (below_part (row * w) n colors line k black (omega arith) before)) (so_far k before)
       | inr behind ↦
           let within : k - row * w < w = omega arith in
           let at : row * w + (k - row * w) ≡ k = omega arith in
           subst (λ (i : ℕ). IsScreenColor (nth (put_mid (row * w) n colors line) i)) at
-          (subst IsScreenColor (sym (in_part (row * w) n colors line (k - row * w) rre.black (omega arith) (omega arith))) (read.screen (k - row * w) within))
+          (subst IsScreenColor (sym (in_part (row * w) n colors line (k - row * w) black (omega arith) (omega arith))) (read.screen (k - row * w) within))
     ]
 
 -- colours that are written into the room behind a list are appended to it
@@ -106,6 +104,6 @@ colors_appended screen area old room pad all colors start size begin ends room_i
       has = record {
         size = many;
         shows = shows;
-        each = λ k other lt. subst IsScreenColor (get_or_default colors k rre.black other lt) (each k (omega (arith, whole)));
+        each = λ k other lt. subst IsScreenColor (get_or_default colors k black other lt) (each k (omega (arith, whole)));
       };
     }

@@ -2,10 +2,9 @@
 use Rattle.std.specs.Prelude.{◌≡◌, ℕ, ◌+◌, ◌*◌, ◌<◌, ◌++◌, All, List, length, slice_index_or}
 use Rattle.pixel_format.specs.declared.Color.{Color}
 use Rattle.rfb_wire.specs.Host.{Host}
-use Rattle.pixel_format.specs.Canvas.{Picture}
+use Rattle.pixel_format.specs.Canvas.{Picture, rows_of}
 use Rattle.pixel_format.specs.Pixel.{IsScreenColor}
 use Rattle.client_wire.specs.declared.message.Area.{Area}
-use Rattle.rre.specs.Encoded.{rows_of}
 use Rattle.painter.specs.Picture.{black, painted}
 
 -- its size, and the colours of its places by rows, from the top and the left

@@ -2,7 +2,7 @@
 
 ghost use Rattle.std.specs.Prelude.{◌≡◌, ◌+◌, ◌*◌, ◌<◌, ◌≤◌, ℕ, length};
 ghost use Rattle.pixel_format.specs.Pixel.{IsScreenColor};
-ghost use Rattle.rre.specs.Encoded.{nth};
+ghost use Rattle.pixel_format.specs.Canvas.{nth};
 ghost use Rattle.painter.specs.Pixels.{color_in, pixel_color_at};
 
 use crate::pixel::{Pixel, color_of_pixel};

@@ -1,3 +1,4 @@
 pub mod Readings
 pub mod Lanes
 pub mod Valid
+pub mod Covering

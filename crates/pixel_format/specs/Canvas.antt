@@ -1,5 +1,5 @@
 -- Pictures, and the areas of which they are painted.
-use Rattle.std.specs.Prelude.{◌≡◌, ℕ, ◌+◌, ◌<◌, ◌&&◌, nat_le, nat_lt, Bool, if◌then◌else◌}
+use Rattle.std.specs.Prelude.{◌≡◌, ℕ, ◌+◌, ◌*◌, ◌<◌, ◌&&◌, nat_le, nat_lt, Bool, List, slice_index_or, if◌then◌else◌}
 use Rattle.pixel_format.specs.declared.Color.{Color}
 
 -- a picture: the colour at each place, from its column and its row, counted from the left and the
@@ -18,3 +18,14 @@ filled x y w h color before column row = if covers x y w h column row then color
 -- two pictures agree at the places of a canvas of this size
 abbrev pub Agree : ℕ → ℕ → Picture → Picture → Type 0
 Agree width height p q = (column row : ℕ) → column < width → row < height → p column row ≡ q column row
+
+abbrev pub black : Color
+black = record { r = 0; g = 0; b = 0 }
+
+-- the colour at an index
+abbrev pub nth : List Color → ℕ → Color
+nth colors i = slice_index_or colors i black
+
+-- the picture that colours by rows are, for rows of w places
+abbrev pub rows_of : List Color → ℕ → Picture
+rows_of colors w column row = nth colors (row * w + column)

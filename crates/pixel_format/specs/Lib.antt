@@ -5,3 +5,5 @@ pub mod Pixel
 pub mod Canvas
 pub mod Fault
 pub mod Written
+pub mod Number
+pub mod Appending

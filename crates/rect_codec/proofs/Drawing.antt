@@ -6,13 +6,13 @@ use Rattle.std.proofs.lemmas.Bool.{le-leb, lt-ltb}
 use Rattle.pixel_format.specs.declared.Color.{Color}
 use Rattle.pixel_format.specs.Format.{Format}
 use Rattle.pixel_format.specs.Reading.{Got}
-use Rattle.pixel_format.specs.Canvas.{Picture}
+use Rattle.pixel_format.specs.Canvas.{Picture, rows_of}
 use Rattle.pixel_format.proofs.Readings.{field-whole}
+use Rattle.pixel_format.specs.Number.{u32_at}
+use Rattle.pixel_format.specs.Appending.{Appends}
 use Rattle.client_wire.specs.declared.message.Area.{Area}
 use Rattle.client_wire.specs.declared.fault.WireFault.{WireFault}
-use Rattle.client_wire.specs.Number.{u32_at}
 use Rattle.rre.specs.Grammar as rre
-use Rattle.rre.specs.Encoded.{rows_of, Appends}
 use Rattle.rre.proofs.Content as rre_content
 use Rattle.hextile.specs.Grammar as hextile
 use Rattle.hextile.proofs.TilesRead as hextile_content

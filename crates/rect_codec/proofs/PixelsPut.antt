@@ -8,7 +8,8 @@ use Rattle.std.proofs.Math.Nat.{mul-le-mul_left}
 use borrow.Rule.Slice.PartMut.{put_mid}
 use Rattle.pixel_format.specs.declared.Color.{Color}
 use Rattle.pixel_format.specs.Format.{Format, pixel_bytes}
-use Rattle.rre.specs.Encoded.{nth, Appends}
+use Rattle.pixel_format.specs.Canvas.{nth}
+use Rattle.pixel_format.specs.Appending.{Appends}
 use Rattle.rect_codec.specs.Picture.{pixel_at}
 use Rattle.rect_codec.specs.Written.{IsPixelOf, ArePixels, ShowsRaw}
 

@@ -4,11 +4,10 @@ use Rattle.std.specs.Prelude.{◌≡◌, ℕ, ◌+◌, ◌*◌, ◌/◌, ◌%◌
 use Rattle.pixel_format.specs.declared.Color.{Color}
 use Rattle.pixel_format.specs.Format.{Format, pixel_bytes}
 use Rattle.pixel_format.specs.Pixel.{pixel_color, pixel_of}
-use Rattle.pixel_format.specs.Canvas.{Agree}
+use Rattle.pixel_format.specs.Canvas.{Agree, nth, rows_of}
 use Rattle.client_wire.specs.declared.message.Area.{Area}
 use Rattle.client_wire.specs.Number.{u32_bytes}
 use Rattle.rre.specs.Encoded as rre
-use Rattle.rre.specs.Encoded.{nth, rows_of}
 use Rattle.hextile.specs.Encoded as hextile
 use Rattle.rect_codec.specs.declared.encoding.Encoding.{Encoding}
 use Rattle.rect_codec.specs.declared.encoding.Encoding.TheVariants as encodings

@@ -3,7 +3,8 @@
 ghost use Rattle.std.specs.Prelude.{◌≡◌, ℕ, ◌+◌, ◌*◌, ◌<◌, ◌^◌, All, OnOk, OnErr, length};
 ghost use Rattle.pixel_format.specs.Format.{pixel_bytes};
 ghost use Rattle.pixel_format.specs.Pixel.{IsWithin};
-ghost use Rattle.rre.specs.Encoded.{nth, Appends};
+ghost use Rattle.pixel_format.specs.Canvas.{nth};
+ghost use Rattle.pixel_format.specs.Appending.{Appends};
 ghost use Rattle.rect_codec.specs.Picture.{pixel_at};
 ghost use Rattle.rect_codec.specs.Written.{IsPixelOf, ArePixels};
 

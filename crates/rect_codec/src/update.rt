@@ -2,7 +2,7 @@
 
 ghost use Rattle.std.specs.Prelude.{◌≡◌, ◌+◌, ◌*◌, ◌++◌, All, OnOk, OnErr, length};
 ghost use Rattle.pixel_format.specs.Pixel.{IsWithin};
-ghost use Rattle.rre.specs.Encoded.{Appends};
+ghost use Rattle.pixel_format.specs.Appending.{Appends};
 ghost use Rattle.rect_codec.specs.Written.{Shows, update_head, IsUpdate, IsUpdateFor};
 
 use crate::encoding::Encoding;

@@ -3,10 +3,10 @@
 use Rattle.std.specs.Prelude.{ℕ, ◌+◌, ◌-◌, ◌*◌, List, Bool, ◌&&◌, nat_le, nat_eq, Option, Some, None, Result, Ok, Err, length, if◌then◌else◌}
 use Rattle.pixel_format.specs.Format.{Format, pixel_bytes}
 use Rattle.pixel_format.specs.Reading.{Reading, Got, More, Bad, ◌>>=◌, field, guard}
+use Rattle.pixel_format.specs.Number.{u16_at}
 use Rattle.client_wire.specs.declared.message.Area.{Area}
 use Rattle.client_wire.specs.declared.fault.WireFault.{WireFault}
 use Rattle.client_wire.specs.declared.fault.WireFault.TheVariants as faults
-use Rattle.client_wire.specs.Number.{u16_at}
 use Rattle.rre.specs.Grammar as rre
 use Rattle.hextile.specs.Grammar as hextile
 use Rattle.rect_data.specs.declared.encoding.Encoding.{Encoding}

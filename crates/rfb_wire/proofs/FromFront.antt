@@ -5,12 +5,13 @@ use Rattle.pixel_format.specs.Reading.{Reading, Got, More, Bad, ◌>>=◌, field
 use Rattle.client_wire.specs.declared.message.Area.{Area}
 use Rattle.rfb_wire.specs.declared.message.Rectangle.{Rectangle}
 use Rattle.pixel_format.specs.Format.{host_format}
+use Rattle.pixel_format.specs.Number.{u16_at}
 use Rattle.rect_data.specs.declared.encoding.Encoding.{Encoding}
 use Rattle.rect_data.specs.Grammar.{encoding_of, is_inside, data_at, measured}
 use Rattle.rect_data.proofs.Content.{data_read}
 use Rattle.client_wire.specs.declared.fault.WireFault.{WireFault}
 use Rattle.client_wire.specs.declared.fault.WireFault.TheVariants as faults
-use Rattle.client_wire.specs.Number.{signed, u16_at}
+use Rattle.client_wire.specs.Number.{signed}
 use Rattle.rfb_wire.specs.Grammar.{area_of, encoding_number, content_at, encoded_at, rectangle_at, rectangles_at, update_at, Recorded}
 use Rattle.rfb_wire.specs.Plain.{Says}
 use Rattle.client_wire.proofs.Fronts.{unless_memory_map}

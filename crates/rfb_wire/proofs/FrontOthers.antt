@@ -4,12 +4,12 @@ use Rattle.std.specs.Prelude.{nat_lt, nat_le}
 use Rattle.std.proofs.lemmas.Bool.{lt-ltb, le-ltb, leb-true, leb-false}
 use Rattle.pixel_format.specs.Reading.{Got, More, field}
 use Rattle.client_wire.specs.declared.fault.WireFault.{WireFault}
-use Rattle.client_wire.specs.Number.{u16_at, u32_at}
 use Rattle.rfb_wire.specs.Grammar.{message_at, other_at, Recorded, ReadOver, color_map_at, text_at, text_data_at, read_over, text_limit}
 use Rattle.rfb_wire.specs.Plain.{kind_of, Says}
 use Rattle.std.specs.Prelude.{MatchOption, if◌then◌else◌}
 use Rattle.std.proofs.lemmas.List.{drop_at, take_at}
 use Rattle.pixel_format.proofs.Readings.{bind_got, field_got, true_or_false}
+use Rattle.pixel_format.specs.Number.{u16_at, u32_at}
 use Rattle.rfb_wire.proofs.Others.{field_front, other_read, other_of_bell, other_of_text, text_again}
 use Rattle.rfb_wire.proofs.Messages.{one_number, other_is_read}
 

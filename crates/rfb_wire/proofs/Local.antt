@@ -7,12 +7,12 @@ use Rattle.pixel_format.proofs.Readings.{field_local, bind_local, guard_local, w
 use Rattle.client_wire.specs.declared.message.Area.{Area}
 use Rattle.rfb_wire.specs.declared.message.Rectangle.{Rectangle}
 use Rattle.pixel_format.specs.Format.{host_format}
+use Rattle.pixel_format.specs.Number.{u16_at, u32_at}
 use Rattle.rect_data.specs.declared.encoding.Encoding.{Encoding}
 use Rattle.rect_data.specs.Grammar.{encoding_of, is_inside, data_at}
 use Rattle.rect_data.proofs.Local.{data_local}
 use Rattle.client_wire.specs.declared.fault.WireFault.{WireFault}
 use Rattle.client_wire.specs.declared.fault.WireFault.TheVariants as faults
-use Rattle.client_wire.specs.Number.{u16_at, u32_at}
 use Rattle.rfb_wire.specs.Grammar.{area_of, encoding_number, content_at, encoded_at, rectangle_at, rectangles_at, update_at, message_at, other_at, color_map_at, text_at, text_data_at, read_over, text_limit, Message, Recorded, ReadOver}
 
 -- the end of what is read is the same

@@ -7,13 +7,13 @@ use Rattle.pixel_format.proofs.Readings.{bind_got, guard_got, field_got, field-w
 use Rattle.client_wire.specs.declared.message.Area.{Area}
 use Rattle.rfb_wire.specs.declared.message.Rectangle.{Rectangle}
 use Rattle.pixel_format.specs.Format.{host_format}
+use Rattle.pixel_format.specs.Number.{u16_at}
 use Rattle.rect_data.specs.declared.encoding.Encoding.{Encoding}
 use Rattle.rect_data.specs.Grammar.{encoding_of, is_inside, data_at}
 use Rattle.rect_data.specs.Data.{number_of, AreData}
 use Rattle.rect_data.proofs.Content.{inside_within, within_inside, number_again, encoding_number_is, data_read, data_again}
 use Rattle.client_wire.specs.declared.fault.WireFault.{WireFault}
 use Rattle.client_wire.specs.declared.fault.WireFault.TheVariants as faults
-use Rattle.client_wire.specs.Number.{u16_at}
 use Rattle.rfb_wire.specs.Grammar.{area_of, encoding_number, content_at, encoded_at, rectangle_at, rectangles_at, update_at, message_at, other_at, Recorded}
 use Rattle.rfb_wire.specs.Message.{IsRectangle, AreRectangles, IsUpdate, IsMessage}
 use Rattle.rfb_wire.proofs.Others.{field_front, TextRead, other_read, other_of_bell, other_of_text, text_again}

@@ -5,10 +5,10 @@ use Rattle.std.proofs.lemmas.Bool.{ltb-false, lt-ltb, le-ltb}
 use Rattle.std.proofs.lemmas.List.{append-nil, take-append-drop, length-take-le}
 use Rattle.pixel_format.specs.Reading.{Got, Bad, field}
 use Rattle.pixel_format.proofs.Readings.{bind_got, FieldIs, field_got, field-whole, true_or_false}
+use Rattle.pixel_format.specs.Number.{u16_at, u32_at}
 use Rattle.rfb_wire.specs.declared.message.Rectangle.{Rectangle}
 use Rattle.client_wire.specs.declared.fault.WireFault.{WireFault}
 use Rattle.client_wire.specs.declared.fault.WireFault.TheVariants as faults
-use Rattle.client_wire.specs.Number.{u16_at, u32_at}
 use Rattle.rfb_wire.specs.Grammar.{Recorded, ReadOver, other_at, color_map_at, text_at, text_data_at, read_over, text_limit}
 
 -- a field and what stands behind it

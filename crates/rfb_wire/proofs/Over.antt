@@ -6,10 +6,10 @@ use Rattle.std.proofs.lemmas.List.{length-replicate, append-nil, take-append-dro
 use Rattle.std.proofs.Math.Seq.{drop-append-add}
 use Rattle.pixel_format.specs.Reading.{Got, More, ◌>>=◌, field}
 use Rattle.pixel_format.proofs.Readings.{bind_got, field-whole, field-short, true_or_false}
+use Rattle.pixel_format.specs.Number.{u16_at}
 use Rattle.client_wire.specs.declared.fault.WireFault.{WireFault}
 use Rattle.rfb_wire.specs.declared.progress.Over.{Over}
 use Rattle.rfb_wire.specs.declared.progress.Progress.{Progress}
-use Rattle.client_wire.specs.Number.{u16_at}
 use Rattle.rfb_wire.specs.Grammar.{Recorded, ReadOver, message_at, update_at, rectangles_at, read_over}
 use Rattle.rfb_wire.specs.Host.{Host}
 use Rattle.rfb_wire.specs.Reader.{head_limit}

@@ -4,11 +4,12 @@
 use Rattle.std.specs.Prelude.{ℕ, nat_lt, zero, suc, ◌+◌, ◌-◌, ◌*◌, List, [], ◌∷◌, length, slice_index, nat_eq, Option, Some, None, if◌then◌else◌}
 use Rattle.pixel_format.specs.Format.{host_format}
 use Rattle.pixel_format.specs.Reading.{Reading, Got, Bad, ◌>>=◌, field, guard, within}
+use Rattle.pixel_format.specs.Number.{u16_at, u32_at}
 use Rattle.client_wire.specs.declared.message.Area.{Area}
 use Rattle.rfb_wire.specs.declared.message.Rectangle.{Rectangle}
 use Rattle.rect_data.specs.declared.encoding.Encoding.{Encoding}
 use Rattle.rect_data.specs.Grammar.{encoding_of, is_inside, data_at}
-use Rattle.client_wire.specs.Number.{u16_at, u32_at, signed}
+use Rattle.client_wire.specs.Number.{signed}
 use Rattle.client_wire.specs.declared.fault.WireFault.{WireFault}
 use Rattle.client_wire.specs.declared.fault.WireFault.TheVariants as faults
 

@@ -4,6 +4,7 @@ use Rattle.std.specs.Prelude.{◌≡◌, ℕ, suc, ◌+◌, ◌-◌, ◌<◌, �
 use Rattle.std.specs.Option.{option_to_list}
 use Rattle.pixel_format.specs.Format.{host_format}
 use Rattle.pixel_format.specs.Reading.{Reading, Got, ◌>>=◌, field}
+use Rattle.pixel_format.specs.Number.{u16_at}
 use Rattle.rect_data.specs.Judging as judging
 use Rattle.rfb_wire.specs.declared.message.Rectangle.{Rectangle}
 use Rattle.client_wire.specs.declared.fault.WireFault.{WireFault}
@@ -15,7 +16,6 @@ use Rattle.rfb_wire.specs.declared.progress.Next.TheVariants as nexts
 use Rattle.rfb_wire.specs.declared.progress.Over.{Over}
 use Rattle.rfb_wire.specs.declared.progress.Step.{Step}
 use Rattle.rfb_wire.specs.declared.progress.Progress.{Progress}
-use Rattle.client_wire.specs.Number.{u16_at}
 use Rattle.rfb_wire.specs.Grammar.{Message, Recorded, ReadOver, rectangles_at, update_at, other_at, color_map_at, text_at, text_data_at, read_over, message_at, text_limit}
 use Rattle.rfb_wire.specs.Reader.{head_limit}
 

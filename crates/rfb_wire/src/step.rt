@@ -3,9 +3,9 @@
 ghost use Rattle.std.specs.Prelude.{◌≡◌, ℕ, ◌+◌, ◌*◌, ◌<◌, ◌≤◌, List, ◌++◌, drop, slice_index, nat_lt, if◌then◌else◌, length, IfOk, IfErr};
 ghost use Rattle.pixel_format.specs.Reading.{Bad};
 ghost use Rattle.pixel_format.specs.Format.{host_format};
+ghost use Rattle.pixel_format.specs.Number.{u16_at, u32_at};
 ghost use Rattle.rect_data.specs.Judging.{HasBytes};
 ghost use Rattle.rect_data.specs.Judging as judging;
-ghost use Rattle.client_wire.specs.Number.{u16_at, u32_at};
 ghost use Rattle.rfb_wire.specs.Grammar.{message_limit, text_limit, read_over, text_data_at, area_of, encoding_number};
 ghost use Rattle.rfb_wire.specs.Progress.{wants_of, start_of, NextBegins, IsOfUpdate, IsOfKind, NextIsOfKind, resume, go_on, step_on, others_at, behind_data};
 

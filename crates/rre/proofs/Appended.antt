@@ -5,10 +5,11 @@ use Rattle.std.proofs.lemmas.List.{append-nil, take_more}
 use Rattle.std.proofs.lemmas.Grind.{flat_map-append}
 use Rattle.pixel_format.specs.declared.Color.{Color}
 use Rattle.pixel_format.specs.Format.{Format}
+use Rattle.pixel_format.specs.Number.{u32_at}
+use Rattle.pixel_format.specs.Appending.{Appends}
 use Rattle.rre.specs.declared.data.Subrectangle.{Subrectangle}
-use Rattle.rre.specs.Grammar.{u32_at}
 use Rattle.rre.specs.Data.{AreBytesOf}
-use Rattle.rre.specs.Encoded.{Appends, IsPixelOf, IsAreaOf, AreBytesOfAll, IsWritten, part_bytes}
+use Rattle.rre.specs.Encoded.{IsPixelOf, IsAreaOf, AreBytesOfAll, IsWritten, part_bytes}
 
 -- a pixel and an area
 pub part_appended : (f : Format) (s : Subrectangle) (old between new area : List ℕ) → Appends (IsPixelOf f s.color) old between → IsAreaOf s area → new ≡ between ++ area

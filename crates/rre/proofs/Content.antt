@@ -7,8 +7,9 @@ use Rattle.pixel_format.specs.Format.{Format, pixel_bytes}
 use Rattle.pixel_format.specs.Pixel.{pixel_color}
 use Rattle.pixel_format.specs.Reading.{Got, Bad, ◌>>=◌, field, guard}
 use Rattle.pixel_format.proofs.Readings.{bind_got, guard_got, FieldIs, field_got, field-whole, true_or_false}
+use Rattle.pixel_format.specs.Number.{u32_at}
 use Rattle.rre.specs.declared.data.Subrectangle.{Subrectangle}
-use Rattle.rre.specs.Grammar.{Content, Fault, Outside, u32_at, head_bytes, subrectangle_bytes, subrectangle_of, is_inside, subrectangle_at, subrectangles_at, data_at}
+use Rattle.rre.specs.Grammar.{Content, Fault, Outside, head_bytes, subrectangle_bytes, subrectangle_of, is_inside, subrectangle_at, subrectangles_at, data_at}
 use Rattle.rre.specs.Data.{LiesWithin, AreBytesOf, AreSubrectangles, IsHead, IsData, IsRefused}
 use Rattle.rre.proofs.Steps.{subrectangle_whole}
 

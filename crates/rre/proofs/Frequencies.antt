@@ -9,7 +9,7 @@ use Rattle.std.proofs.lemmas.Bool.Decides.{nat_tests}
 use Rattle.std.proofs.lemmas.List.{take_all}
 use Rattle.std.proofs.lemmas.List.Sums.{count_by_more_no, count_by_more_yes}
 use Rattle.pixel_format.specs.declared.Color.{Color}
-use Rattle.rre.specs.Encoded.{black, nth}
+use Rattle.pixel_format.specs.Canvas.{black, nth}
 use Rattle.rre.specs.Frequent.{is_color, count_of, key_of, key_cmp, counted}
 
 is_eq_then : (o p : Ordering) → is_eq (ordering_then o p) ≡ (is_eq o && is_eq p)

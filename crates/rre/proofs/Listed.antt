@@ -3,10 +3,10 @@ use Rattle.std.proofs.Common.{◌≡◌, ℕ, ◌+◌, ◌-◌, ◌⊎◌, inl, 
 use Rattle.std.specs.Prelude.{nat_le, nat_lt, ◌&&◌}
 use Rattle.std.proofs.lemmas.Bool.{cases_Bool, cases_lt, le-leb, lt-ltb, lt-leb, le-ltb}
 use Rattle.pixel_format.specs.declared.Color.{Color}
-use Rattle.pixel_format.specs.Canvas.{covers}
+use Rattle.pixel_format.specs.Canvas.{covers, rows_of}
+use Rattle.pixel_format.proofs.Covering.{IsIn, in_is, is_in}
 use Rattle.rre.specs.declared.data.Subrectangle.{Subrectangle}
-use Rattle.rre.specs.Encoded.{rows_of, IsUniform, AreUniform, part_picture, Reaches}
-use Rattle.rre.proofs.Covering.{IsIn, in_is, is_in}
+use Rattle.rre.specs.Encoded.{IsUniform, AreUniform, part_picture, Reaches}
 use Rattle.rre.proofs.Painted.{one_more}
 
 -- the places of a subrectangle have its colour, which is theirs

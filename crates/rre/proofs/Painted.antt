@@ -6,12 +6,12 @@ use Rattle.pixel_format.specs.declared.Color.{Color}
 use Rattle.pixel_format.specs.Format.{Format}
 use Rattle.pixel_format.specs.Pixel.{pixel_color}
 use Rattle.pixel_format.specs.Canvas.{Picture, covers, filled, Agree}
+use Rattle.pixel_format.proofs.Covering.{in_is, shifted, part_outside}
 use Rattle.rre.specs.declared.data.Subrectangle.{Subrectangle}
 use Rattle.rre.specs.Grammar.{Content, head_bytes, subrectangle_bytes, subrectangle_of}
 use Rattle.rre.specs.Data.{LiesWithin, AreSubrectangles, IsData}
 use Rattle.rre.specs.Picture.{is_covered, picture_of, painted_over}
 use Rattle.rre.proofs.Content.{bytes_length, bytes_subrectangle, head_length, head_pixel}
-use Rattle.rre.proofs.Covering.{in_is, shifted, part_outside}
 
 abbrev pub content_of : Color → List Subrectangle → Content
 content_of background subrectangles = record { background = background; subrectangles = subrectangles }

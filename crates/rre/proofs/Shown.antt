@@ -7,10 +7,11 @@ use Rattle.std.proofs.lemmas.List.Elements.{All-get_or}
 use Rattle.pixel_format.specs.declared.Color.{Color}
 use Rattle.pixel_format.specs.Format.{Format}
 use Rattle.pixel_format.specs.Pixel.{IsWithin}
-use Rattle.pixel_format.specs.Canvas.{Agree}
+use Rattle.pixel_format.specs.Canvas.{Agree, black, rows_of}
+use Rattle.pixel_format.specs.Appending.{Appends}
 use Rattle.rre.specs.declared.data.Subrectangle.{Subrectangle}
 use Rattle.rre.specs.Data.{AreSubrectangles}
-use Rattle.rre.specs.Encoded.{black, rows_of, IsUniform, AreUniform, part_picture, Appends, AreBytesOfAll, IsWritten, Shows, data_bytes}
+use Rattle.rre.specs.Encoded.{IsUniform, AreUniform, part_picture, AreBytesOfAll, IsWritten, Shows, data_bytes}
 
 uniform_at : (colors : List Color) (w h : ℕ) (parts : List Subrectangle) (k : ℕ) (d : Subrectangle) → AreUniform colors w h parts → k < length parts
     → IsUniform colors w h (get_or parts k d)

@@ -4,10 +4,11 @@ use Rattle.pixel_format.specs.Format.{Format}
 use Rattle.pixel_format.specs.Pixel.{pixel_color}
 use Rattle.pixel_format.specs.Reading.{Reading, Got, More, Bad, ◌>>=◌, guard}
 use Rattle.pixel_format.proofs.Readings.{field-whole, field-short}
+use Rattle.pixel_format.specs.Number.{u32_at}
 use Rattle.rre.specs.declared.data.Subrectangle.{Subrectangle}
 use Rattle.rre.specs.declared.measuring.Measuring.{Measuring}
 use Rattle.rre.specs.declared.measuring.Measuring.TheVariants as stages
-use Rattle.rre.specs.Grammar.{Fault, Outside, u32_at, head_bytes, subrectangle_bytes, subrectangle_of, is_inside, subrectangle_at, subrectangles_at, data_at}
+use Rattle.rre.specs.Grammar.{Fault, Outside, head_bytes, subrectangle_bytes, subrectangle_of, is_inside, subrectangle_at, subrectangles_at, data_at}
 use Rattle.rre.specs.Measuring.{wants_of, judged, resume, measured}
 
 -- what is made of a value plays no part in how its bytes are judged

@@ -3,8 +3,9 @@
 use Rattle.std.specs.Prelude.{◌≡◌, ℕ, ◌+◌, ◌<◌, ◌≤◌, List, [], ◌∷◌, ◌++◌, length}
 use Rattle.pixel_format.specs.Format.{Format, pixel_bytes}
 use Rattle.pixel_format.specs.Pixel.{pixel_color}
+use Rattle.pixel_format.specs.Number.{u16_at, u32_at}
 use Rattle.rre.specs.declared.data.Subrectangle.{Subrectangle}
-use Rattle.rre.specs.Grammar.{Content, u16_at, u32_at}
+use Rattle.rre.specs.Grammar.{Content}
 
 -- the subrectangle lies within a rectangle of w by h
 pub record LiesWithin (w h : ℕ) (s : Subrectangle) : Type 0 where

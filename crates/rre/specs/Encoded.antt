@@ -1,26 +1,16 @@
 -- What an encoder makes of colours by rows: a background, and subrectangles of one colour each.
-use Rattle.std.specs.Prelude.{◌≡◌, ℕ, ◌+◌, ◌*◌, ◌<◌, ◌≤◌, ◌⊎◌, List, [], ◌∷◌, ◌++◌, length, slice_index, slice_index_or}
+use Rattle.std.specs.Prelude.{◌≡◌, ℕ, ◌+◌, ◌*◌, ◌<◌, ◌≤◌, ◌⊎◌, List, [], ◌∷◌, ◌++◌, length, slice_index}
 use Rattle.std.specs.Int.{bytes_high_first}
 use Rattle.std.specs.List.{flat_map}
 use Rattle.pixel_format.specs.declared.Color.{Color}
 use Rattle.pixel_format.specs.Format.{Format, pixel_bytes}
 use Rattle.pixel_format.specs.Pixel.{pixel_color, pixel_of}
-use Rattle.pixel_format.specs.Canvas.{Picture, Agree}
+use Rattle.pixel_format.specs.Canvas.{Picture, Agree, rows_of}
+use Rattle.pixel_format.specs.Number.{u16_at}
 use Rattle.rre.specs.declared.data.Subrectangle.{Subrectangle}
-use Rattle.rre.specs.Grammar.{Content, u16_at}
+use Rattle.rre.specs.Grammar.{Content}
 use Rattle.rre.specs.Data.{LiesWithin, AreBytesOf, IsHead, IsData}
 use Rattle.rre.specs.Picture.{picture_of}
-
-abbrev pub black : Color
-black = record { r = 0; g = 0; b = 0 }
-
--- the colour at an index
-abbrev pub nth : List Color → ℕ → Color
-nth colors i = slice_index_or colors i black
-
--- the picture that colours by rows are, for rows of w places
-abbrev pub rows_of : List Color → ℕ → Picture
-rows_of colors w column row = nth colors (row * w + column)
 
 -- the bytes of a subrectangle as they are written: the pixel of its colour, and x, y, width and height
 abbrev pub area_bytes : Subrectangle → List ℕ
@@ -73,16 +63,6 @@ pub record Reaches (colors : List Color) (w h : ℕ) (background : Color) (parts
   pub below : (c r : ℕ) → c < w → r < h → row ≤ r → r < slice_index reach c → part_picture background parts c r ≡ rows_of colors w c r
 
 -- ---- what is appended
-
--- bytes of which this holds stand behind the old ones
-pub record Appends (P : List ℕ → Type 0) (old new : List ℕ) : Type 0 where
-  pub bytes : List ℕ
-  pub is : new ≡ old ++ bytes
-  pub are : P bytes
-
--- some bytes
-abbrev pub Grows : List ℕ → List ℕ → Type 0
-Grows = Appends (λ _. Unit {0})
 
 pub record IsPixelOf (f : Format) (color : Color) (bytes : List ℕ) : Type 0 where
   pub size : length bytes ≡ pixel_bytes f

@@ -5,14 +5,8 @@ use Rattle.pixel_format.specs.declared.Color.{Color}
 use Rattle.pixel_format.specs.Format.{Format, pixel_bytes}
 use Rattle.pixel_format.specs.Pixel.{pixel_color}
 use Rattle.pixel_format.specs.Reading.{Reading, Got, ◌>>=◌, field, guard}
+use Rattle.pixel_format.specs.Number.{u16_at, u32_at}
 use Rattle.rre.specs.declared.data.Subrectangle.{Subrectangle}
-
--- The numbers of a field, from its byte i on: the higher byte first (section 7).
-abbrev pub u16_at : List ℕ → ℕ → ℕ
-u16_at f i = 256 * slice_index f i + slice_index f (i + 1)
-
-abbrev pub u32_at : List ℕ → ℕ → ℕ
-u32_at f i = 65536 * u16_at f i + u16_at f (i + 2)
 
 -- what data say: the colour of the background, and the subrectangles in their order
 pub record Content : Type 0 where

@@ -2,11 +2,12 @@
 
 ghost use Rattle.std.specs.Prelude.{◌≡◌, ◌<◌, ◌^◌, ◌+◌, ◌++◌, All, OnOk, OnErr, length};
 ghost use Rattle.pixel_format.specs.Pixel.{IsWithin, pixel_of};
+ghost use Rattle.pixel_format.specs.Number.{u32_at};
+ghost use Rattle.pixel_format.specs.Appending.{Appends, Grows};
 ghost use Rattle.std.specs.Int.{bytes_high_first};
 ghost use Rattle.std.specs.List.{flat_map};
-ghost use Rattle.rre.specs.Grammar.{u32_at};
 ghost use Rattle.rre.specs.Data.{AreBytesOf};
-ghost use Rattle.rre.specs.Encoded.{Appends, Grows, IsPixelOf, IsAreaOf, AreBytesOfAll, IsWritten, area_bytes, part_bytes, data_bytes};
+ghost use Rattle.rre.specs.Encoded.{IsPixelOf, IsAreaOf, AreBytesOfAll, IsWritten, area_bytes, part_bytes, data_bytes};
 
 use crate::data::Subrectangle;
 use pixel_format::{Color, NoMemory, PixelFormat};

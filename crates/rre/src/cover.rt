@@ -1,9 +1,9 @@
 //! Which subrectangles an encoder lists.
 
 ghost use Rattle.std.specs.Prelude.{◌≡◌, ◌↔◌, ℕ, ◌+◌, ◌*◌, ◌^◌, ◌<◌, ◌≤◌, length, IsTrue, OnOk, IfOk, slice_index, if◌then◌else◌, ◌&&◌, nat_le, nat_lt};
-ghost use Rattle.rre.specs.Encoded.{nth, rows_of, IsUniform, AreUniform, Reaches, part_picture};
+ghost use Rattle.rre.specs.Encoded.{IsUniform, AreUniform, Reaches, part_picture};
 ghost use Rattle.rre.specs.Frequent.{is_color, count_of, counted};
-ghost use Rattle.pixel_format.specs.Canvas.{Agree};
+ghost use Rattle.pixel_format.specs.Canvas.{Agree, nth, rows_of};
 
 use crate::data::Subrectangle;
 use pixel_format::{Color, NoMemory};

@@ -2,7 +2,8 @@
 
 ghost use Rattle.std.specs.Prelude.{◌≡◌, ◌*◌, ◌≤◌, All, IfOk, OnOk, OnErr, length};
 ghost use Rattle.pixel_format.specs.Pixel.{IsWithin};
-ghost use Rattle.rre.specs.Encoded.{Appends, Shows};
+ghost use Rattle.pixel_format.specs.Appending.{Appends};
+ghost use Rattle.rre.specs.Encoded.{Shows};
 ghost use Rattle.rre.specs.Frequent.{count_of};
 
 use crate::append::append_data;

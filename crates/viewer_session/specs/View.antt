@@ -4,9 +4,8 @@ use Rattle.std.specs.List.{AllByRecursion}
 use Rattle.pixel_format.specs.Format.{Format}
 use Rattle.pixel_format.specs.Pixel.{converted, IsWithin}
 use Rattle.pixel_format.specs.declared.Color.{Color}
-use Rattle.rre.specs.Encoded.{rows_of}
 use Rattle.pixel_format.specs.Reading.{Got}
-use Rattle.pixel_format.specs.Canvas.{Picture}
+use Rattle.pixel_format.specs.Canvas.{Picture, rows_of}
 use Rattle.client_wire.specs.declared.message.Area.{Area}
 use Rattle.client_wire.specs.declared.message.ClientMessage.{ClientMessage}
 use Rattle.client_wire.specs.declared.message.ClientMessage.TheVariants as messages

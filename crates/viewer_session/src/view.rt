@@ -1,10 +1,10 @@
 //! What a viewer has of a recording's screen, and what it lacks.
 
 ghost use Rattle.std.specs.Prelude.{◌≡◌, ◌+◌, ◌*◌, ◌<◌, ◌≤◌, ◌++◌, ◌||◌, ◌&&◌, not, ℕ, Bool, true, false, All, List, length, Option, None, IfOk, IfSome, OnOk, OnErr};
-ghost use Rattle.pixel_format.specs.Canvas.{Picture};
+ghost use Rattle.pixel_format.specs.Canvas.{Picture, nth};
 ghost use Rattle.pixel_format.specs.Format.{host_format};
 ghost use Rattle.pixel_format.specs.Pixel.{converted, IsScreenColor, IsWithin};
-ghost use Rattle.rre.specs.Encoded.{nth, Appends};
+ghost use Rattle.pixel_format.specs.Appending.{Appends};
 ghost use Rattle.rect_codec.specs.Picture.{is_in};
 ghost use Rattle.rect_data.specs.Data.{LiesWithin};
 ghost use Rattle.rfb_wire.specs.Host.{Host};

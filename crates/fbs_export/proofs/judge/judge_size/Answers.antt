@@ -1,6 +1,6 @@
 use Rattle.std.proofs.Common.{◌≡◌, ℕ, List, take, arith, refl, sym, ◌∙◌}
 use Rattle.pixel_format.specs.Reading.{Reading, guard}
-use Rattle.client_wire.specs.Number.{u16_at}
+use Rattle.pixel_format.specs.Number.{u16_at}
 use Rattle.fbs_export.specs.declared.fault.FbsFault.{FbsFault}
 use Rattle.fbs_export.specs.declared.fault.FbsFault.TheVariants as faults
 use Rattle.fbs_export.specs.Opening.{Opening, size_then, format_then, is_size}

@@ -1,6 +1,6 @@
 use Rattle.std.proofs.Common.{arith, replicate}
 use Rattle.std.proofs.lemmas.List.{get_or-replicate}
-use Rattle.hextile.specs.Picture.{black}
+use Rattle.pixel_format.specs.Canvas.{black}
 use Rattle.hextile.proofs.Covered.{over_everywhere}
 use Rattle.hextile.proofs.cover.cover.Goals as goal
 

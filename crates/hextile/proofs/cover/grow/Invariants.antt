@@ -1,5 +1,5 @@
 use Rattle.std.proofs.Common.{◌≡◌, ℕ, ◌+◌, ◌-◌, ◌<◌, ◌≤◌}
-use Rattle.hextile.specs.Encoded.{rows_of}
+use Rattle.pixel_format.specs.Canvas.{rows_of}
 use Rattle.hextile.proofs.cover.grow.Given as goal
 
 abbrev pub invariant-loop-end : goal.invariant-loop-end

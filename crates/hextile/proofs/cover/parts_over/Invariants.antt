@@ -3,7 +3,8 @@ use Rattle.std.specs.Prelude.{All}
 use Rattle.pixel_format.specs.declared.Color.{Color}
 use Rattle.pixel_format.specs.Format.{Format}
 use Rattle.pixel_format.specs.Pixel.{IsWithin}
-use Rattle.hextile.specs.Encoded.{nth, ShownUpto}
+use Rattle.pixel_format.specs.Canvas.{nth}
+use Rattle.hextile.specs.Encoded.{ShownUpto}
 use Rattle.hextile.proofs.cover.parts_over.Given as goal
 
 abbrev pub invariant-loop-k : goal.invariant-loop-k

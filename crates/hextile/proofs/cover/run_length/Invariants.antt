@@ -1,5 +1,5 @@
 use Rattle.std.proofs.Common.{◌≡◌, ℕ, ◌+◌, ◌<◌}
-use Rattle.hextile.specs.Encoded.{nth}
+use Rattle.pixel_format.specs.Canvas.{nth}
 use Rattle.hextile.proofs.cover.run_length.Given as goal
 
 abbrev pub invariant-loop-k : goal.invariant-loop-k

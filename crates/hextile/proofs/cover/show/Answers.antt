@@ -1,5 +1,5 @@
 use Rattle.std.proofs.Common.{◌∙◌}
-use Rattle.hextile.specs.Encoded.{nth}
+use Rattle.pixel_format.specs.Canvas.{nth}
 use Rattle.hextile.proofs.Covered.{all_of_part}
 use Rattle.hextile.proofs.cover.show.Goals as goal
 

@@ -1,7 +1,6 @@
 use Rattle.std.proofs.Common.{◌≡◌, ℕ, ◌<◌, ◌/◌, ◌%◌, cond, length}
 use Rattle.std.specs.Prelude.{nat_lt, ◌&&◌}
-use Rattle.pixel_format.specs.Canvas.{covers}
-use Rattle.hextile.specs.Encoded.{nth}
+use Rattle.pixel_format.specs.Canvas.{covers, nth}
 use Rattle.hextile.proofs.cover.show.Given as goal
 
 -- the places so far are shown

@@ -1,9 +1,9 @@
 use Rattle.std.proofs.Common.{◌≡◌, ◌∙◌, sym, ap, subst, arith, ◌+◌, List}
 use Rattle.pixel_format.specs.declared.Color.{Color}
 use Rattle.pixel_format.specs.Pixel.{IsWithin}
+use Rattle.pixel_format.specs.Canvas.{black, nth}
 use Rattle.hextile.specs.declared.cover.Part.{Part}
-use Rattle.hextile.specs.Picture.{black}
-use Rattle.hextile.specs.Encoded.{nth, IsPart, ShownUpto}
+use Rattle.hextile.specs.Encoded.{IsPart, ShownUpto}
 use Rattle.hextile.proofs.Covered.{part_added, index_of}
 use Rattle.hextile.proofs.cover.show_place.Goals as goal
 

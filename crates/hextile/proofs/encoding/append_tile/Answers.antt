@@ -1,5 +1,5 @@
 use Rattle.std.specs.Prelude.{slice_index_or}
-use Rattle.hextile.specs.Picture.{black}
+use Rattle.pixel_format.specs.Canvas.{black}
 use Rattle.hextile.proofs.EncodedTile.{ink_within, parts_tile_shown, raw_tile_shown}
 use Rattle.hextile.proofs.encoding.append_tile.Goals as goal
 

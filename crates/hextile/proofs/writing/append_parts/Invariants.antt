@@ -1,8 +1,9 @@
 use Rattle.std.proofs.Common.{◌≡◌, ℕ, ◌++◌, take, map}
 use Rattle.std.specs.List.{flat_map}
 use Rattle.std.specs.Prelude.{All}
+use Rattle.pixel_format.specs.Appending.{Appends, Grows}
 use Rattle.hextile.specs.Data.{AreSubrectangles}
-use Rattle.hextile.specs.Encoded.{IsPart, drawn, part_bytes, Appends, Grows}
+use Rattle.hextile.specs.Encoded.{IsPart, drawn, part_bytes}
 use Rattle.hextile.proofs.writing.append_parts.Given as goal
 
 abbrev pub invariant-loop-part : goal.invariant-loop-part

@@ -1,8 +1,8 @@
 use Rattle.std.proofs.Common.{◌≡◌, ◌++◌, take}
 use Rattle.std.specs.List.{flat_map}
 use Rattle.pixel_format.specs.Pixel.{pixel_of}
+use Rattle.pixel_format.specs.Appending.{Appends}
 use Rattle.hextile.specs.Data.{ArePixels}
-use Rattle.hextile.specs.Encoded.{Appends}
 use Rattle.hextile.proofs.writing.append_pixels.Given as goal
 
 abbrev pub invariant-loop-color : goal.invariant-loop-color

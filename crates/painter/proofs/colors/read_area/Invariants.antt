@@ -1,6 +1,6 @@
 use Rattle.std.proofs.Common.{◌≡◌, ℕ, ◌+◌, ◌*◌, ◌<◌}
 use Rattle.pixel_format.specs.Pixel.{IsScreenColor}
-use Rattle.rre.specs.Encoded.{nth}
+use Rattle.pixel_format.specs.Canvas.{nth}
 use Rattle.painter.specs.Pixels.{color_in}
 use Rattle.painter.proofs.colors.read_area.Given as goal
 

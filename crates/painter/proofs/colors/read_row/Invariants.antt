@@ -1,6 +1,6 @@
 use Rattle.std.proofs.Common.{◌≡◌, ℕ, ◌<◌}
 use Rattle.pixel_format.specs.Pixel.{IsScreenColor}
-use Rattle.rre.specs.Encoded.{nth}
+use Rattle.pixel_format.specs.Canvas.{nth}
 use Rattle.painter.specs.Pixels.{pixel_color_at}
 use Rattle.painter.proofs.colors.read_row.Given as goal
 

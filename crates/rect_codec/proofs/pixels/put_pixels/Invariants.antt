@@ -1,5 +1,5 @@
 use Rattle.std.proofs.Common.{ℕ, ◌<◌}
-use Rattle.rre.specs.Encoded.{nth}
+use Rattle.pixel_format.specs.Canvas.{nth}
 use Rattle.rect_codec.specs.Picture.{pixel_at}
 use Rattle.rect_codec.specs.Written.{IsPixelOf}
 use Rattle.rect_codec.proofs.pixels.put_pixels.Given as goal

@@ -1,7 +1,7 @@
 use Rattle.std.proofs.Common.{subst, sym}
 use Rattle.std.specs.Prelude.{OnOk}
 use Rattle.std.proofs.lemmas.Result.{on_ok_weaker}
-use Rattle.rre.specs.Encoded.{Appends}
+use Rattle.pixel_format.specs.Appending.{Appends}
 use Rattle.rect_codec.specs.declared.encoding.Encoding.{Encoding}
 use Rattle.rect_codec.specs.Written.{Shows}
 use Rattle.rect_codec.proofs.PixelsPut.{pixels_show}

@@ -1,7 +1,7 @@
 use Rattle.std.proofs.Common.{◌≡◌, take, subst, ap, sym, ◌∙◌}
 use Rattle.std.proofs.lemmas.Result.{on_ok_weaker}
 use Rattle.std.proofs.lemmas.List.{take_at}
-use Rattle.rre.specs.Encoded.{Appends}
+use Rattle.pixel_format.specs.Appending.{Appends}
 use Rattle.rect_codec.specs.declared.encoding.Encoding.TheVariants as encodings
 use Rattle.rect_codec.specs.Written.{IsUpdate}
 use Rattle.rect_codec.proofs.Drawing.{raw_for}

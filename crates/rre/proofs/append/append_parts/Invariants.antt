@@ -1,6 +1,7 @@
 use Rattle.std.proofs.Common.{◌≡◌, ◌++◌, take}
 use Rattle.std.specs.List.{flat_map}
-use Rattle.rre.specs.Encoded.{Appends, AreBytesOfAll, part_bytes}
+use Rattle.pixel_format.specs.Appending.{Appends}
+use Rattle.rre.specs.Encoded.{AreBytesOfAll, part_bytes}
 use Rattle.rre.proofs.append.append_parts.Given as goal
 
 abbrev pub invariant-loop-part : goal.invariant-loop-part

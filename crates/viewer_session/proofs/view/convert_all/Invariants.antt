@@ -1,6 +1,6 @@
 use Rattle.std.proofs.Common.{◌≡◌, ℕ, ◌<◌, ◌≤◌}
 use Rattle.pixel_format.specs.Pixel.{converted, IsWithin}
-use Rattle.rre.specs.Encoded.{nth}
+use Rattle.pixel_format.specs.Canvas.{nth}
 use Rattle.viewer_session.proofs.view.convert_all.Given as goal
 
 -- the colours so far are converted, and the others as they were

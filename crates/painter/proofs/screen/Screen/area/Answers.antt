@@ -1,6 +1,6 @@
 use Rattle.std.proofs.Common.{◌≡◌, ◌+◌, ◌*◌, ℕ, ◌<◌, length, vec_len, take, sym, ap, ◌∙◌, arith}
 use Rattle.std.proofs.lemmas.List.{take_all, length-replicate}
-use Rattle.rre.specs.Encoded.{rows_of}
+use Rattle.pixel_format.specs.Canvas.{rows_of}
 use Rattle.painter.specs.Framebuffer.{Framebuffer, color_at}
 use Rattle.painter.proofs.Screens.{color_is, screen_of}
 use Rattle.painter.proofs.RowsRead.{colors_appended}

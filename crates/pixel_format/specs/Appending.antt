@@ -1,0 +1,12 @@
+-- What is appended to a list of bytes.
+use Rattle.std.specs.Prelude.{◌≡◌, ℕ, List, ◌++◌}
+
+-- bytes of which this holds stand behind the old ones
+pub record Appends (P : List ℕ → Type 0) (old new : List ℕ) : Type 0 where
+  pub bytes : List ℕ
+  pub is : new ≡ old ++ bytes
+  pub are : P bytes
+
+-- some bytes
+abbrev pub Grows : List ℕ → List ℕ → Type 0
+Grows = Appends (λ _. Unit {0})
