@@ -4,7 +4,7 @@ use crate::answer::Answer;
 use crate::fuse::Fuse;
 use crate::steps;
 use broadcast::Desk;
-use disk::{Fill, FusedDisk, MemoryDisk};
+use disk::{Disk, FusedDisk, MemoryDisk};
 use drill_script::{Line, LineFault, read_line};
 use flusher_core::Book;
 use gated_journal::{CreateFault, Header, Refused};
@@ -48,7 +48,42 @@ fn opened_desk(
     Ok(Desk::new(Book::open(alloc, disk)?))
 }
 
+// All that a disk reads as.
+fn read_all(alloc: Global, disk: &mut FusedDisk) -> io::Result<Vec<u8>> {
+    let Ok(count) = disk.len() else {
+        return Err(io::ErrorKind::Other.into());
+    };
+    let mut bytes = vec![in alloc; 0; count as usize]?;
+    match disk.read_at(0, &mut bytes) {
+        Ok(()) => Ok(bytes),
+        Err(_) => Err(io::ErrorKind::Other.into()),
+    }
+}
+
 impl Drill {
+    fn new(alloc: Global) -> Result<Drill, AllocError> {
+        Ok(Drill {
+            alloc,
+            fuse: Fuse::new(alloc)?,
+            bench: Bench::Empty,
+        })
+    }
+
+    // Ends the fuse, the desk and its book, and gives what the disk reads as.
+    fn into_recording(self) -> io::Result<Vec<u8>> {
+        let Drill {
+            alloc,
+            mut fuse,
+            bench,
+        } = self;
+        fuse.disarm();
+        match bench {
+            Bench::Empty => Ok(Vec::new(alloc)),
+            Bench::Disk(mut disk) => read_all(alloc, &mut disk),
+            Bench::Desk(desk) => read_all(alloc, &mut desk.into_book().close()),
+        }
+    }
+
     // A second `new` begins again with an empty disk.
     fn start(
         &mut self,
@@ -158,24 +193,54 @@ fn run_line<O: Write>(
     Ok(true)
 }
 
-/// Runs a script, and writes an answer for each line that isn't empty. A bad line ends the run: the
-/// answer is whether there was none. An error is of the input, the output, or of memory.
-pub fn run<I: Read + Drop, O: Write>(alloc: Global, input: I, out: &mut O) -> io::Result<bool> {
-    let mut drill = Drill {
-        alloc,
-        fuse: Fuse::new(alloc)?,
-        bench: Bench::Empty,
-    };
-    let mut input = BufReader::new(alloc, input)?;
-    let mut text = Vec::new(alloc);
+// Runs the lines of a script: whether none was bad.
+fn run_lines<I: Read + Drop, O: Write>(
+    drill: &mut Drill,
+    input: I,
+    out: &mut O,
+) -> io::Result<bool> {
+    let mut input = BufReader::new(drill.alloc, input)?;
+    let mut text = Vec::new(drill.alloc);
     for number in 1..u64::MAX {
         text.clear();
         if input.read_until(b'\n', &mut text)? == 0 {
             break;
         }
-        if !run_line(&mut drill, &text, number, out)? {
+        if !run_line(drill, &text, number, out)? {
             return Ok(false);
         }
     }
     Ok(true)
+}
+
+/// Runs a script, and writes an answer for each line that isn't empty. A bad line ends the run: the
+/// answer is whether there was none. An error is of the input, the output, or of memory.
+pub fn run<I: Read + Drop, O: Write>(alloc: Global, input: I, out: &mut O) -> io::Result<bool> {
+    let mut drill = Drill::new(alloc)?;
+    run_lines(&mut drill, input, out)
+}
+
+/// How a script was run whose recording is kept.
+#[derive(Drop)]
+pub struct Ran {
+    /// Whether no line was bad.
+    pub is_whole: bool,
+    /// The bytes that the disk then reads as, which no call fails any more; none where there was no
+    /// `new`.
+    pub recording: Vec<u8>,
+}
+
+/// Runs a script as [`run`] does, and gives the recording that it leaves, also where a line was bad.
+pub fn run_and_read<I: Read + Drop, O: Write>(
+    alloc: Global,
+    input: I,
+    out: &mut O,
+) -> io::Result<Ran> {
+    let mut drill = Drill::new(alloc)?;
+    let is_whole = run_lines(&mut drill, input, out)?;
+    let recording = drill.into_recording()?;
+    Ok(Ran {
+        is_whole,
+        recording,
+    })
 }

@@ -6,7 +6,7 @@ mod bench;
 mod fuse;
 mod steps;
 
-pub use bench::run;
+pub use bench::{Ran, run, run_and_read};
 
 #[cfg(test)]
 mod crash_tests;
