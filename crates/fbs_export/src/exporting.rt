@@ -12,11 +12,13 @@ ghost use Rattle.fbs_export.specs.Export.{export_text, front_text, messages_from
 ghost use Rattle.fbs_export.specs.Written.{IsBadEnd, WroteFront};
 
 use crate::fault::{ExportFault, Stop};
-use crate::writing::{write_block, write_bytes};
+use crate::judge::{NONE, VERSION};
+use crate::writing::{four_bytes, two_bytes, write_block, write_bytes};
 use disk::Disk;
 use gated_journal::NoMemory;
 use key_index::{Indexed, Stamped};
 use painter::Screen;
+use pixel_format::PixelFormat;
 use replay::{Replay, ReplayFault, from_block};
 use std::alloc::Global;
 use std::io::Write;
@@ -31,49 +33,12 @@ fn append_opening<D: Disk>(index: &Indexed<D>, out: &mut Vec<u8>) -> Result<(), 
 {
     let (width, height) = index.header().size();
     let name = index.header().name();
-    let count = name.len() as u32;
-    out.extend_from_slice(&[
-        82,
-        70,
-        66,
-        32,
-        48,
-        48,
-        51,
-        46,
-        48,
-        48,
-        51,
-        10,
-        0,
-        0,
-        0,
-        1,
-        (width / 256) as u8,
-        (width % 256) as u8,
-        (height / 256) as u8,
-        (height % 256) as u8,
-        32,
-        24,
-        0,
-        1,
-        0,
-        255,
-        0,
-        255,
-        0,
-        255,
-        16,
-        8,
-        0,
-        0,
-        0,
-        0,
-        (count / 16_777_216) as u8,
-        (count / 65_536 % 256) as u8,
-        (count / 256 % 256) as u8,
-        (count % 256) as u8,
-    ])?;
+    out.extend_from_slice(&VERSION)?;
+    out.extend_from_slice(&four_bytes(NONE))?;
+    out.extend_from_slice(&two_bytes(width))?;
+    out.extend_from_slice(&two_bytes(height))?;
+    out.extend_from_slice(&PixelFormat::host().write())?;
+    out.extend_from_slice(&four_bytes(name.len() as u32))?;
     out.extend_from_slice(name)?;
     Ok(())
 }

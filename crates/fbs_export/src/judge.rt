@@ -6,13 +6,14 @@ ghost use Rattle.fbs_export.specs.Opening.{is_host, is_size, name_at, format_the
 
 use crate::fault::FbsFault;
 
-const VERSION: [u8; 12] = *b"RFB 003.003\n";
+/// The version of a file's stream.
+pub const VERSION: [u8; 12] = *b"RFB 003.003\n";
 
 /// Of red, green and blue in the host format: each maximum in two bytes, each shift in one.
 const MAXIMA_AND_SHIFTS: [u8; 9] = [0, 255, 0, 255, 0, 255, 16, 8, 0];
 
 /// The security type None.
-const NONE: u32 = 1;
+pub const NONE: u32 = 1;
 
 /// What stands in front of the name: the screen's size, and the length of the name in bytes.
 #[derive(Clone, Copy)]

@@ -4,6 +4,8 @@ use crate::{ExportFault, FbsFault, check, export};
 use disk::MemoryDisk;
 use key_index::Indexed;
 use std::alloc::Global;
+use std::io;
+use std::io::{Read, Write};
 use std::test::Fail;
 
 // A file's start; a block of the opening, for a screen of 1 by 1 and the name x, at time 0.
@@ -71,5 +73,107 @@ fn a_recording_is_exported(rt: HostRuntime) -> Result<(), Fail> {
     assert!(rt; end.len() == 92 && end.ends_with(&RED));
     assert!(rt; exported(alloc, 1, 0)?.err() == Some(ExportFault::BadEnd));
     assert!(rt; exported(alloc, 2, 1)?.err() == Some(ExportFault::NoBlock));
+    Ok(())
+}
+
+// Says of one call that it fails: the one after so many.
+#[derive(Drop)]
+struct OneFails {
+    calls: usize,
+}
+
+impl OneFails {
+    fn passes(&mut self) -> io::Result<()> {
+        if self.calls == 0 {
+            self.calls = usize::MAX;
+            return Err(io::ErrorKind::Other.into());
+        }
+        self.calls -= 1;
+        Ok(())
+    }
+}
+
+// A reader that gives one byte a call, and one of whose calls fails.
+#[derive(Drop)]
+struct SlowReader<'a> {
+    bytes: &'a [u8],
+    one_fails: OneFails,
+}
+
+impl Read for SlowReader<'_> {
+    fn read(&mut self, buffer: &mut [u8]) -> io::Result<usize> {
+        self.one_fails.passes()?;
+        if buffer.is_empty() || self.bytes.is_empty() {
+            return Ok(0);
+        }
+        buffer[0] = self.bytes[0];
+        self.bytes = &self.bytes[1..];
+        Ok(1)
+    }
+}
+
+// A writer that takes one byte a call, and one of whose calls fails.
+#[derive(Drop)]
+struct SlowWriter {
+    bytes: Vec<u8>,
+    one_fails: OneFails,
+}
+
+impl Write for SlowWriter {
+    fn write(&mut self, bytes: &[u8]) -> io::Result<usize> {
+        self.one_fails.passes()?;
+        if bytes.is_empty() {
+            return Ok(0);
+        }
+        self.bytes.push(bytes[0])?;
+        Ok(1)
+    }
+
+    fn flush(&mut self) -> io::Result<()> {
+        Ok(())
+    }
+}
+
+// Whichever call of the reader fails, this is answered, though the next one would give a byte.
+#[test]
+fn each_read_fails_once(rt: HostRuntime) -> Result<(), Fail> {
+    let alloc = rt.alloc();
+    let mut file = Vec::from_slice(alloc, &FRONT)?;
+    file.extend_from_slice(&CUT)?;
+    for calls in 0..106 {
+        let mut reader = SlowReader {
+            bytes: &file,
+            one_fails: OneFails { calls },
+        };
+        let fault = check(alloc, &mut reader).err();
+        let due = if calls < 105 {
+            Some(FbsFault::Read)
+        } else {
+            None
+        };
+        assert!(rt; fault == due, "after {calls} calls");
+    }
+    Ok(())
+}
+
+// Whichever call of the writer fails, this is answered, and nothing more is written.
+#[test]
+fn each_write_fails_once(rt: HostRuntime) -> Result<(), Fail> {
+    let alloc = rt.alloc();
+    let whole = exported(alloc, 0, 1)??;
+    let mut index = opened(alloc)?;
+    for calls in 0..121 {
+        let mut writer = SlowWriter {
+            bytes: Vec::new(alloc),
+            one_fails: OneFails { calls },
+        };
+        let fault = export(alloc, &mut index, 0, 1, &mut writer).err();
+        let due = if calls < 120 {
+            Some(ExportFault::Write)
+        } else {
+            None
+        };
+        assert!(rt; fault == due && writer.bytes.as_slice() == &whole[..calls]);
+    }
     Ok(())
 }

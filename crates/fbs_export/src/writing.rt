@@ -5,6 +5,7 @@ ghost use Rattle.fbs_export.specs.Written.{WroteFront};
 ghost use Rattle.fbs_export.specs.Blocks.{padding_length};
 ghost use Rattle.fbs_export.specs.Export.{block_text};
 ghost use Rattle.client_wire.specs.Number.{u32_bytes};
+ghost use Rattle.rfb_wire.specs.Written.{two_bytes as u16_bytes};
 
 use std::io::Write;
 
@@ -32,8 +33,15 @@ pub fn write_bytes<W: Write>(bytes: &[u8], out: &mut W) -> Result<(), WriteFaile
     Ok(())
 }
 
-// A number in four bytes, the highest first.
-fn four_bytes(n: u32) -> [u8; 4]
+/// A number in two bytes, the higher first.
+pub fn two_bytes(n: u16) -> [u8; 2]
+    ensures { result ≡ u16_bytes n }
+{
+    [(n / 256) as u8, (n % 256) as u8]
+}
+
+/// A number in four bytes, the highest first.
+pub fn four_bytes(n: u32) -> [u8; 4]
     ensures { result ≡ u32_bytes n }
 {
     [

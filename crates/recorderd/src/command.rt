@@ -1,12 +1,13 @@
-//! The command line.
+//! The command line, run.
 
 ghost use Rattle.std.specs.Prelude.{◌≤◌, IfOk};
 
-use clap::Command;
-use clap::error::ErrorKind;
-use std::alloc::Global;
+use crate::words::{Chosen, read_words};
+use file_commands::{create_new, keep, refuse};
+use std::fs::File;
 use std::io;
 use std::io::{Read, Write};
+use std::rt::Files;
 
 /// It is done.
 const DONE: u8 = 0;
@@ -15,33 +16,31 @@ const REFUSED: u8 = 1;
 /// The words are no command line.
 const BAD_WORDS: u8 = 2;
 
-enum Chosen {
-    Drill,
-    Help(String),
-    Bad,
-}
-
-// What the words ask for.
-fn read_words(alloc: Global, words: &[String]) -> io::Result<Chosen> {
-    let drill = Command::new(alloc, "drill").about(
-        "Runs the drill script on standard input, and answers each of its lines",
-    );
-    let command = Command::new(alloc, "recorderd")
-        .about("Records one VNC session, so that a crash at any moment loses nothing acknowledged")
-        .subcommand_required(true)
-        .subcommand(drill)?;
-    match command.try_get_matches_from(words) {
-        Ok(_) => Ok(Chosen::Drill),
-        Err(error) => match error.kind() {
-            ErrorKind::DisplayHelp => Ok(Chosen::Help(format!(in alloc; "{error}")?)),
-            ErrorKind::OutOfMemory => Err(io::ErrorKind::OutOfMemory.into()),
-            _ => Ok(Chosen::Bad),
-        },
+// Runs a drill whose recording is kept in a new file, which is made first.
+fn drill_to_file<R: Files<File = File> + AllocGlobal, I: Read + Drop, O: Write, E: Write>(
+    rt: &R,
+    path: &str,
+    input: I,
+    out: &mut O,
+    err: &mut E,
+) -> io::Result<bool> {
+    let mut disk = match create_new(rt, path) {
+        Ok(disk) => disk,
+        Err(refusal) => {
+            refuse("drill", refusal, err)?;
+            return Ok(false);
+        }
+    };
+    let ran = drill::run_and_read(rt.alloc(), input, out)?;
+    if let Err(refusal) = keep(rt, path, &mut disk, &ran.recording) {
+        refuse("drill", refusal, err)?;
+        return Ok(false);
     }
+    Ok(ran.is_whole)
 }
 
-fn run<I: Read + Drop, O: Write, E: Write>(
-    alloc: Global,
+fn run<R: Files<File = File> + AllocGlobal, I: Read + Drop, O: Write, E: Write>(
+    rt: &R,
     words: &[String],
     input: I,
     out: &mut O,
@@ -49,32 +48,33 @@ fn run<I: Read + Drop, O: Write, E: Write>(
 ) -> io::Result<u8>
     ensures { IfOk result (λ status. status ≤ 2) }
 {
-    let status = match read_words(alloc, words)? {
-        Chosen::Drill => {
-            if drill::run(alloc, input, out)? {
-                DONE
-            } else {
-                REFUSED
-            }
-        }
-        Chosen::Help(text) => {
+    let alloc = rt.alloc();
+    let is_done = match read_words(alloc, words)? {
+        Chosen::Drill { keep: None } => drill::run(alloc, input, out)?,
+        Chosen::Drill { keep: Some(path) } => drill_to_file(rt, path, input, out, err)?,
+        Chosen::List(path) => file_commands::list(rt, path, out, err)?,
+        Chosen::Check(path) => file_commands::check(rt, path, out, err)?,
+        Chosen::Export(what) => file_commands::export(rt, what, out, err)?,
+        Chosen::FbsCheck(path) => file_commands::fbs_check(rt, path, out, err)?,
+        Chosen::Text(text) => {
             write!(out, "{text}")?;
-            DONE
+            true
         }
         Chosen::Bad => {
             writeln!(err, "recorderd: bad command line")?;
-            BAD_WORDS
+            return Ok(BAD_WORDS);
         }
     };
     out.flush()?;
-    Ok(status)
+    Ok(if is_done { DONE } else { REFUSED })
 }
 
 /// Runs the program: the words of its command line (the first is its own name), its input, and its
-/// two outputs. Answers the exit status: 0 where it is done, 1 where it is refused, where memory
-/// for its own work is, or where a stream can't be read or written, and 2 for a bad command line.
-pub fn command<I: Read + Drop, O: Write, E: Write>(
-    alloc: Global,
+/// two outputs; files are those of the runtime. Answers the exit status: 0 where it is done, 1 where
+/// it is refused, where memory for its own work is, or where a stream can't be read or written, and
+/// 2 for a bad command line.
+pub fn command<R: Files<File = File> + AllocGlobal, I: Read + Drop, O: Write, E: Write>(
+    rt: &R,
     words: &[String],
     input: I,
     out: &mut O,
@@ -82,7 +82,7 @@ pub fn command<I: Read + Drop, O: Write, E: Write>(
 ) -> u8
     ensures { result ≤ 2 }
 {
-    match run(alloc, words, input, out, err) {
+    match run(rt, words, input, out, err) {
         Ok(status) => status,
         Err(_) => REFUSED,
     }

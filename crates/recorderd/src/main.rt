@@ -2,16 +2,16 @@
 #![tactic(auto)]
 
 mod command;
+mod words;
 
 use std::process::ExitCode;
 use std::{env, io};
 
 fn run(rt: &HostRuntime) -> io::Result<u8> {
-    let alloc = rt.alloc();
-    let words: Vec<String> = env::args(rt)?.collect(alloc)?;
+    let words: Vec<String> = env::args(rt)?.collect(rt.alloc())?;
     let mut out = io::writer(rt);
     let mut err = rt.stderr();
-    Ok(command::command(alloc, &words, rt.reader(), &mut out, &mut err))
+    Ok(command::command(rt, &words, rt.reader(), &mut out, &mut err))
 }
 
 fn main(rt: HostRuntime) -> ExitCode {

@@ -1,5 +1,7 @@
 //! The command line: what the program prints, and how it ends.
 
+mod files;
+
 use crate::command::command;
 use std::io;
 use std::io::{Read, Write};
@@ -13,13 +15,13 @@ fn a_drill_is_run(rt: HostRuntime) -> Result<(), Fail> {
     let mut err = Vec::new(alloc);
     let script =
         b"new 1 1 4 x\nhost 0 0000 0001 0000 0000 0001 0001 00000000 0000ff00\ntake\nbody\ngate\nopen\npixel 1 0 0".as_slice();
-    assert_eq!(rt; command(alloc, &words, script, &mut out, &mut err), 0);
+    assert_eq!(rt; command(&rt, &words, script, &mut out, &mut err), 0);
     assert_eq!(rt;
         out.as_slice(),
         b"recording 1 1 4\naccepted 0\ntaken 0 1\nwritten\ncommitted 1\nopened 1\nff0000\n".as_slice()
     );
     let bad = b"open\n".as_slice();
-    assert_eq!(rt; command(alloc, &words, bad, &mut out, &mut err), 1);
+    assert_eq!(rt; command(&rt, &words, bad, &mut out, &mut err), 1);
     assert_eq!(rt; err.as_slice(), b"".as_slice());
     Ok(())
 }
@@ -27,7 +29,20 @@ fn a_drill_is_run(rt: HostRuntime) -> Result<(), Fail> {
 #[test]
 fn words_that_are_no_command_line(rt: HostRuntime) -> Result<(), Fail> {
     let alloc = rt.alloc();
-    for wrong in ["", "serve", "--drill", "drill x"] {
+    for wrong in [
+        "",
+        "serve",
+        "--drill",
+        "drill x",
+        "drill --keep",
+        "check",
+        "list a b",
+        "export r 0 1",
+        "export r 0 x o",
+        "export r -1 1 o",
+        "export r +1 1 o",
+        "export r 0 18446744073709551616 o",
+    ] {
         let mut words = Vec::new(alloc);
         words.push("recorderd".to_string(alloc)?)?;
         for word in wrong.split_whitespace() {
@@ -35,20 +50,14 @@ fn words_that_are_no_command_line(rt: HostRuntime) -> Result<(), Fail> {
         }
         let mut out = Vec::new(alloc);
         let mut err = Vec::new(alloc);
-        assert_eq!(rt;
-            command(alloc, &words, b"".as_slice(), &mut out, &mut err),
-            2
-        );
+        assert_eq!(rt; command(&rt, &words, b"".as_slice(), &mut out, &mut err), 2);
         assert_eq!(rt; out.as_slice(), b"".as_slice());
         assert_eq!(rt; err.as_slice(), b"recorderd: bad command line\n".as_slice());
     }
     let words = ["recorderd".to_string(alloc)?, "--help".to_string(alloc)?];
     let mut out = Vec::new(alloc);
     let mut err = Vec::new(alloc);
-    assert_eq!(rt;
-        command(alloc, &words, b"".as_slice(), &mut out, &mut err),
-        0
-    );
+    assert_eq!(rt; command(&rt, &words, b"".as_slice(), &mut out, &mut err), 0);
     assert!(rt; out.len() > 0);
     assert_eq!(rt; err.as_slice(), b"".as_slice());
     Ok(())
@@ -93,13 +102,13 @@ fn streams_that_fail(rt: HostRuntime) -> Result<(), Fail> {
     let script = b"new 1 1 4 x\nopen\n".as_slice();
     for room in 0..25 {
         let mut out = Full { room };
-        let status = command(alloc, &words, script, &mut out, &mut err);
+        let status = command(&rt, &words, script, &mut out, &mut err);
         assert_eq!(rt; status, 1, "with room for {room}");
     }
     let mut out = Full { room: 25 };
-    assert_eq!(rt; command(alloc, &words, script, &mut out, &mut err), 0);
+    assert_eq!(rt; command(&rt, &words, script, &mut out, &mut err), 0);
     assert_eq!(rt;
-        command(alloc, &words, Unreadable, &mut Full { room: 25 }, &mut err),
+        command(&rt, &words, Unreadable, &mut Full { room: 25 }, &mut err),
         1
     );
     Ok(())

@@ -1,0 +1,99 @@
+//! The command `export`.
+
+use crate::recording::{open_file, open_recording};
+use crate::refusal::{Ended, Refusal, answer};
+use fbs_export::{ExportFault, first_exported};
+use std::fs::{File, Metadata, OpenOptions};
+use std::io;
+use std::io::{BufWriter, Write};
+use std::os::unix::fs::MetadataExt;
+use std::rt::Files;
+
+// Whether two names are of one file of the system.
+fn is_same_file(one: &Metadata, other: &Metadata) -> bool {
+    one.dev() == other.dev() && one.ino() == other.ino()
+}
+
+// Opens a file for the export, created or emptied. The recording itself is refused, under whatever
+// name: so it is asked of the open file, before it is emptied.
+fn open_out<R: Files<File = File>>(
+    files: &R,
+    path: &str,
+    recording: &Metadata,
+) -> io::Result<File> {
+    let file = OpenOptions::new()
+        .write(true)
+        .create(true)
+        .open(files, path)?;
+    let metadata = file.metadata()?;
+    if is_same_file(&metadata, recording) {
+        return Err(io::ErrorKind::InvalidInput.into());
+    }
+    if metadata.is_file() {
+        file.set_len(0)?;
+    }
+    Ok(file)
+}
+
+/// What is exported of which recording, and where to.
+#[derive(Clone, Copy)]
+pub struct Extract<'a> {
+    /// The recording's file.
+    pub recording: &'a str,
+    /// The block with whose first message the export begins; the number of blocks is its end.
+    pub from_block: u64,
+    /// The number of the first message that isn't exported.
+    pub to: u64,
+    /// The file that is written.
+    pub out: &'a str,
+}
+
+fn write_export<R: Files<File = File> + AllocGlobal>(
+    rt: &R,
+    what: Extract<'_>,
+) -> Result<u64, Ended> {
+    let alloc = rt.alloc();
+    let file = open_file(rt, what.recording)?;
+    let metadata = file.metadata()?;
+    let mut index = open_recording(alloc, file)?;
+    first_exported(&index, what.from_block, what.to).map_err(Refusal::Export)?;
+    let file = match open_out(rt, what.out, &metadata) {
+        Ok(file) => file,
+        Err(_) => return Err(Ended::Refused(Refusal::File)),
+    };
+    let mut writer = BufWriter::new(alloc, file)?;
+    let count = fbs_export::export(
+        alloc,
+        &mut index,
+        what.from_block,
+        what.to,
+        &mut writer,
+    ).map_err(Refusal::Export)?;
+    match writer.flush() {
+        Ok(()) => Ok(count),
+        Err(_) => Err(Ended::Refused(Refusal::Export(ExportFault::Write))),
+    }
+}
+
+fn write_count<R: Files<File = File> + AllocGlobal, O: Write>(
+    rt: &R,
+    what: Extract<'_>,
+    out: &mut O,
+) -> Result<(), Ended> {
+    let count = write_export(rt, what)?;
+    writeln!(out, "exported {count}")?;
+    Ok(())
+}
+
+/// Writes a part of a recording, which is opened for reading alone, as an FBS file, and then how
+/// many messages it has. That file is created, or emptied where it is there, only once it is known
+/// that there are such a block and such an end; one that can't be, and the recording itself, are
+/// refused as a file. It answers as [`check`](crate::check) does.
+pub fn export<R: Files<File = File> + AllocGlobal, O: Write, E: Write>(
+    rt: &R,
+    what: Extract<'_>,
+    out: &mut O,
+    err: &mut E,
+) -> io::Result<bool> {
+    answer("export", write_count(rt, what, out), err)
+}

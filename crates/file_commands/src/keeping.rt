@@ -1,0 +1,33 @@
+//! A recording that is kept in a new file.
+
+use crate::disk_of_file::FileDisk;
+use crate::folder::sync_folder;
+use crate::refusal::Refusal;
+use disk::Disk;
+use std::fs::File;
+use std::rt::Files;
+
+/// A new file, open for reading and writing. Refused where the path is taken, or can't be.
+pub fn create_new<R: Files<File = File>>(files: &R, path: &str) -> Result<FileDisk, Refusal> {
+    match File::create_new(files, path) {
+        Ok(file) => Ok(FileDisk::new(file)),
+        Err(_) => Err(Refusal::File),
+    }
+}
+
+/// Writes the bytes of a recording into its new file, and brings them and the file's name onto the
+/// device. Refused where that fails.
+pub fn keep<R: Files<File = File>>(
+    files: &R,
+    path: &str,
+    disk: &mut FileDisk,
+    bytes: &[u8],
+) -> Result<(), Refusal> {
+    if disk.write_at(0, bytes).is_err() || disk.sync().is_err() {
+        return Err(Refusal::File);
+    }
+    match sync_folder(files, path) {
+        Ok(()) => Ok(()),
+        Err(_) => Err(Refusal::File),
+    }
+}

@@ -1,0 +1,19 @@
+//! Recordings and FBS files on a real disk: the disk, and the commands that read such files.
+#![tactic(auto)]
+
+mod checking;
+mod disk_of_file;
+mod exporting;
+mod folder;
+mod keeping;
+mod listing;
+mod recording;
+mod refusal;
+
+pub use checking::{check, fbs_check};
+pub use disk_of_file::FileDisk;
+pub use exporting::{Extract, export};
+pub use folder::sync_folder;
+pub use keeping::{create_new, keep};
+pub use listing::list;
+pub use refusal::{Refusal, refuse};

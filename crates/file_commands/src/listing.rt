@@ -1,0 +1,51 @@
+//! The command `list`.
+
+use crate::disk_of_file::FileDisk;
+use crate::recording::{open_file, open_recording};
+use crate::refusal::{Ended, answer};
+use key_index::Indexed;
+use std::fs::File;
+use std::io;
+use std::io::{BufWriter, Write};
+use std::rt::Files;
+
+// A line a block: its number, its first message, how many it has, whether it has a key screen
+// (none is written yet), and the time of its first message.
+fn write_blocks<O: Write>(index: &Indexed<FileDisk>, out: &mut O) -> io::Result<()> {
+    for block in 0..index.blocks() {
+        let first = index.start(block);
+        let messages = index.messages(block);
+        let count = messages.len();
+        let time = messages[0].time;
+        writeln!(
+            out,
+            "block {block} first {first} messages {count} key no time {time}"
+        )?;
+    }
+    Ok(())
+}
+
+fn write_list<R: Files<File = File> + AllocGlobal, O: Write>(
+    rt: &R,
+    path: &str,
+    out: &mut O,
+) -> Result<(), Ended> {
+    let alloc = rt.alloc();
+    let file = open_file(rt, path)?;
+    let index = open_recording(alloc, file)?;
+    let mut lines = BufWriter::new(alloc, out)?;
+    write_blocks(&index, &mut lines)?;
+    lines.flush()?;
+    Ok(())
+}
+
+/// Opens the recording at a path, for reading alone, and writes a line for each block that counts.
+/// It answers as [`check`](crate::check) does.
+pub fn list<R: Files<File = File> + AllocGlobal, O: Write, E: Write>(
+    rt: &R,
+    path: &str,
+    out: &mut O,
+    err: &mut E,
+) -> io::Result<bool> {
+    answer("list", write_list(rt, path, out), err)
+}

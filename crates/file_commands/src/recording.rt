@@ -1,0 +1,24 @@
+//! A recording in a file, opened to be read.
+
+use crate::disk_of_file::FileDisk;
+use crate::refusal::Refusal;
+use key_index::Indexed;
+use std::alloc::Global;
+use std::fs::File;
+use std::rt::Files;
+
+/// The file, opened for reading alone.
+pub fn open_file<R: Files<File = File>>(files: &R, path: &str) -> Result<File, Refusal> {
+    match File::open(files, path) {
+        Ok(file) => Ok(file),
+        Err(_) => Err(Refusal::File),
+    }
+}
+
+/// The recording that a file holds.
+pub fn open_recording(alloc: Global, file: File) -> Result<Indexed<FileDisk>, Refusal> {
+    match Indexed::open(alloc, FileDisk::new(file)) {
+        Ok(index) => Ok(index),
+        Err(refused) => Err(Refusal::Recording(refused.fault)),
+    }
+}

@@ -1,0 +1,237 @@
+//! The commands on files, each in the test's own folder.
+
+use super::Full;
+use crate::command::command;
+use std::fs;
+use std::test::Fail;
+
+/// A drill of one red pixel, in one block.
+const RED_PIXEL: &str =
+    "new 1 1 4 x\nhost 0 0000 0001 0000 0000 0001 0001 00000000 0000ff00\ntake\nbody\ngate\n";
+
+/// A recording of one place with one message, an update of a red pixel.
+const RECORDING: [u8; 54] =
+    *b"ORFBREC1\0\x01\0\x01\0\x04\0\x01xO\0\0\0\x1d\0\x01\0\0\0\0\0\0\0\0\x14\0\0\0\x01\0\0\0\0\0\x01\0\x01\0\0\0\0\0\0\xff\0C";
+
+/// The start of an FBS file, and its first block: the opening, at time 0.
+const FRONT: [u8; 64] =
+    *b"FBS 001.000\n\0\0\0\x29RFB 003.003\n\0\0\0\x01\0\x01\0\x01\x20\x18\0\x01\0\xff\0\xff\0\xff\x10\x08\0\0\0\0\0\0\0\x01x\0\0\0\0\0\0\0";
+
+/// A block with an update of a black pixel, and one of a red one, at time 0.
+const BLACK: [u8; 28] = *b"\0\0\0\x14\0\0\0\x01\0\0\0\0\0\x01\0\x01\0\0\0\0\0\0\0\0\0\0\0\0";
+
+const RED: [u8; 28] = *b"\0\0\0\x14\0\0\0\x01\0\0\0\0\0\x01\0\x01\0\0\0\0\0\0\xff\0\0\0\0\0";
+
+/// An update of one red pixel in two blocks, of 7 bytes at time 5, padded with 255, and 13 at 9.
+const CUT: [u8; 40] =
+    *b"\0\0\0\x07\0\0\0\x01\0\0\0\xff\0\0\0\x05\0\0\0\x0d\0\0\x01\0\x01\0\0\0\0\0\0\xff\0\xff\xff\xff\0\0\0\x09";
+
+/// A recording that was begun, without a message.
+const RECORDING_BEGUN: [u8; 18] = *b"ORFBREC1\0\x01\0\x01\0\x04\0\x01xC";
+
+/// A recording whose one block has a bell at time 5 and one at time 4.
+const TIMES_THAT_FALL: [u8; 45] =
+    *b"ORFBREC1\0\x01\0\x01\0\x04\0\x01xO\0\0\0\x14\0\x02\0\0\0\0\x05\0\0\0\x01\x02\0\0\0\0\x04\0\0\0\x01\x02C";
+
+// The exit status, and behind it what is printed on both outputs.
+fn said(rt: &HostRuntime, line: &str, script: &str) -> Result<String, Fail> {
+    let alloc = rt.alloc();
+    let mut words = Vec::new(alloc);
+    for word in line.split_whitespace() {
+        words.push(word.to_string(alloc)?)?;
+    }
+    let mut out = Vec::new(alloc);
+    let mut err = Vec::new(alloc);
+    let status = command(rt, &words, script.as_bytes(), &mut out, &mut err);
+    let out = String::from_utf8(out).ok().ok_or("output")?;
+    let err = String::from_utf8(err).ok().ok_or("error output")?;
+    Ok(format!(in alloc; "{status} {out}{err}")?)
+}
+
+// Whether a command without input says this.
+fn is_said(rt: &HostRuntime, line: &str, answer: &str) -> Result<bool, Fail> {
+    let line = format!(in rt.alloc(); "recorderd {line}")?;
+    Ok(said(rt, &line, "")?.as_str() == answer)
+}
+
+// Whether a file has just these bytes.
+fn holds(rt: &HostRuntime, path: &str, bytes: &[u8]) -> Result<bool, Fail> {
+    Ok(fs::read(rt, path)?.as_slice() == bytes)
+}
+
+#[test]
+fn a_drill_is_kept_and_exported(rt: HostRuntime) -> Result<(), Fail> {
+    let kept = said(&rt, "recorderd drill --keep r", RED_PIXEL)?;
+    let answers = "recording 1 1 4\naccepted 0\ntaken 0 1\nwritten\ncommitted 1\n";
+    assert!(rt; kept.strip_prefix("0 ") == Some(answers), "{kept}");
+    assert!(rt; holds(&rt, "r", &RECORDING)?);
+    let mut exported = Vec::from_slice(rt.alloc(), &FRONT)?;
+    exported.extend_from_slice(&BLACK)?;
+    exported.extend_from_slice(&RED)?;
+    for (line, answer) in [
+        ("list r", "0 block 0 first 0 messages 1 key no time 0\n"),
+        ("check r", "0 recording 1 1 messages 1 blocks 1\n"),
+        ("export r 0 1 o", "0 exported 1\n"),
+        ("fbs-check o", "0 fbs 1 1 messages 2 rest 0\n"),
+    ] {
+        assert!(rt; is_said(&rt, line, answer)?, "{line}");
+    }
+    assert!(rt; exported.len() == 120 && holds(&rt, "o", &exported)?);
+    // From behind the last block: the screen as it is then, in the same file.
+    assert!(rt; is_said(&rt, "export r 1 1 o", "0 exported 0\n")?);
+    assert!(rt; is_said(&rt, "fbs-check o", "0 fbs 1 1 messages 1 rest 0\n")?);
+    let end = fs::read(&rt, "o")?;
+    assert!(rt; end.len() == 92 && end.ends_with(&RED));
+    // A part that isn't there: nothing is created or emptied.
+    for (line, answer) in [
+        ("export r 1 0 o", "1 recorderd: export refused export 2\n"),
+        ("export r 2 1 o", "1 recorderd: export refused export 1\n"),
+        ("export r 2 1 p", "1 recorderd: export refused export 1\n"),
+        ("fbs-check o", "0 fbs 1 1 messages 1 rest 0\n"),
+        ("fbs-check p", "1 recorderd: fbs-check refused file 1\n"),
+    ] {
+        assert!(rt; is_said(&rt, line, answer)?, "{line}");
+    }
+    assert!(rt; holds(&rt, "r", &RECORDING)?);
+    Ok(())
+}
+
+#[test]
+fn nothing_is_lost(rt: HostRuntime) -> Result<(), Fail> {
+    fs::write(&rt, "mine", RECORDING.as_slice())?;
+    fs::hard_link(&rt, "mine", "also_mine")?;
+    for (line, answer) in [
+        (
+            "export mine 0 1 mine",
+            "1 recorderd: export refused file 1\n",
+        ),
+        (
+            "export mine 0 1 ./mine",
+            "1 recorderd: export refused file 1\n",
+        ),
+        (
+            "export mine 0 1 also_mine",
+            "1 recorderd: export refused file 1\n",
+        ),
+        (
+            "export mine 0 1 no_such_folder/o",
+            "1 recorderd: export refused file 1\n",
+        ),
+        ("drill --keep mine", "1 recorderd: drill refused file 1\n"),
+        (
+            "drill --keep no_such_folder/r",
+            "1 recorderd: drill refused file 1\n",
+        ),
+        ("check no_such_file", "1 recorderd: check refused file 1\n"),
+        ("list no_such_file", "1 recorderd: list refused file 1\n"),
+        (
+            "export no_such_file 0 1 o",
+            "1 recorderd: export refused file 1\n",
+        ),
+    ] {
+        assert!(rt; is_said(&rt, line, answer)?, "{line}");
+    }
+    assert!(rt; holds(&rt, "mine", &RECORDING)?);
+    Ok(())
+}
+
+// A drill that ends at a bad line is kept as far as it went, and one without a recording is empty.
+#[test]
+fn a_bad_drill_is_kept(rt: HostRuntime) -> Result<(), Fail> {
+    let kept = said(
+        &rt,
+        "recorderd drill --keep bad",
+        "new 1 1 4 x\nstop 0 4f\nbell\n",
+    )?;
+    let answers = "1 recording 1 1 4\nset\nline 3: bad\n";
+    assert!(rt;
+        kept.as_str() == answers && holds(&rt, "bad", &RECORDING_BEGUN)?,
+        "{kept}"
+    );
+    let kept = said(&rt, "recorderd drill --keep none", "open\n")?;
+    assert!(rt;
+        kept.as_str() == "1 line 1: bad\n" && holds(&rt, "none", &[])?,
+        "{kept}"
+    );
+    Ok(())
+}
+
+#[test]
+fn fbs_files_are_read(rt: HostRuntime) -> Result<(), Fail> {
+    let alloc = rt.alloc();
+    let mut one = Vec::from_slice(alloc, &FRONT)?;
+    one.extend_from_slice(&RED)?;
+    let mut cut = Vec::from_slice(alloc, &FRONT)?;
+    cut.extend_from_slice(&CUT)?;
+    for (file, answer) in [
+        (one.as_slice(), "0 fbs 1 1 messages 1 rest 0\n"),
+        (cut.as_slice(), "0 fbs 1 1 messages 1 rest 0\n"),
+        (&cut[..80], "0 fbs 1 1 messages 0 rest 7\n"),
+        (&cut[..70], "1 recorderd: fbs-check refused fbs 2\n"),
+        (&cut[..11], "1 recorderd: fbs-check refused fbs 1\n"),
+    ] {
+        fs::write(&rt, "fbs", file)?;
+        assert!(rt; is_said(&rt, "fbs-check fbs", answer)?, "{answer}");
+    }
+    // A byte is changed: of the start, the version, the security type, the format, the width, the
+    // type of a message.
+    for (place, byte, fault) in [
+        (0, 0, "1"),
+        (24, 56, "3"),
+        (31, 2, "4"),
+        (36, 16, "5"),
+        (33, 0, "6"),
+        (68, 9, "7 wire 1"),
+    ] {
+        let mut file = one.clone()?;
+        file[place] = byte;
+        fs::write(&rt, "fbs", file.as_slice())?;
+        let answer = format!(in alloc; "1 recorderd: fbs-check refused fbs {fault}\n")?;
+        assert!(rt; is_said(&rt, "fbs-check fbs", &answer)?, "{answer}");
+    }
+    Ok(())
+}
+
+#[test]
+fn damaged_recordings(rt: HostRuntime) -> Result<(), Fail> {
+    let alloc = rt.alloc();
+    let whole = RECORDING.to_vec(alloc)?;
+    let mut kind = whole.clone()?;
+    kind[24] = 2;
+    let mut message = whole.clone()?;
+    message[33] = 9;
+    for (file, fault) in [
+        (&whole[..40], "journal 2 block 0"),
+        (&whole[..10], "journal 1"),
+        (kind.as_slice(), "index 1 block 0"),
+        (message.as_slice(), "index 2 block 0"),
+        (TIMES_THAT_FALL.as_slice(), "index 4 block 0"),
+    ] {
+        fs::write(&rt, "damaged", file)?;
+        for command in ["list", "check", "export"] {
+            let more = if command == "export" { " 0 1 o" } else { "" };
+            let line = format!(in alloc; "{command} damaged{more}")?;
+            let answer = format!(in alloc; "1 recorderd: {command} refused {fault}\n")?;
+            assert!(rt; is_said(&rt, &line, &answer)?, "{line}: {fault}");
+        }
+    }
+    Ok(())
+}
+
+#[test]
+fn an_output_that_is_full(rt: HostRuntime) -> Result<(), Fail> {
+    let alloc = rt.alloc();
+    fs::write(&rt, "listed", RECORDING.as_slice())?;
+    let words = [
+        "recorderd".to_string(alloc)?,
+        "list".to_string(alloc)?,
+        "listed".to_string(alloc)?,
+    ];
+    let mut err = Vec::new(alloc);
+    for (room, status) in [(0, 1), (40, 1), (41, 0)] {
+        let mut out = Full { room };
+        let ended = command(&rt, &words, b"".as_slice(), &mut out, &mut err);
+        assert!(rt; ended == status && err.is_empty(), "with room for {room}");
+    }
+    Ok(())
+}

@@ -1,0 +1,128 @@
+//! The words of the command line.
+
+use clap::error::ErrorKind;
+use clap::{Arg, ArgAction, ArgMatches, Command};
+use file_commands::Extract;
+use std::alloc::{AllocError, Global};
+use std::io;
+
+/// What the words ask for.
+#[derive(Drop)]
+pub enum Chosen<'a> {
+    Drill { keep: Option<&'a str> },
+    List(&'a str),
+    Check(&'a str),
+    Export(Extract<'a>),
+    FbsCheck(&'a str),
+    /// Text to be printed: help, or the version.
+    Text(String),
+    /// The words are no command line.
+    Bad,
+}
+
+fn required<'a>(alloc: Global, name: &'a str, help: &'a str) -> Arg<'a> {
+    Arg::new(alloc, name)
+        .help(help)
+        .required(true)
+        .action(ArgAction::Set)
+}
+
+fn drill<'a>(alloc: Global) -> Result<Command<'a>, AllocError> {
+    let keep = Arg::new(alloc, "FILE")
+        .long("keep")
+        .help("Writes the recording to this file in the end, which must not be there yet")
+        .action(ArgAction::Set);
+    Command::new(alloc, "drill")
+        .about("Runs the drill script on standard input, and answers each of its lines")
+        .after_help("Example: recorderd drill --keep r < first-recording.drill")
+        .arg(keep)
+}
+
+fn list<'a>(alloc: Global) -> Result<Command<'a>, AllocError> {
+    Command::new(alloc, "list")
+        .about("Prints a line for each block of a recording")
+        .after_help("Example: recorderd list r")
+        .arg(required(alloc, "PATH", "The recording"))
+}
+
+fn check<'a>(alloc: Global) -> Result<Command<'a>, AllocError> {
+    Command::new(alloc, "check")
+        .about("Reads a whole recording, and prints its size and how much it holds")
+        .after_help("Example: recorderd check r")
+        .arg(required(alloc, "PATH", "The recording"))
+}
+
+fn export<'a>(alloc: Global) -> Result<Command<'a>, AllocError> {
+    Command::new(alloc, "export")
+        .about("Writes a part of a recording as an FBS file")
+        .after_help("Example, the first 20 messages: recorderd export r 0 20 r.fbs")
+        .arg(required(alloc, "PATH", "The recording"))?
+        .arg(required(alloc, "FROM", "The block to begin with, from 0"))?
+        .arg(required(alloc, "TO", "The number of the first message left out"))?
+        .arg(required(alloc, "OUT", "The file to write"))
+}
+
+fn fbs_check<'a>(alloc: Global) -> Result<Command<'a>, AllocError> {
+    Command::new(alloc, "fbs-check")
+        .about("Reads a whole FBS file, and prints its size and how much it holds")
+        .after_help("Example: recorderd fbs-check r.fbs")
+        .arg(required(alloc, "PATH", "The FBS file"))
+}
+
+fn all_commands<'a>(alloc: Global) -> Result<Command<'a>, AllocError> {
+    Command::new(alloc, "recorderd")
+        .about("Records one VNC session, so that a crash at any moment loses nothing acknowledged")
+        .version("0.1.0")
+        .subcommand_required(true)
+        .subcommand(drill(alloc)?)?
+        .subcommand(list(alloc)?)?
+        .subcommand(check(alloc)?)?
+        .subcommand(export(alloc)?)?
+        .subcommand(fbs_check(alloc)?)
+}
+
+// A decimal number: digits alone.
+fn number(word: &str) -> Option<u64> {
+    if !word.bytes().all(|byte| byte.is_ascii_digit()) {
+        return None;
+    }
+    word.parse().ok()
+}
+
+fn extract<'a>(matches: &ArgMatches<'a>) -> Option<Extract<'a>> {
+    Some(Extract {
+        recording: matches.get_str("PATH")?,
+        from_block: number(matches.get_str("FROM")?)?,
+        to: number(matches.get_str("TO")?)?,
+        out: matches.get_str("OUT")?,
+    })
+}
+
+// The command that the words name; none where a number isn't one.
+fn choose<'a>(matches: &ArgMatches<'a>) -> Option<Chosen<'a>> {
+    let (name, matches) = matches.subcommand()?;
+    match name {
+        "drill" => Some(Chosen::Drill {
+            keep: matches.get_str("FILE"),
+        }),
+        "list" => Some(Chosen::List(matches.get_str("PATH")?)),
+        "check" => Some(Chosen::Check(matches.get_str("PATH")?)),
+        "export" => Some(Chosen::Export(extract(matches)?)),
+        "fbs-check" => Some(Chosen::FbsCheck(matches.get_str("PATH")?)),
+        _ => None,
+    }
+}
+
+/// What the words ask for, the first of which is the program's own name. An error is of memory.
+pub fn read_words<'a>(alloc: Global, words: &'a [String]) -> io::Result<Chosen<'a>> {
+    match all_commands(alloc)?.try_get_matches_from(words) {
+        Ok(matches) => Ok(choose(&matches).unwrap_or(Chosen::Bad)),
+        Err(error) => match error.kind() {
+            ErrorKind::DisplayHelp | ErrorKind::DisplayVersion => {
+                Ok(Chosen::Text(format!(in alloc; "{error}")?))
+            }
+            ErrorKind::OutOfMemory => Err(io::ErrorKind::OutOfMemory.into()),
+            _ => Ok(Chosen::Bad),
+        },
+    }
+}
