@@ -3,7 +3,7 @@ use Rattle.std.proofs.Common.{◌≡◌, ℕ, ℤ, zero, suc, ◌+◌, ◌*◌, 
 use Rattle.std.specs.Prelude.{Bool, Result, Ok, Err}
 use Rattle.std.proofs.lemmas.List.{length-take-le, length-drop, take-append-drop, append-nil, drop_at}
 use Rattle.pixel_format.specs.Reading.{Got, field}
-use Rattle.pixel_format.proofs.Readings.{bind_got, FieldIs, field_got, field-whole, true_or_false}
+use Rattle.pixel_format.proofs.Readings.{bind_got, FieldIs, field_got, field-whole, true_or_false, field_front, one_number, three_numbers}
 use Rattle.pixel_format.proofs.Valid.{accepted_is, is_accepted, flag_some}
 use Rattle.pixel_format.specs.Format.{Format}
 use Rattle.pixel_format.specs.Written.{format_at, is_flag}
@@ -15,24 +15,6 @@ use Rattle.client_wire.specs.declared.fault.WireFault.{WireFault}
 use Rattle.client_wire.specs.Grammar.{judged, set_pixel_format_at, numbers_of, encodings_at, set_encodings_at, request_at, input_at, cut_text_at, body_at, message_at}
 use Rattle.client_wire.specs.Message.{IsSetPixelFormat, AreNumbers, IsSetEncodings, IsRequest, IsMessage}
 use Rattle.client_wire.proofs.Fronts.{type_read, body_of_pixel_format, body_of_encodings, body_of_request, body_of_key, body_of_pointer, body_of_text, pixel_format_read, head_read, encodings_read, request_read, input_read, text_read}
-
--- a field and what stands behind it
-field_front : (n : ℕ) (bytes f rest : List ℕ) → FieldIs n bytes f rest → (bytes ≡ f ++ rest) × (length f ≡ n)
-field_front n bytes f rest is =
-    (rw (is.is, is.rest_is) (sym (take-append-drop n bytes)), rw is.is (length-take-le n bytes is.enough))
-
--- a list of so many numbers
-one_number : (f : List ℕ) → length f ≡ 1 → f ≡ slice_index f 0 ∷ []
-one_number [] e = absurd (omega arith)
-one_number (a ∷ []) e = refl
-one_number (a ∷ b ∷ f) e = absurd (omega arith)
-
-three_numbers : (f : List ℕ) → length f ≡ 3 → f ≡ slice_index f 0 ∷ slice_index f 1 ∷ slice_index f 2 ∷ []
-three_numbers [] e = absurd (omega arith)
-three_numbers (a ∷ []) e = absurd (omega arith)
-three_numbers (a ∷ b ∷ []) e = absurd (omega arith)
-three_numbers (a ∷ b ∷ c ∷ []) e = refl
-three_numbers (a ∷ b ∷ c ∷ d ∷ f) e = absurd (omega arith)
 
 -- the only field of a message, to its end
 last_field : (n : ℕ) (bytes f rest : List ℕ) → field {E = WireFault} n bytes ≡ Got f rest → rest ≡ [] → (bytes ≡ f) × (length f ≡ n)

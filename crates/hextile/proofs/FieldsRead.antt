@@ -6,7 +6,7 @@ use Rattle.std.proofs.lemmas.List.{length-take-le, length-drop, take-append-drop
 use Rattle.pixel_format.specs.declared.Color.{Color}
 use Rattle.pixel_format.specs.Format.{Format, pixel_bytes}
 use Rattle.pixel_format.specs.Pixel.{pixel_color}
-use Rattle.pixel_format.proofs.Readings.{FieldIs}
+use Rattle.pixel_format.proofs.Readings.{FieldIs, one_number}
 use Rattle.hextile.specs.declared.fields.Subrectangle.{Subrectangle}
 use Rattle.hextile.specs.declared.fields.Mask.{Mask}
 use Rattle.hextile.specs.declared.fields.Named.{Named}
@@ -18,16 +18,6 @@ use Rattle.hextile.specs.Data.{background_of, foreground_of, IsNamed, IsAllowed,
 no_bytes : (bytes : List ℕ) → length bytes ≡ 0 → bytes ≡ []
 no_bytes [] e = refl
 no_bytes (b ∷ bytes) e = absurd (omega arith)
-
--- a field and what stands behind it
-pub field_front : (n : ℕ) (bytes f rest : List ℕ) → FieldIs n bytes f rest → (bytes ≡ f ++ rest) × (length f ≡ n)
-field_front n bytes f rest is =
-    (rw (is.is, is.rest_is) (sym (take-append-drop n bytes)), rw is.is (length-take-le n bytes is.enough))
-
-pub one_byte : (bytes : List ℕ) → length bytes ≡ 1 → bytes ≡ slice_index bytes 0 ∷ []
-one_byte [] e = absurd (omega arith)
-one_byte (a ∷ []) e = refl
-one_byte (a ∷ b ∷ bytes) e = absurd (omega arith)
 
 pub two_bytes : (bytes : List ℕ) → length bytes ≡ 2 → bytes ≡ slice_index bytes 0 ∷ slice_index bytes 1 ∷ []
 two_bytes [] e = absurd (omega arith)
@@ -95,7 +85,7 @@ count_front : (there : Bool) (n : ℕ) (head : List ℕ) → length head ≡ n +
     → IsCountIf there (cond there (slice_index head n) 0) (drop n head)
 count_front true n head size =
     let one : length (drop n head) ≡ 1 = length-drop n head ∙ omega (arith, size) in
-    one_byte (drop n head) one ∙ ap (λ z. z ∷ []) (get_or-drop n head 0 0 ∙ ap (λ z. slice_index head z) (omega arith))
+    one_number (drop n head) one ∙ ap (λ z. z ∷ []) (get_or-drop n head 0 0 ∙ ap (λ z. slice_index head z) (omega arith))
 count_front false n head size = (refl, no_bytes (drop n head) (length-drop n head ∙ omega (arith, size)))
 
 count_size : (there : Bool) (count : ℕ) (bytes : List ℕ) → IsCountIf there count bytes → length bytes ≡ cond there 1 0

@@ -5,7 +5,7 @@ use Rattle.std.specs.Prelude.{nat_lt, slice_index, Result, IfOk}
 use Rattle.std.proofs.lemmas.List.{take_at}
 use Rattle.pixel_format.specs.Format.{Format, pixel_bytes}
 use Rattle.pixel_format.specs.Reading.{Reading, Got, More, Bad, ◌>>=◌, field, guard}
-use Rattle.pixel_format.proofs.Readings.{field_got, field-whole, true_or_false}
+use Rattle.pixel_format.proofs.Readings.{field_got, field-whole, true_or_false, field_front, one_number}
 use Rattle.hextile.specs.declared.fields.Subrectangle.{Subrectangle}
 use Rattle.hextile.specs.declared.fields.Named.{Named}
 use Rattle.hextile.specs.declared.fault.Measure.{Measure}
@@ -14,7 +14,7 @@ use Rattle.hextile.specs.Tiles.{tile_count, tile_width, tile_height}
 use Rattle.hextile.specs.Grammar.{Tile, Raw, Parts, Fault, Refused, mask_of, is_allowed, colors_of, head_bytes, background_in, foreground_in, count_in, subrectangle_bytes, subrectangle_of, is_inside, subrectangle_at, subrectangles_at, raw_at, parts_at, body_at, tile_at, named_with, tiles_at, data_at}
 use Rattle.hextile.specs.Data.{IsAllowed, LiesWithin, AreBytesOf, AreSubrectangles, AreTiles, IsData, AreData, onto, HasForbidden, HasOutside, IsRefused}
 use Rattle.hextile.specs.Measuring.{measured}
-use Rattle.hextile.proofs.FieldsRead.{field_front, one_byte, head_is, head_again, bytes_of_field, inside_is, names_of, names_more, allowed_is, allowed_again, forbidden_again, refused_is_not_raw}
+use Rattle.hextile.proofs.FieldsRead.{head_is, head_again, bytes_of_field, inside_is, names_of, names_more, allowed_is, allowed_again, forbidden_again, refused_is_not_raw}
 use Rattle.hextile.proofs.TilesRead.{subrectangle_read, subrectangles_refused, mask_first, tile_read, tile_again, data_read, data_again}
 
 -- ---- what a fault was met by
@@ -181,7 +181,7 @@ tile_bad f w h before bytes e =
       | inr b ↦
           let byte = slice_index b.value 0 in
           let k = field_front 1 bytes b.value b.rest (field_got 1 bytes b.value b.rest b.first) in
-          let all : bytes ≡ byte ∷ b.rest = k.0 ∙ ap (λ z. z ++ b.rest) (one_byte b.value k.1) in
+          let all : bytes ≡ byte ∷ b.rest = k.0 ∙ ap (λ z. z ++ b.rest) (one_number b.value k.1) in
           elim (guard_bad (is_allowed named byte (mask_of byte)) Refused (body_at f (mask_of byte) w h b.rest) b.then) [
             | inl forbidden ↦
                 let raw = refused_is_not_raw named byte (mask_of byte) forbidden in

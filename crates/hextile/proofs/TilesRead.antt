@@ -4,14 +4,14 @@ use Rattle.std.specs.Prelude.{slice_index}
 use Rattle.pixel_format.specs.declared.Color.{Color}
 use Rattle.pixel_format.specs.Format.{Format, pixel_bytes}
 use Rattle.pixel_format.specs.Reading.{Got, Bad, ◌>>=◌, field, guard}
-use Rattle.pixel_format.proofs.Readings.{bind_got, guard_got, field_got, field-whole, true_or_false}
+use Rattle.pixel_format.proofs.Readings.{bind_got, guard_got, field_got, field-whole, true_or_false, field_front, one_number}
 use Rattle.hextile.specs.declared.fields.Subrectangle.{Subrectangle}
 use Rattle.hextile.specs.declared.fields.Mask.{Mask}
 use Rattle.hextile.specs.declared.fields.Named.{Named}
 use Rattle.hextile.specs.Tiles.{tile_count, tile_width, tile_height}
 use Rattle.hextile.specs.Grammar.{Tile, Raw, Parts, Fault, Refused, mask_of, is_allowed, colors_of, head_bytes, background_in, foreground_in, count_in, subrectangle_bytes, subrectangle_of, is_inside, subrectangle_at, subrectangles_at, raw_at, parts_at, body_at, tile_at, named_with, tiles_at, data_at}
 use Rattle.hextile.specs.Data.{IsAllowed, LiesWithin, AreBytesOf, AreSubrectangles, IsHead, AreRaw, AreParts, IsTile, AreTiles, IsData}
-use Rattle.hextile.proofs.FieldsRead.{field_front, one_byte, pixels_are, pixels_count, pixels_size, pixels_again, head_is, head_again, bytes_of_field, bytes_length, bytes_subrectangle, within_is, inside_is, outside_is, names_of, names_more, allowed_is, allowed_again, raw_is_allowed}
+use Rattle.hextile.proofs.FieldsRead.{pixels_are, pixels_count, pixels_size, pixels_again, head_is, head_again, bytes_of_field, bytes_length, bytes_subrectangle, within_is, inside_is, outside_is, names_of, names_more, allowed_is, allowed_again, raw_is_allowed}
 use Rattle.hextile.proofs.Steps.{subrectangle_whole}
 
 -- ---- subrectangles
@@ -181,7 +181,7 @@ tile_read f w h before bytes t rest e =
     let byte = slice_index b.value 0 in
     let k = field_front 1 bytes b.value b.rest (field_got 1 bytes b.value b.rest b.first) in
     let g = guard_got (is_allowed named byte (mask_of byte)) Refused (body_at f (mask_of byte) w h b.rest) t rest b.then in
-    let all : bytes ≡ byte ∷ b.rest = k.0 ∙ ap (λ z. z ++ b.rest) (one_byte b.value k.1) in
+    let all : bytes ≡ byte ∷ b.rest = k.0 ∙ ap (λ z. z ++ b.rest) (one_number b.value k.1) in
     let r = body_read f w h byte before b.rest t rest g.0 g.1 in
     record { first = r.first; bytes_are = all ∙ r.bytes_are; is = r.is }
 

@@ -1,7 +1,7 @@
 -- Laws of reading: what a reading that gave a value says of its parts.
-use Rattle.std.proofs.Common.{◌≡◌, ℕ, ◌<◌, ◌≤◌, ◌+◌, ◌⊎◌, inl, inr, Bool, true, false, List, ◌++◌, length, take, drop, nat_lt, ◌-◌, refl, sym, subst, ap, arith}
+use Rattle.std.proofs.Common.{◌≡◌, ℕ, ◌<◌, ◌≤◌, ◌+◌, ◌⊎◌, inl, inr, Bool, true, false, List, [], ◌∷◌, ◌++◌, slice_index, length, take, drop, nat_lt, ◌-◌, refl, sym, subst, ap, arith}
 use Rattle.std.proofs.lemmas.Bool.{ltb-true, ltb-false, le-ltb, lt-ltb}
-use Rattle.std.proofs.lemmas.List.{take-append-le, drop-append-le, take_at, drop_at, take_all, drop_all, append-nil, take-append-drop, append_assoc, length-append}
+use Rattle.std.proofs.lemmas.List.{take-append-le, drop-append-le, take_at, drop_at, take_all, drop_all, append-nil, take-append-drop, length-take-le, append_assoc, length-append}
 use Rattle.std.proofs.Math.Seq.{take-append-add, drop-append-add}
 use Rattle.pixel_format.specs.Reading.{Reading, Got, More, Bad, ◌>>=◌, field, guard, beyond, within, Extends, IsLocal}
 
@@ -43,6 +43,24 @@ field_got n bytes f rest e = elim (true_or_false (nat_lt (length bytes) n)) [
       let b : rest ≡ drop n bytes = cc in
       record { enough = ltb-false (length bytes) n long; is = a; rest_is = b })
 ]
+
+-- a field and what stands behind it
+pub field_front : (n : ℕ) (bytes f rest : List ℕ) → FieldIs n bytes f rest → (bytes ≡ f ++ rest) × (length f ≡ n)
+field_front n bytes f rest is =
+    (rw (is.is, is.rest_is) (sym (take-append-drop n bytes)), rw is.is (length-take-le n bytes is.enough))
+
+-- a list of so many numbers
+pub one_number : (f : List ℕ) → length f ≡ 1 → f ≡ slice_index f 0 ∷ []
+one_number [] e = absurd (omega arith)
+one_number (a ∷ []) e = refl
+one_number (a ∷ b ∷ f) e = absurd (omega arith)
+
+pub three_numbers : (f : List ℕ) → length f ≡ 3 → f ≡ slice_index f 0 ∷ slice_index f 1 ∷ slice_index f 2 ∷ []
+three_numbers [] e = absurd (omega arith)
+three_numbers (a ∷ []) e = absurd (omega arith)
+three_numbers (a ∷ b ∷ []) e = absurd (omega arith)
+three_numbers (a ∷ b ∷ c ∷ []) e = refl
+three_numbers (a ∷ b ∷ c ∷ d ∷ f) e = absurd (omega arith)
 
 -- what was read within a limit was read of the bytes up to the limit
 pub record Within {A E : Type 0} (limit : ℕ) (read : List ℕ → Reading A E) (bytes : List ℕ) (x : A) (after : List ℕ) : Type 0 where

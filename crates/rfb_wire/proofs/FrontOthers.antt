@@ -8,10 +8,10 @@ use Rattle.rfb_wire.specs.Grammar.{message_at, other_at, Recorded, ReadOver, col
 use Rattle.rfb_wire.specs.Plain.{kind_of, Says}
 use Rattle.std.specs.Prelude.{MatchOption, if◌then◌else◌}
 use Rattle.std.proofs.lemmas.List.{drop_at, take_at}
-use Rattle.pixel_format.proofs.Readings.{bind_got, field_got, true_or_false}
+use Rattle.pixel_format.proofs.Readings.{bind_got, field_got, true_or_false, field_front, one_number}
 use Rattle.pixel_format.specs.Number.{u16_at, u32_at}
-use Rattle.rfb_wire.proofs.Others.{field_front, other_read, other_of_bell, other_of_text, text_again}
-use Rattle.rfb_wire.proofs.Messages.{one_number, other_is_read}
+use Rattle.rfb_wire.proofs.Others.{other_read, other_of_bell, other_of_text, text_again}
+use Rattle.rfb_wire.proofs.Messages.{other_is_read}
 
 pub map_head_short : (bytes : List ℕ) → field {E = WireFault} 5 bytes ≡ More → color_map_at bytes ≡ More
 unfolding color_map_at

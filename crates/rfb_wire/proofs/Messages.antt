@@ -3,7 +3,7 @@ use Rattle.std.proofs.Common.{◌≡◌, ℕ, zero, suc, ◌+◌, ◌*◌, ◌�
 use Rattle.std.specs.Prelude.{if◌then◌else◌}
 use Rattle.std.proofs.lemmas.List.{length-drop, take_all, append-nil}
 use Rattle.pixel_format.specs.Reading.{Got, ◌>>=◌, field, guard, within}
-use Rattle.pixel_format.proofs.Readings.{bind_got, guard_got, field_got, field-whole, within_got, within-short, true_or_false}
+use Rattle.pixel_format.proofs.Readings.{bind_got, guard_got, field_got, field-whole, within_got, within-short, true_or_false, field_front, one_number, three_numbers}
 use Rattle.client_wire.specs.declared.message.Area.{Area}
 use Rattle.rfb_wire.specs.declared.message.Rectangle.{Rectangle}
 use Rattle.pixel_format.specs.Format.{host_format}
@@ -16,7 +16,7 @@ use Rattle.client_wire.specs.declared.fault.WireFault.{WireFault}
 use Rattle.client_wire.specs.declared.fault.WireFault.TheVariants as faults
 use Rattle.rfb_wire.specs.Grammar.{area_of, encoding_number, content_at, encoded_at, rectangle_at, rectangles_at, update_at, message_at, other_at, Recorded}
 use Rattle.rfb_wire.specs.Message.{IsRectangle, AreRectangles, IsUpdate, IsMessage}
-use Rattle.rfb_wire.proofs.Others.{field_front, TextRead, other_read, other_of_bell, other_of_text, text_again}
+use Rattle.rfb_wire.proofs.Others.{TextRead, other_read, other_of_bell, other_of_text, text_again}
 
 -- data that are read, and the rectangle that they end
 record ContentRead (width height : ℕ) (encoding : Encoding) (area : Area) (at : ℕ) (bytes : List ℕ) (r : Rectangle) (rest : List ℕ) : Type 0 where
@@ -120,19 +120,6 @@ rectangles_read width height (suc count) at bytes rs rest e =
       count_is = ap suc others.count_is;
       are = (r.first, others.body, refl, r.is, others.are);
     })
-
--- a list of so many numbers
-pub one_number : (f : List ℕ) → length f ≡ 1 → f ≡ slice_index f 0 ∷ []
-one_number [] e = absurd (omega arith)
-one_number (a ∷ []) e = refl
-one_number (a ∷ b ∷ f) e = absurd (omega arith)
-
-three_numbers : (f : List ℕ) → length f ≡ 3 → f ≡ slice_index f 0 ∷ slice_index f 1 ∷ slice_index f 2 ∷ []
-three_numbers [] e = absurd (omega arith)
-three_numbers (a ∷ []) e = absurd (omega arith)
-three_numbers (a ∷ b ∷ []) e = absurd (omega arith)
-three_numbers (a ∷ b ∷ c ∷ []) e = refl
-three_numbers (a ∷ b ∷ c ∷ d ∷ f) e = absurd (omega arith)
 
 nothing_behind : (a b : List ℕ) → a ++ b ≡ [] → (a ≡ []) × (b ≡ [])
 nothing_behind [] b e = (refl, e)

@@ -4,17 +4,12 @@ use Rattle.std.specs.Prelude.{nat_lt, if◌then◌else◌}
 use Rattle.std.proofs.lemmas.Bool.{ltb-false, lt-ltb, le-ltb}
 use Rattle.std.proofs.lemmas.List.{append-nil, take-append-drop, length-take-le}
 use Rattle.pixel_format.specs.Reading.{Got, Bad, field}
-use Rattle.pixel_format.proofs.Readings.{bind_got, FieldIs, field_got, field-whole, true_or_false}
+use Rattle.pixel_format.proofs.Readings.{bind_got, FieldIs, field_got, field-whole, true_or_false, field_front}
 use Rattle.pixel_format.specs.Number.{u16_at, u32_at}
 use Rattle.rfb_wire.specs.declared.message.Rectangle.{Rectangle}
 use Rattle.client_wire.specs.declared.fault.WireFault.{WireFault}
 use Rattle.client_wire.specs.declared.fault.WireFault.TheVariants as faults
 use Rattle.rfb_wire.specs.Grammar.{Recorded, ReadOver, other_at, color_map_at, text_at, text_data_at, read_over, text_limit}
-
--- a field and what stands behind it
-pub field_front : (n : ℕ) (bytes f rest : List ℕ) → FieldIs n bytes f rest → (bytes ≡ f ++ rest) × (length f ≡ n)
-field_front n bytes f rest is =
-    (rw (is.is, is.rest_is) (sym (take-append-drop n bytes)), rw is.is (length-take-le n bytes is.enough))
 
 over_never : (n : ℕ) (bytes : List ℕ) (rs : List Rectangle) (rest : List ℕ) → read_over n bytes ≡ Got (Recorded rs) rest → ⊥
 unfolding read_over

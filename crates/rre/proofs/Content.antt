@@ -6,7 +6,7 @@ use Rattle.std.proofs.lemmas.List.{length-take-le, length-drop, take-append-drop
 use Rattle.pixel_format.specs.Format.{Format, pixel_bytes}
 use Rattle.pixel_format.specs.Pixel.{pixel_color}
 use Rattle.pixel_format.specs.Reading.{Got, Bad, ◌>>=◌, field, guard}
-use Rattle.pixel_format.proofs.Readings.{bind_got, guard_got, FieldIs, field_got, field-whole, true_or_false}
+use Rattle.pixel_format.proofs.Readings.{bind_got, guard_got, FieldIs, field_got, field-whole, true_or_false, field_front}
 use Rattle.pixel_format.specs.Number.{u32_at}
 use Rattle.rre.specs.declared.data.Subrectangle.{Subrectangle}
 use Rattle.rre.specs.Grammar.{Content, Fault, Outside, head_bytes, subrectangle_bytes, subrectangle_of, is_inside, subrectangle_at, subrectangles_at, data_at}
@@ -14,11 +14,6 @@ use Rattle.rre.specs.Data.{LiesWithin, AreBytesOf, AreSubrectangles, IsHead, IsD
 use Rattle.rre.proofs.Steps.{subrectangle_whole}
 
 -- ---- fields
-
--- a field and what stands behind it
-pub field_front : (n : ℕ) (bytes f rest : List ℕ) → FieldIs n bytes f rest → (bytes ≡ f ++ rest) × (length f ≡ n)
-field_front n bytes f rest is =
-    (rw (is.is, is.rest_is) (sym (take-append-drop n bytes)), rw is.is (length-take-le n bytes is.enough))
 
 -- a whole field is the bytes of its subrectangle
 pub bytes_of_field : (f : Format) (bytes : List ℕ) → length bytes ≡ subrectangle_bytes f → AreBytesOf f (subrectangle_of f bytes) bytes

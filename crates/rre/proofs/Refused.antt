@@ -5,7 +5,7 @@ use Rattle.std.proofs.lemmas.List.{take_at}
 use Rattle.pixel_format.specs.Format.{Format}
 use Rattle.pixel_format.specs.Pixel.{pixel_color}
 use Rattle.pixel_format.specs.Reading.{Reading, Got, More, Bad, ◌>>=◌, field, guard}
-use Rattle.pixel_format.proofs.Readings.{field_got, true_or_false}
+use Rattle.pixel_format.proofs.Readings.{field_got, true_or_false, field_front}
 use Rattle.pixel_format.specs.Number.{u32_at}
 use Rattle.rre.specs.declared.data.Subrectangle.{Subrectangle}
 use Rattle.rre.specs.declared.fault.Measure.{Measure}
@@ -13,7 +13,7 @@ use Rattle.rre.specs.declared.fault.Measure.TheVariants as answers
 use Rattle.rre.specs.Grammar.{Fault, Outside, head_bytes, subrectangle_bytes, subrectangle_of, is_inside, subrectangle_at, subrectangles_at, data_at}
 use Rattle.rre.specs.Data.{LiesWithin, AreBytesOf, AreSubrectangles, IsData, AreData, IsRefused}
 use Rattle.rre.specs.Measuring.{measured}
-use Rattle.rre.proofs.Content.{field_front, bytes_of_field, inside_is, subrectangle_read, head_is, data_read, data_again, refused_again}
+use Rattle.rre.proofs.Content.{bytes_of_field, inside_is, subrectangle_read, head_is, data_read, data_again, refused_again}
 
 -- ---- what a fault was met by
 
