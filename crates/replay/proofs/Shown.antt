@@ -1,25 +1,15 @@
 -- What a screen shows after more messages, and which message is the next.
-use Rattle.std.proofs.Common.{◌≡◌, ◌<◌, ◌≤◌, ℕ, zero, suc, ◌+◌, ◌-◌, List, [], ◌∷◌, ◌++◌, length, take, min, slice_index, get_or, Some, refl, sym, subst, ◌∙◌, ap, arith, length-append}
-use Rattle.std.specs.List.{AllByRecursion, slice_get}
+use Rattle.std.proofs.Common.{◌≡◌, ◌<◌, ◌≤◌, ℕ, zero, suc, ◌+◌, ◌-◌, List, [], ◌∷◌, ◌++◌, length, take, drop, min, Some, refl, sym, subst, ◌∙◌, ap, arith, length-append}
+use Rattle.std.specs.List.{slice_get}
 use Rattle.std.proofs.lemmas.List.{append_assoc, map-append, take_min}
-use Rattle.std.proofs.lemmas.Option.{slice_get_read, slice_get_within}
 use Rattle.gated_journal.specs.Recording.{Head}
 use Rattle.rfb_wire.specs.Host.{Host}
 use Rattle.painter.specs.Framebuffer.{Framebuffer, SameSize, Shows}
 use Rattle.key_index.specs.declared.entry.Stamped.{Stamped}
-use Rattle.key_index.specs.Entry.{messages_in, IsStampedFor}
-use Rattle.key_index.specs.Index.{start_of, starts_of}
-use Rattle.key_index.specs.Indexed.{Numbers, start_in}
+use Rattle.key_index.specs.Entry.{messages_in}
 use Rattle.key_index.proofs.Indexes.{take_next}
 use Rattle.key_index.proofs.Files.{messages_with}
-use Rattle.key_index.proofs.Openings.{start_from_none}
 use Rattle.replay.specs.Screens.{message_of, hosts_of, IsScreenAt}
-
-pub each_in_front : (width height : ℕ) (ms : List Stamped) (n : ℕ) → AllByRecursion (IsStampedFor width height) ms → AllByRecursion (IsStampedFor width height) (take n ms)
-each_in_front width height [] zero all = tt
-each_in_front width height [] (suc n) all = tt
-each_in_front width height (m ∷ ms) zero all = tt
-each_in_front width height (m ∷ ms) (suc n) all = (all.0, each_in_front width height ms n all.1)
 
 -- one message more is painted
 pub shown_more : (screen : Framebuffer) (before : List Host) (all : List Stamped) (n : ℕ) (s : Stamped) → slice_get all n ≡ Some s
@@ -58,43 +48,16 @@ shown_with_block screen n left shown blocks b ms here rest count shows =
     ∙ ap (λ t. take n before ++ t) (sym (take_min left ms) ∙ ap (λ k. take k ms) (sym count)) in
     subst (λ hosts. Shows screen hosts) (sym (ap hosts_of painted ∙ map-append message_of (take n before) (take shown ms))) shows
 
-get_in_front : {X : Type 0} (xs ys : List X) (n : ℕ) → n < length xs → slice_get (xs ++ ys) n ≡ slice_get xs n
-get_in_front [] ys n within = absurd (omega arith)
-get_in_front (x ∷ xs) ys zero within = refl
-get_in_front (x ∷ xs) ys (suc n) within = get_in_front xs ys n (omega arith)
+-- the message behind the first n, taken off a list of it alone
+only_one : (x s : Stamped) (left : List Stamped) → x ∷ [] ≡ left ++ s ∷ [] → x ≡ s
+only_one x s [] e = cc
+only_one x s (l ∷ left) e = absurd (omega (arith, ap length e, length-append left (s ∷ [])))
 
-get_behind : {X : Type 0} (xs ys : List X) (n : ℕ) → slice_get (xs ++ ys) (length xs + n) ≡ slice_get ys n
-get_behind {X} [] ys n =
-    let same : length {A = X} [] + n ≡ n = omega arith in
-    ap (slice_get ys) same
-get_behind (x ∷ xs) ys n =
-    let more : length (x ∷ xs) + n ≡ suc (length xs + n) = omega arith in
-    ap (slice_get (x ∷ xs ++ ys)) more ∙ get_behind xs ys n
-
--- the messages of a block, among those of all blocks
-pub message_at : (blocks : List (List Stamped)) (b : ℕ) (ms : List Stamped) (place : ℕ) → slice_get blocks b ≡ Some ms → place < length ms
-    → slice_get (messages_in blocks) (start_of blocks b + place) ≡ slice_get ms place
-message_at [] b ms place here within = absurd (cc)
-message_at (q ∷ blocks) zero ms place here within =
-    let same : q ≡ ms = cc in
-    let front : place < length q = omega (arith, ap length same) in
-    let none : start_of (q ∷ blocks) zero + place ≡ place = omega arith in
-    ap (slice_get (q ++ messages_in blocks)) none ∙ get_in_front q (messages_in blocks) place front ∙ ap (λ l. slice_get l place) same
-message_at (q ∷ blocks) (suc b) ms place here within =
-    let more : start_of (q ∷ blocks) (suc b) + place ≡ length q + (start_of blocks b + place) = omega (arith, length-append q (messages_in (take b blocks))) in
-    ap (slice_get (q ++ messages_in blocks)) more ∙ get_behind q (messages_in blocks) (start_of blocks b + place) ∙ message_at blocks b ms place here within
-
--- a message that is read at its place in the block where it stands, by the numbers of a recording
-pub message_by_numbers : (numbers : Numbers) (blocks : List (List Stamped)) (b : ℕ) (ms : List Stamped) (n start : ℕ) (s : Stamped) → numbers.starts ≡ starts_of 0 blocks
-    → numbers.committed ≡ length (messages_in blocks) → slice_get blocks b ≡ Some ms → start ≡ start_in numbers b → start_in numbers b ≤ n → n < start_in numbers (b + 1)
-    → start_in numbers b + length ms ≡ start_in numbers (b + 1) → s ≡ get_or ms (n - start) s → slice_get (messages_in blocks) n ≡ Some s
-message_by_numbers numbers blocks b ms n start s starts committed here begins from until counted read =
-    let within : b < length blocks = slice_get_within blocks b ms here in
-    let inside : n - start < length ms = omega arith in
-    let place : start_in numbers b ≡ start_of blocks b =
-    ap (λ l. slice_index (l ++ numbers.committed ∷ []) b) starts ∙ ap (λ k. slice_index (starts_of 0 blocks ++ k ∷ []) b) committed ∙ start_from_none blocks b (omega arith) in
-    let at : n ≡ start_of blocks b + (n - start) = omega (arith, place) in
-    ap (slice_get (messages_in blocks)) at ∙ message_at blocks b ms (n - start) here inside ∙ slice_get_read ms (length ms) (n - start) s refl inside read
+pub message_behind : (all : List Stamped) (n : ℕ) (s : Stamped) (left read : List Stamped) → read ≡ take 1 (drop n all) → read ≡ left ++ s ∷ [] → slice_get all n ≡ Some s
+message_behind [] zero s left read is popped = absurd (omega (arith, ap length is, ap length popped, length-append left (s ∷ [])))
+message_behind [] (suc n) s left read is popped = absurd (omega (arith, ap length is, ap length popped, length-append left (s ∷ [])))
+message_behind (x ∷ all) zero s left read is popped = ap Some (only_one x s left (sym is ∙ popped))
+message_behind (x ∷ all) (suc n) s left read is popped = message_behind all n s left read is popped
 
 -- the screen after one message more
 pub screen_more : (head : Head) (all : List Stamped) (n : ℕ) (s : Stamped) (old new : Framebuffer) → slice_get all n ≡ Some s → IsScreenAt head all n old → SameSize old new

@@ -1,10 +1,11 @@
 //! Why no screen is answered, with the numbers that programs print.
 
 ghost use Rattle.std.specs.Prelude.{◌≡◌};
-ghost use Rattle.replay.specs.Faults.{replay_number};
+ghost use Rattle.replay.specs.Faults.{replay_number, fault_of_read};
 ghost use Rattle.replay.specs.declared.fault.ReplayFault.TheVariants.{NoMemory as ReplayNoMemory};
 
-use std::alloc::{AllocError, AllocFailed};
+use gated_journal::ReadFault;
+use std::alloc::AllocError;
 use thiserror::Error;
 
 /// Why no screen is answered.
@@ -30,6 +31,17 @@ impl ReplayFault {
             ReplayFault::NotCommitted => 1,
             ReplayFault::Device => 2,
             ReplayFault::NoMemory => 3,
+        }
+    }
+}
+
+impl From<ReadFault> for ReplayFault {
+    ghost from_gives = { λ read fault. fault ≡ fault_of_read read };
+
+    fn from(fault: ReadFault) -> ReplayFault {
+        match fault {
+            ReadFault::NoMemory => ReplayFault::NoMemory,
+            ReadFault::Device => ReplayFault::Device,
         }
     }
 }
