@@ -76,7 +76,7 @@ unfolding raw_at
 raw_read f width height area bytes rest x e =
     let n : ℕ = pixel_bytes f * (area.w * area.h) in
     let b = bind_got (field n bytes) (λ pixels after. Got tt after) x rest e in
-    let p = rre_content.field_front n bytes b.value b.rest (field_got n bytes b.value b.rest b.first) in
+    let p = field_front n bytes b.value b.rest (field_got n bytes b.value b.rest b.first) in
     let last = b.then in
     let rest_is : b.rest ≡ rest = cc in
     record { front = b.value; bytes_are = p.0 ∙ ap (λ z. b.value ++ z) rest_is; is = p.1 }
@@ -86,7 +86,7 @@ copy_read : (f : Format) (width height : ℕ) (area : Area) (bytes rest : List �
 unfolding copy_at
 copy_read f width height area bytes rest x e =
     let b = bind_got (field 4 bytes) (λ place after. guard (is_inside width height (source_of area place)) faults.SourceOutside (Got tt after)) x rest e in
-    let p = rre_content.field_front 4 bytes b.value b.rest (field_got 4 bytes b.value b.rest b.first) in
+    let p = field_front 4 bytes b.value b.rest (field_got 4 bytes b.value b.rest b.first) in
     let g = guard_got (is_inside width height (source_of area b.value)) faults.SourceOutside (Got tt b.rest) x rest b.then in
     let last = g.1 in
     let rest_is : b.rest ≡ rest = cc in
