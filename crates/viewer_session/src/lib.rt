@@ -4,14 +4,13 @@
 
 mod bits;
 mod fault;
+mod greeting;
 mod handshake;
 mod places;
+mod progress;
+mod session;
 mod view;
 
 pub use fault::SessionFault;
 pub use handshake::is_whole;
-pub use places::Places;
-pub use view::View;
-
-#[cfg(test)]
-mod tests;
+pub use session::Session;
