@@ -5,3 +5,5 @@ pub mod Answered
 pub mod Asked
 pub mod Handshakes
 pub mod Streams
+pub mod Pieces
+pub mod Same

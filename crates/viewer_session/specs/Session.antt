@@ -24,6 +24,12 @@ pub record Session : Type 0 where
   pub view : View
   pub fault : Option SessionFault
 
+-- both tell a viewer the same
+pub record AreAlike (s t : Session) : Type 0 where
+  pub width : s.width ≡ t.width
+  pub height : s.height ≡ t.height
+  pub name : s.name ≡ t.name
+
 -- A session that has got this stream, in which nothing is refused: these are its messages, and of
 -- what the handshake is answered with this was put out, and the rest is due.
 abbrev pub IsAfter : Session → List ℕ → List ClientMessage → List ℕ → Type 0

@@ -6,6 +6,7 @@ mod bits;
 mod fault;
 mod greeting;
 mod handshake;
+mod laws;
 mod places;
 mod progress;
 mod session;
@@ -13,4 +14,8 @@ mod view;
 
 pub use fault::SessionFault;
 pub use handshake::is_whole;
+pub use laws::{a_refused_stream_is_not_followed, any_cut_gives_the_same};
 pub use session::Session;
+
+#[cfg(test)]
+mod tests;

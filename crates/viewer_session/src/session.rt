@@ -21,6 +21,9 @@ use rect_codec::Encoding;
 use std::alloc::Global;
 use std::marker::Model;
 
+// Messages are taken of so many bytes at a time, so that those of a long piece need no more memory.
+const PART: usize = 1024;
+
 /// The recorder's side of a connection to a viewer (RFC 6143, sections 7.1 to 7.6), without a
 /// socket. It is fed the viewer's bytes in pieces of any length, is lent slices of a recording, and
 /// gives the bytes that are due to the viewer.
@@ -87,6 +90,34 @@ impl Session {
         })
     }
 
+    // Takes a part of a piece.
+    fn feed_part(&mut self, piece: &[u8]) -> Result<(), SessionFault>
+        requires { self.old.fault ≡ None }
+        ensures goes { OnOk result ((stream told : List ℕ) → (messages : List ClientMessage)
+            → IsAfter self.old stream messages told
+            → Fed self.old self.new (stream ++ piece.now) messages told) }
+        ensures faults { IfErr result (λ f. (stream told : List ℕ)
+            → (messages : List ClientMessage) → IsAfter self.old stream messages told
+            → Stopped self.old self.new (stream ++ piece.now) messages told f) }
+        ensures going { OnOk result (self.new.fault ≡ None) }
+        ensures stopped { IfErr result (λ f. self.new.fault ≡ Some f) }
+        ensures right { (head : Head) → (seen : Picture) → (list : List Stamped)
+            → IsRight head self.old.view seen list → IsRight head self.new.view seen list }
+        ensures screen { self.new.view.screen ≡ self.old.view.screen }
+        ensures position { self.new.view.position ≡ self.old.view.position }
+        ensures told { (self.new.width ≡ self.old.width) × (self.new.height ≡ self.old.height)
+            × (self.new.name ≡ self.old.name) }
+    {
+        let mut messages = Vec::new(self.alloc);
+        let heard = self.progress.feed(self.alloc, piece, &mut messages);
+        take_all(&mut self.view, messages);
+        if let Err(fault) = heard {
+            self.fault = Some(fault);
+            return Err(fault);
+        }
+        Ok(())
+    }
+
     /// Takes the next piece of the viewer's stream, and what its messages ask for. A fault is
     /// answered at the last byte of the field that holds it, once the messages before it are taken;
     /// from then on each call answers the same fault and does nothing else, also where memory ran
@@ -114,12 +145,11 @@ impl Session {
         if let Some(fault) = self.fault {
             return Err(fault);
         }
-        let mut messages = Vec::new(self.alloc);
-        let heard = self.progress.feed(self.alloc, piece, &mut messages);
-        take_all(&mut self.view, messages);
-        if let Err(fault) = heard {
-            self.fault = Some(fault);
-            return Err(fault);
+        let mut rest = piece;
+        'parts: while !rest.is_empty() {
+            let (part, behind) = rest.split_at(rest.len().min(PART));
+            self.feed_part(part)?;
+            rest = behind;
         }
         Ok(())
     }
