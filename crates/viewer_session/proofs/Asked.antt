@@ -1,11 +1,12 @@
 -- What a viewer asks for.
-use Rattle.std.proofs.Common.{◌≡◌, ℕ, ◌+◌, ◌-◌, ◌<◌, ◌≤◌, inl, inr, Bool, true, false, List, sym, ap, ◌∙◌, subst, arith}
+use Rattle.std.proofs.Common.{◌≡◌, ℕ, ◌+◌, ◌-◌, ◌<◌, ◌≤◌, inl, inr, Bool, true, false, List, [], ◌∷◌, ◌++◌, refl, sym, ap, ◌∙◌, subst, arith}
 use Rattle.std.specs.Prelude.{ℤ, not, ◌||◌, ◌&&◌, min, max, Option, Some}
 use Rattle.std.proofs.lemmas.Bool.{cases_lt}
 use Rattle.pixel_format.specs.Format.{Format}
 use Rattle.pixel_format.specs.Canvas.{Picture}
 use Rattle.replay.specs.Screens.{IsScreenAt}
 use Rattle.client_wire.specs.declared.message.Area.{Area}
+use Rattle.client_wire.specs.declared.message.ClientMessage.{ClientMessage}
 use Rattle.rect_codec.specs.Picture.{is_in}
 use Rattle.rect_codec.specs.declared.encoding.Encoding.{Encoding}
 use Rattle.gated_journal.specs.Recording.{Head}
@@ -13,7 +14,7 @@ use Rattle.key_index.specs.declared.entry.Stamped.{Stamped}
 use Rattle.painter.proofs.Places.{in_is, is_in_true}
 use Rattle.viewer_session.specs.Places.{PlaceSet, holds, IsSmallest}
 use Rattle.viewer_session.specs.declared.view.View.{View}
-use Rattle.viewer_session.specs.View.{IsRight, IsPart, IsCut, IsAsked, IsReformatted, IsReencoded, is_left, is_pending, stale_at}
+use Rattle.viewer_session.specs.View.{IsRight, IsPart, IsCut, IsAsked, IsReformatted, IsReencoded, IsTaken, AreTaken, is_left, is_pending, stale_at}
 use Rattle.viewer_session.proofs.BitSets.{or_left, or_right, or_parts}
 use Rattle.viewer_session.proofs.PlaceSets.{same_smallest}
 use Rattle.viewer_session.proofs.Views.{neither}
@@ -139,3 +140,8 @@ right_reformatted head old new f seen messages is right = record {
   shows = subst (λ (v : View). IsScreenAt head messages v.position v.screen) (sym is.kept) right.shows;
   converts = λ x y across down clean. let stale = is.stale x y across down in absurd (cc);
 }
+
+-- one message more
+pub taken_more : (old mid new : View) (ms : List ClientMessage) (m : ClientMessage) → AreTaken old mid ms → IsTaken mid new m → AreTaken old new (ms ++ m ∷ [])
+taken_more old mid new [] m taken last = (new, subst (λ (v : View). IsTaken v new m) taken last, refl)
+taken_more old mid new (n ∷ ms) m taken last = (taken.0, taken.1, taken_more taken.0 mid new ms m taken.2 last)

@@ -3,4 +3,7 @@ pub mod PlaceSets
 pub mod Views
 pub mod Answered
 pub mod Asked
-pub mod Greeting
+pub mod Handshakes
+pub mod Streams
+pub mod Pieces
+pub mod Same

@@ -5,3 +5,8 @@ pub mod Places
 pub mod View
 pub mod Fault
 pub mod Handshake
+pub mod Stage
+pub mod Greeting
+pub mod Stream
+pub mod Progress
+pub mod Session

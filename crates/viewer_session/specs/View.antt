@@ -124,6 +124,11 @@ IsTaken old new (messages.SetEncodings numbers) = IsReencoded old new numbers
 IsTaken old new (messages.Request incremental x y w h) = IsAsked old new incremental (record { x = x; y = y; w = w; h = h })
 IsTaken old new (messages.Input kind) = new ≡ old
 
+-- what messages change, one behind another
+abbrev pub AreTaken : View → View → List ClientMessage → Type 0
+AreTaken old new [] = new ≡ old
+AreTaken old new (m ∷ ms) = (v : View) × IsTaken old v m × AreTaken v new ms
+
 -- An update is due: a start has come, and a place that is asked for is stale.
 pub record IsDue (v : View) : Type 0 where
   pub started : v.started ≡ true

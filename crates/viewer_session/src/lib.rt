@@ -4,14 +4,18 @@
 
 mod bits;
 mod fault;
+mod greeting;
 mod handshake;
+mod laws;
 mod places;
+mod progress;
+mod session;
 mod view;
 
 pub use fault::SessionFault;
 pub use handshake::is_whole;
-pub use places::Places;
-pub use view::View;
+pub use laws::{a_refused_stream_is_not_followed, any_cut_gives_the_same};
+pub use session::Session;
 
 #[cfg(test)]
 mod tests;

@@ -14,7 +14,7 @@ ghost use Rattle.key_index.specs.declared.entry.Stamped.{Stamped};
 ghost use Rattle.replay.specs.Screens.{hosts_of};
 ghost use Rattle.broadcast.specs.Headline.{Stands};
 ghost use Rattle.viewer_session.specs.Places.{holds, AreJust, SameSize, IsSmallest};
-ghost use Rattle.viewer_session.specs.View.{IsRight, IsSound, IsNext, AreStale, stale_at, is_stale_after, is_there, is_touched, is_touched_by, is_pending, IsDue, IsDueIn, IsPart, IsCut, IsAsked, IsTaken, Answers, IsOne, AreConverted};
+ghost use Rattle.viewer_session.specs.View.{IsRight, IsSound, IsNext, AreStale, stale_at, is_stale_after, is_there, is_touched, is_touched_by, is_pending, IsDue, IsDueIn, IsPart, IsCut, IsAsked, IsTaken, AreTaken, Answers, IsOne, AreConverted};
 
 use crate::places::Places;
 use client_wire::{Area, ClientMessage};
@@ -282,5 +282,20 @@ impl View {
             } => self.ask(incremental, Area { x, y, w, h }),
             ClientMessage::Input(_) => {}
         }
+    }
+}
+
+/// Takes messages of the viewer, one behind another. It takes no memory.
+pub fn take_all(view: &mut View, messages: Vec<ClientMessage>)
+    requires { IsSound view.old }
+    ensures sound { IsSound view.new }
+    ensures taken { AreTaken view.old view.new messages.items }
+    ensures screen { view.new.screen ≡ view.old.screen }
+    ensures position { view.new.position ≡ view.old.position }
+    ensures right { (head : Head) → (seen : Picture) → (list : List Stamped)
+        → IsRight head view.old seen list → IsRight head view.new seen list }
+{
+    for message in messages {
+        view.take(message);
     }
 }

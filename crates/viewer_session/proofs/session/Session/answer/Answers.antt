@@ -1,0 +1,12 @@
+use Rattle.std.proofs.Common.{List, ℕ, subst}
+use Rattle.pixel_format.specs.Appending.{Appends}
+use Rattle.viewer_session.specs.View.{Answers, IsOne}
+use Rattle.viewer_session.proofs.session.Session.answer.Goals as goal
+
+pub returns-clause-due : goal.returns-clause-due
+returns-clause-due c = rw (← c.self.view_is) (λ due.
+    subst (λ (o : List ℕ). Appends (Answers c.self.inside.view c.answer.new.self) o c.answer.new.out.items) c.in_ok-sent.ensures.ok (c.in_default.ensures.due due))
+
+pub returns-clause-one : goal.returns-clause-one
+returns-clause-one c = rw (← c.self.view_is) (λ due.
+    subst (λ (o : List ℕ). Appends (IsOne c.self.inside.view) o c.answer.new.out.items) c.in_ok-sent.ensures.ok (c.in_default.ensures.one due))

@@ -1,0 +1,49 @@
+use Rattle.std.proofs.Common.{◌≡◌, ◌++◌, List, ℕ, ◌∙◌, take, drop, sym, ap, subst, append_assoc}
+use Rattle.std.proofs.lemmas.List.{take-append-drop}
+use Rattle.std.proofs.lemmas.Result.{err_from_is_err_and}
+use Rattle.viewer_session.specs.Session.{Stopped}
+use Rattle.viewer_session.proofs.Pieces.{fed_more, fed_stopped}
+use Rattle.viewer_session.proofs.session.Session.feed.Goals as goal
+
+-- a part and what is behind it
+split : (n : ℕ) (rest part behind : List ℕ) → part ≡ take n rest → behind ≡ drop n rest → rest ≡ part ++ behind
+split n rest part behind front back =
+    sym (take-append-drop n rest) ∙ ap (λ (z : List ℕ). z ++ drop n rest) (sym front) ∙ ap (λ (z : List ℕ). part ++ z) (sym back)
+
+pub parts-preserved : goal.parts-preserved
+parts-preserved c =
+    let inv = c.parts.invariant in
+    let part = c.split_at.result.0.now in
+    let behind = c.split_at.result.1.now in
+    let is = split c.min.result c.parts.rest.now part behind c.split_at.ensures.front c.split_at.ensures.back in
+    let now = c.in_ok-feed_part.ensures in
+    record {
+      front = inv.front ++ part;
+      piece = inv.piece ∙ ap (λ (z : List ℕ). inv.front ++ z) is ∙ sym (append_assoc inv.front part behind);
+      going = now.going;
+      fed = λ stream told messages h.
+          fed_more c.args.self.now c.parts.self c.feed_part.new.self stream inv.front part told messages (inv.fed stream told messages h) (λ s t ms k. now.goes s t ms k);
+      right = λ head seen list r. now.right head seen list (inv.right head seen list r);
+      screen = now.screen ∙ inv.screen;
+      position = now.position ∙ inv.position;
+      width = now.told.0 ∙ inv.width;
+      height = now.told.1 ∙ inv.height;
+      name = now.told.2 ∙ inv.name;
+    }
+
+pub returns-in_err-feed_part-clause-right : goal.returns-in_err-feed_part-clause-right
+returns-in_err-feed_part-clause-right c = λ head seen list r. c.in_err-feed_part.ensures.right head seen list (c.parts.invariant.right head seen list r)
+
+pub returns-in_err-feed_part-clause-faults : goal.returns-in_err-feed_part-clause-faults
+returns-in_err-feed_part-clause-faults c =
+    let p = err_from_is_err_and c.from_residual.result c.from_residual.ensures.1 in
+    let inv = c.parts.invariant in
+    let part = c.split_at.result.0.now in
+    let behind = c.split_at.result.1.now in
+    let is = split c.min.result c.parts.rest.now part behind c.split_at.ensures.front c.split_at.ensures.back in
+    let all = inv.piece ∙ ap (λ (z : List ℕ). inv.front ++ z) is in
+    let f = c.in_err-feed_part.field-0.0 in
+    rw (p.1, p.2) (λ going stream told messages h.
+    subst (λ (z : List ℕ). Stopped c.args.self.now c.feed_part.new.self (stream ++ z) messages told f) (sym all)
+    (fed_stopped c.args.self.now c.parts.self c.feed_part.new.self stream inv.front part behind told messages f (inv.fed stream told messages h)
+    (λ s t ms k. c.in_err-feed_part.ensures.faults s t ms k)))

@@ -1,0 +1,233 @@
+//! The session with a viewer.
+
+ghost use Rattle.std.specs.Prelude.{◌≡◌, ℕ, ◌<◌, ◌^◌, ◌+◌, ◌||◌, List, ◌++◌, [], length, true, false, IfOk, IfErr, OnOk, OnErr, None, Some, Ok, Err};
+ghost use Rattle.pixel_format.specs.Canvas.{Picture};
+ghost use Rattle.pixel_format.specs.Format.{host_format};
+ghost use Rattle.pixel_format.specs.Appending.{Appends};
+ghost use Rattle.gated_journal.specs.Recording.{Head};
+ghost use Rattle.key_index.specs.declared.entry.Stamped.{Stamped};
+ghost use Rattle.broadcast.specs.Headline.{Stands};
+ghost use Rattle.client_wire.specs.declared.message.ClientMessage.{ClientMessage};
+ghost use Rattle.viewer_session.specs.View.{IsRight, IsNext, AreStale, stale_at, is_stale_after, is_there, IsDue, Answers, IsOne};
+ghost use Rattle.viewer_session.specs.Session.{IsAfter, Fed, Stopped, closed_by};
+
+use crate::fault::SessionFault;
+use crate::greeting::Greeting;
+use crate::progress::Progress;
+use crate::view::{View, take_all};
+use flusher_core::Slice;
+use pixel_format::NoMemory;
+use rect_codec::Encoding;
+use std::alloc::Global;
+use std::marker::Model;
+
+// Messages are taken of so many bytes at a time, so that those of a long piece need no more memory.
+const PART: usize = 1024;
+
+/// The recorder's side of a connection to a viewer (RFC 6143, sections 7.1 to 7.6), without a
+/// socket. It is fed the viewer's bytes in pieces of any length, is lent slices of a recording, and
+/// gives the bytes that are due to the viewer.
+#[derive(Drop)]
+pub struct Session {
+    alloc: Global,
+    progress: Progress,
+    view: View,
+    fault: Option<SessionFault>,
+}
+
+impl Model for Session {
+    ghost use Rattle.std.specs.Prelude.{drop};
+    ghost use Rattle.viewer_session.specs.Session.{Session, IsSoundSession};
+    ghost use Rattle.viewer_session.specs.Progress.{due_by};
+
+    ghost Value = { Session };
+
+    ghost view = { λ s. record {
+      width = s.progress.greeting.width;
+      height = s.progress.greeting.height;
+      name = s.progress.greeting.name.items;
+      heard = s.progress.greeting.heard.items;
+      due = due_by s.progress.greeting;
+      reader = s.progress.reader;
+      view = s.view;
+      fault = s.fault;
+    } };
+
+    ghost invariant = { λ s. IsSoundSession s.progress s.view s.fault };
+}
+
+impl Session {
+    /// A session at the start of a viewer's stream, for a screen of this size, in places, and a
+    /// name: black, before the first message, in the host format and Raw, with all places stale.
+    pub fn new(alloc: Global, width: u16, height: u16, name: &[u8]) -> Result<Session, NoMemory>
+        requires { length name.now < 2 ^ 32 }
+        ensures after { IfOk result (λ s. IsAfter s [] [] []) }
+        ensures told { IfOk result (λ s. (s.width ≡ width) × (s.height ≡ height)
+            × (s.name ≡ name.now)) }
+        ensures going { IfOk result (λ s. s.fault ≡ None) }
+        ensures size { IfOk result (λ s. (s.view.screen.width ≡ width)
+            × (s.view.screen.height ≡ height)) }
+        ensures stale { IfOk result (λ s. AreStale s.view (λ x y. true)) }
+        ensures format { IfOk result (λ s. s.view.format ≡ host_format) }
+        ensures encoding { IfOk result (λ s. s.view.encoding ≡ Encoding.Raw) }
+        ensures position { IfOk result (λ s. s.view.position ≡ 0) }
+        ensures started { IfOk result (λ s. s.view.started ≡ false) }
+        ensures pending { IfOk result (λ s. s.view.pending ≡ None) }
+        ensures right { IfOk result (λ s. (head : Head) → head.width ≡ width
+            → head.height ≡ height → (seen : Picture) → (messages : List Stamped)
+            → IsRight head s.view seen messages) }
+    {
+        let view = View::new(alloc, width, height)?;
+        let name = Vec::from_slice(alloc, name)?;
+        Ok(Session {
+            alloc,
+            progress: Progress {
+                greeting: Greeting::new(width, height, name),
+                reader: None,
+            },
+            view,
+            fault: None,
+        })
+    }
+
+    // Takes a part of a piece.
+    fn feed_part(&mut self, piece: &[u8]) -> Result<(), SessionFault>
+        requires { self.old.fault ≡ None }
+        ensures goes { OnOk result ((stream told : List ℕ) → (messages : List ClientMessage)
+            → IsAfter self.old stream messages told
+            → Fed self.old self.new (stream ++ piece.now) messages told) }
+        ensures faults { IfErr result (λ f. (stream told : List ℕ)
+            → (messages : List ClientMessage) → IsAfter self.old stream messages told
+            → Stopped self.old self.new (stream ++ piece.now) messages told f) }
+        ensures going { OnOk result (self.new.fault ≡ None) }
+        ensures stopped { IfErr result (λ f. self.new.fault ≡ Some f) }
+        ensures right { (head : Head) → (seen : Picture) → (list : List Stamped)
+            → IsRight head self.old.view seen list → IsRight head self.new.view seen list }
+        ensures screen { self.new.view.screen ≡ self.old.view.screen }
+        ensures position { self.new.view.position ≡ self.old.view.position }
+        ensures told { (self.new.width ≡ self.old.width) × (self.new.height ≡ self.old.height)
+            × (self.new.name ≡ self.old.name) }
+    {
+        let mut messages = Vec::new(self.alloc);
+        let heard = self.progress.feed(self.alloc, piece, &mut messages);
+        take_all(&mut self.view, messages);
+        if let Err(fault) = heard {
+            self.fault = Some(fault);
+            return Err(fault);
+        }
+        Ok(())
+    }
+
+    /// Takes the next piece of the viewer's stream, and what its messages ask for. A fault is
+    /// answered at the last byte of the field that holds it, once the messages before it are taken;
+    /// from then on each call answers the same fault and does nothing else, also where memory ran
+    /// out.
+    pub fn feed(&mut self, piece: &[u8]) -> Result<(), SessionFault>
+        // Whatever stream the session has got, it has got the piece too, and goes on.
+        ensures goes { OnOk result ((stream told : List ℕ) → (messages : List ClientMessage)
+            → IsAfter self.old stream messages told
+            → Fed self.old self.new (stream ++ piece.now) messages told) }
+        // A fault stands in the stream.
+        ensures faults { IfErr result (λ f. self.old.fault ≡ None → (stream told : List ℕ)
+            → (messages : List ClientMessage) → IsAfter self.old stream messages told
+            → Stopped self.old self.new (stream ++ piece.now) messages told f) }
+        ensures going { OnOk result (self.new.fault ≡ None) }
+        ensures stopped { IfErr result (λ f. self.new.fault ≡ Some f) }
+        ensures for_good { (f : SessionFault) → self.old.fault ≡ Some f
+            → (result ≡ Err f) × (self.new ≡ self.old) }
+        ensures right { (head : Head) → (seen : Picture) → (list : List Stamped)
+            → IsRight head self.old.view seen list → IsRight head self.new.view seen list }
+        ensures screen { self.new.view.screen ≡ self.old.view.screen }
+        ensures position { self.new.view.position ≡ self.old.view.position }
+        ensures told { (self.new.width ≡ self.old.width) × (self.new.height ≡ self.old.height)
+            × (self.new.name ≡ self.old.name) }
+    {
+        if let Some(fault) = self.fault {
+            return Err(fault);
+        }
+        let mut rest = piece;
+        'parts: while !rest.is_empty() {
+            let (part, behind) = rest.split_at(rest.len().min(PART));
+            self.feed_part(part)?;
+            rest = behind;
+        }
+        Ok(())
+    }
+
+    /// How many messages of the recording the session's screen shows.
+    pub fn position(&self) -> u64
+        ensures { result ≡ self.now.view.position }
+    {
+        self.view.position
+    }
+
+    /// Goes on by a slice of the session's size, from its start or from the session's position. It
+    /// takes no memory.
+    pub fn advance(&mut self, slice: &Slice)
+        requires { IsNext self.old.view slice.now }
+        ensures right { (head : Head) → (seen : Picture) → (messages : List Stamped)
+            → IsRight head self.old.view seen messages → Stands head messages slice.now
+            → IsRight head self.new.view seen messages }
+        ensures stale { AreStale self.new.view
+            (λ x y. is_stale_after slice.now x y || stale_at self.old.view x y) }
+        ensures position { self.new.view.position
+            ≡ slice.now.first + length slice.now.messages.items }
+        ensures started { self.new.view.started
+            ≡ (is_there slice.now.start || self.old.view.started) }
+        ensures size { (self.new.view.screen.width ≡ self.old.view.screen.width)
+            × (self.new.view.screen.height ≡ self.old.view.screen.height) }
+        ensures asked { (self.new.view.format ≡ self.old.view.format)
+            × (self.new.view.encoding ≡ self.old.view.encoding)
+            × (self.new.view.pending ≡ self.old.view.pending) }
+        ensures kept { self.new ≡ record self.old { view = self.new.view } }
+    {
+        self.view.advance(slice);
+    }
+
+    /// Whether the viewer asks for an area.
+    pub fn wants(&self) -> bool
+        ensures { result ≡ is_there self.now.view.pending }
+    {
+        self.view.pending.is_some()
+    }
+
+    /// Appends the handshake's answers that are due, each byte once, and then the update that is
+    /// due, whose places are taken as clean. Want of memory changes nothing. After a fault it still
+    /// gives what was due.
+    pub fn answer(&mut self, out: &mut Vec<u8>) -> Result<(), NoMemory>
+        ensures due { OnOk result (IsDue self.old.view
+            → Appends (Answers self.old.view self.new.view)
+            (out.old.items ++ self.old.due) out.new.items) }
+        ensures one { OnOk result (IsDue self.old.view
+            → Appends (IsOne self.old.view) (out.old.items ++ self.old.due) out.new.items) }
+        ensures none { OnOk result ((IsDue self.old.view → ⊥)
+            → (out.new.items ≡ out.old.items ++ self.old.due)
+            × (self.new.view ≡ self.old.view)) }
+        ensures err { OnErr result ((out.new.items ≡ out.old.items) × (self.new ≡ self.old)) }
+        ensures screen { self.new.view.screen ≡ self.old.view.screen }
+        ensures position { self.new.view.position ≡ self.old.view.position }
+        ensures kept { OnOk result (self.new ≡ record self.old { due = []; view = self.new.view }) }
+        // What was due of the handshake's answers is told now.
+        ensures after { OnOk result ((stream told : List ℕ) → (messages : List ClientMessage)
+            → IsAfter self.old stream messages told
+            → IsAfter self.new stream messages (told ++ self.old.due)) }
+    {
+        let start = out.len();
+        let sent = self.progress.greeting.write_due(self.alloc, out)?;
+        if let Err(refusal) = self.view.answer(self.alloc, out) {
+            out.truncate(start);
+            return Err(refusal);
+        }
+        self.progress.greeting.settle(sent);
+        Ok(())
+    }
+
+    /// Ends the session: from now on `feed` answers `Closed`, where it met no fault before.
+    pub fn close(&mut self)
+        ensures { self.new ≡ record self.old { fault = Some (closed_by self.old.fault) } }
+    {
+        if self.fault.is_none() {
+            self.fault = Some(SessionFault::Closed);
+        }
+    }
+}
