@@ -96,13 +96,17 @@ fn read_start<R: Read>(file: &mut R) -> Result<(), FbsFault>
     Ok(())
 }
 
-// Takes so many bytes of data, as they come.
-fn read_content<R: Read>(file: &mut R, length: u32, stream: &mut Stream) -> Result<(), FbsFault>
+// Takes so many bytes of data, as they come, through a buffer of whatever bytes.
+fn read_content<R: Read>(
+    file: &mut R,
+    length: u32,
+    buffer: &mut [u8; 4096],
+    stream: &mut Stream,
+) -> Result<(), FbsFault>
     ensures came { OnOk result (Came (R.remaining file.old) (R.remaining file.new) stream.old stream.new length) }
     ensures fault { IfErr result (λ f. (seen : List ℕ) → IsBetween stream.old seen
         → IfSome (R.remaining file.old) (λ rest. IsFault (seen ++ (u32_bytes length ++ rest)) f)) }
 {
-    let mut buffer = [0; 4096];
     let mut left = length;
     while left > 0 {
         let room = left.min(4096) as usize;
@@ -129,7 +133,11 @@ fn number_of(bytes: &[u8]) -> u32
 }
 
 // Takes a block; answers whether there was one.
-fn read_block<R: Read>(file: &mut R, stream: &mut Stream) -> Result<bool, FbsFault>
+fn read_block<R: Read>(
+    file: &mut R,
+    buffer: &mut [u8; 4096],
+    stream: &mut Stream,
+) -> Result<bool, FbsFault>
     ensures went { IfOk result (λ more. (seen : List ℕ) → IsBetween stream.old seen
         → Went (R.remaining file.old) (R.remaining file.new) stream.new seen more) }
     ensures fault { IfErr result (λ f. (seen : List ℕ) → IsBetween stream.old seen
@@ -144,7 +152,7 @@ fn read_block<R: Read>(file: &mut R, stream: &mut Stream) -> Result<bool, FbsFau
         return Err(FbsFault::Truncated);
     }
     let length = number_of(&head);
-    read_content(file, length, stream)?;
+    read_content(file, length, buffer, stream)?;
     let padding = padding_of(length as usize);
     let mut last = [0; 7];
     let came = fill(file, &mut last[..padding + 4])?;
@@ -167,8 +175,9 @@ pub fn check<R: Read>(alloc: Global, file: &mut R) -> Result<Summary, FbsFault>
 {
     read_start(file)?;
     let mut stream = Stream::new(alloc);
+    let mut buffer = [0; 4096];
     for _ in 0..u64::MAX {
-        let more = read_block(file, &mut stream)?;
+        let more = read_block(file, &mut buffer, &mut stream)?;
         if !more {
             let summary = stream.finish()?;
             return Ok(summary);

@@ -1,4 +1,4 @@
-//! The commands on files, each in the test's own folder.
+//! The commands on files in the folder that the tests run in, which each test leaves as it was.
 
 use super::Full;
 use crate::command::command;
@@ -48,6 +48,13 @@ fn said(rt: &HostRuntime, line: &str, script: &str) -> Result<String, Fail> {
     Ok(format!(in alloc; "{status} {out}{err}")?)
 }
 
+// A file that an earlier run left is removed, or that this one leaves.
+fn without(rt: &HostRuntime, paths: &[&str]) {
+    for path in paths {
+        let _ = fs::remove_file(rt, *path);
+    }
+}
+
 // Whether a command without input says this.
 fn is_said(rt: &HostRuntime, line: &str, answer: &str) -> Result<bool, Fail> {
     let line = format!(in rt.alloc(); "recorderd {line}")?;
@@ -61,6 +68,8 @@ fn holds(rt: &HostRuntime, path: &str, bytes: &[u8]) -> Result<bool, Fail> {
 
 #[test]
 fn a_drill_is_kept_and_exported(rt: HostRuntime) -> Result<(), Fail> {
+    let files = ["r", "o"];
+    without(&rt, &files);
     let kept = said(&rt, "recorderd drill --keep r", RED_PIXEL)?;
     let answers = "recording 1 1 4\naccepted 0\ntaken 0 1\nwritten\ncommitted 1\n";
     assert!(rt; kept.strip_prefix("0 ") == Some(answers), "{kept}");
@@ -93,11 +102,14 @@ fn a_drill_is_kept_and_exported(rt: HostRuntime) -> Result<(), Fail> {
         assert!(rt; is_said(&rt, line, answer)?, "{line}");
     }
     assert!(rt; holds(&rt, "r", &RECORDING)?);
+    without(&rt, &files);
     Ok(())
 }
 
 #[test]
 fn nothing_is_lost(rt: HostRuntime) -> Result<(), Fail> {
+    let files = ["mine", "also_mine"];
+    without(&rt, &files);
     fs::write(&rt, "mine", RECORDING.as_slice())?;
     fs::hard_link(&rt, "mine", "also_mine")?;
     for (line, answer) in [
@@ -132,12 +144,15 @@ fn nothing_is_lost(rt: HostRuntime) -> Result<(), Fail> {
         assert!(rt; is_said(&rt, line, answer)?, "{line}");
     }
     assert!(rt; holds(&rt, "mine", &RECORDING)?);
+    without(&rt, &files);
     Ok(())
 }
 
 // A drill that ends at a bad line is kept as far as it went, and one without a recording is empty.
 #[test]
 fn a_bad_drill_is_kept(rt: HostRuntime) -> Result<(), Fail> {
+    let files = ["bad", "none"];
+    without(&rt, &files);
     let kept = said(
         &rt,
         "recorderd drill --keep bad",
@@ -153,11 +168,14 @@ fn a_bad_drill_is_kept(rt: HostRuntime) -> Result<(), Fail> {
         kept.as_str() == "1 line 1: bad\n" && holds(&rt, "none", &[])?,
         "{kept}"
     );
+    without(&rt, &files);
     Ok(())
 }
 
 #[test]
 fn fbs_files_are_read(rt: HostRuntime) -> Result<(), Fail> {
+    let files = ["fbs"];
+    without(&rt, &files);
     let alloc = rt.alloc();
     let mut one = Vec::from_slice(alloc, &FRONT)?;
     one.extend_from_slice(&RED)?;
@@ -189,11 +207,14 @@ fn fbs_files_are_read(rt: HostRuntime) -> Result<(), Fail> {
         let answer = format!(in alloc; "1 recorderd: fbs-check refused fbs {fault}\n")?;
         assert!(rt; is_said(&rt, "fbs-check fbs", &answer)?, "{answer}");
     }
+    without(&rt, &files);
     Ok(())
 }
 
 #[test]
 fn damaged_recordings(rt: HostRuntime) -> Result<(), Fail> {
+    let files = ["damaged"];
+    without(&rt, &files);
     let alloc = rt.alloc();
     let whole = RECORDING.to_vec(alloc)?;
     let mut kind = whole.clone()?;
@@ -215,11 +236,14 @@ fn damaged_recordings(rt: HostRuntime) -> Result<(), Fail> {
             assert!(rt; is_said(&rt, &line, &answer)?, "{line}: {fault}");
         }
     }
+    without(&rt, &files);
     Ok(())
 }
 
 #[test]
 fn an_output_that_is_full(rt: HostRuntime) -> Result<(), Fail> {
+    let files = ["listed"];
+    without(&rt, &files);
     let alloc = rt.alloc();
     fs::write(&rt, "listed", RECORDING.as_slice())?;
     let words = [
@@ -233,5 +257,6 @@ fn an_output_that_is_full(rt: HostRuntime) -> Result<(), Fail> {
         let ended = command(&rt, &words, b"".as_slice(), &mut out, &mut err);
         assert!(rt; ended == status && err.is_empty(), "with room for {room}");
     }
+    without(&rt, &files);
     Ok(())
 }
