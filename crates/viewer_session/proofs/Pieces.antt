@@ -3,9 +3,7 @@ use Rattle.std.proofs.Common.{◌≡◌, ℕ, List, [], ◌∷◌, ◌++◌, ◌
 use Rattle.std.specs.Prelude.{Option, Some, None}
 use Rattle.std.proofs.lemmas.List.{append-nil}
 use Rattle.pixel_format.specs.Reading.{Bad}
-use Rattle.client_wire.specs.declared.fault.WireFault.{WireFault}
 use Rattle.client_wire.specs.declared.message.ClientMessage.{ClientMessage}
-use Rattle.client_wire.specs.Fault.{UnlessMemory}
 use Rattle.client_wire.specs.Grammar.{message_at}
 use Rattle.client_wire.specs.Reader.{Reader}
 use Rattle.client_wire.specs.Stream.{itself}
@@ -16,7 +14,7 @@ use Rattle.viewer_session.specs.declared.fault.SessionFault.{SessionFault}
 use Rattle.viewer_session.specs.declared.fault.SessionFault.TheVariants as faults
 use Rattle.viewer_session.specs.declared.view.View.{View}
 use Rattle.viewer_session.specs.View.{AreTaken}
-use Rattle.viewer_session.specs.Stream.{Gets, Ends}
+use Rattle.viewer_session.specs.Stream.{Ends}
 use Rattle.viewer_session.specs.Session.{Session, IsAfter, IsStopped, Fed, Stopped}
 use Rattle.viewer_session.proofs.Handshakes.{whole_more, bad_more}
 

@@ -1,7 +1,7 @@
 -- A viewer's stream has one reading.
 use Rattle.std.proofs.Common.{◌≡◌, ℕ, List, [], ◌++◌, refl, sym, ap, ◌∙◌, subst}
 use Rattle.std.specs.Prelude.{Option, Some, None}
-use Rattle.pixel_format.specs.Reading.{Reading, Got, More, Bad}
+use Rattle.pixel_format.specs.Reading.{More, Bad}
 use Rattle.pixel_format.specs.Talk.{Talk}
 use Rattle.client_wire.specs.declared.message.ClientMessage.{ClientMessage}
 use Rattle.client_wire.specs.declared.fault.WireFault.{WireFault}

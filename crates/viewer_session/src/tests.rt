@@ -12,6 +12,8 @@ use rfb_wire::HostMessage;
 use std::alloc::Global;
 use std::test::Fail;
 
+mod viewer;
+
 // A viewer's handshake: its version, the type None, and a shared-flag.
 const HANDSHAKE: [u8; 14] = *b"RFB 003.008\n\x01\x01";
 
