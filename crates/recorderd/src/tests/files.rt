@@ -136,6 +136,14 @@ fn nothing_is_lost(rt: HostRuntime) -> Result<(), Fail> {
         ),
         ("check no_such_file", "1 recorderd: check refused file 1\n"),
         ("list no_such_file", "1 recorderd: list refused file 1\n"),
+        // A folder is opened, and fails at the first read; a full device at the first write.
+        ("check .", "1 recorderd: check refused journal 3\n"),
+        ("fbs-check .", "1 recorderd: fbs-check refused fbs 9\n"),
+        ("export mine 0 1 .", "1 recorderd: export refused file 1\n"),
+        (
+            "export mine 0 1 /dev/full",
+            "1 recorderd: export refused export 5\n",
+        ),
         (
             "export no_such_file 0 1 o",
             "1 recorderd: export refused file 1\n",
