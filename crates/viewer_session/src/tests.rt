@@ -82,7 +82,7 @@ fn paint_green(alloc: Global, session: &mut Session) -> Result<(), Fail>
     Ok(())
 }
 
-// The recorder speaks first, and answers each field once. Also run with each allocation failing.
+// The recorder speaks first, and answers each field once.
 #[test]
 fn greeting(rt: HostRuntime) -> Result<(), Fail> {
     let alloc = rt.alloc();
