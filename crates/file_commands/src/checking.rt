@@ -1,5 +1,6 @@
 //! The commands `check` and `fbs-check`.
 
+use crate::progress::{Progress, Watched};
 use crate::recording::{open_file, open_recording};
 use crate::refusal::{Ended, Refusal, answer};
 use std::fs::File;
@@ -10,10 +11,11 @@ use std::rt::Files;
 fn write_recording<R: Files<File = File> + AllocGlobal, O: Write>(
     rt: &R,
     path: &str,
+    progress: Progress,
     out: &mut O,
 ) -> Result<(), Ended> {
     let file = open_file(rt, path)?;
-    let index = open_recording(rt.alloc(), file)?;
+    let index = open_recording(rt.alloc(), file, progress)?;
     let (width, height) = index.header().size();
     let messages = index.committed();
     let blocks = index.blocks();
@@ -30,19 +32,25 @@ fn write_recording<R: Files<File = File> + AllocGlobal, O: Write>(
 pub fn check<R: Files<File = File> + AllocGlobal, O: Write, E: Write>(
     rt: &R,
     path: &str,
+    progress: Progress,
     out: &mut O,
     err: &mut E,
 ) -> io::Result<bool> {
-    answer("check", write_recording(rt, path, out), err)
+    answer("check", write_recording(rt, path, progress, out), err)
 }
 
 fn write_summary<R: Files<File = File> + AllocGlobal, O: Write>(
     rt: &R,
     path: &str,
+    progress: Progress,
     out: &mut O,
 ) -> Result<(), Ended> {
     let alloc = rt.alloc();
-    let mut reader = BufReader::new(alloc, open_file(rt, path)?)?;
+    let watched = Watched {
+        inner: open_file(rt, path)?,
+        progress,
+    };
+    let mut reader = BufReader::new(alloc, watched)?;
     let told = match fbs_export::check(alloc, &mut reader) {
         Ok(told) => told,
         Err(fault) => return Err(Ended::Refused(Refusal::Fbs(fault))),
@@ -59,8 +67,9 @@ fn write_summary<R: Files<File = File> + AllocGlobal, O: Write>(
 pub fn fbs_check<R: Files<File = File> + AllocGlobal, O: Write, E: Write>(
     rt: &R,
     path: &str,
+    progress: Progress,
     out: &mut O,
     err: &mut E,
 ) -> io::Result<bool> {
-    answer("fbs-check", write_summary(rt, path, out), err)
+    answer("fbs-check", write_summary(rt, path, progress, out), err)
 }

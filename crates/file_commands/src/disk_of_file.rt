@@ -3,6 +3,7 @@
 ghost use Rattle.std.specs.Prelude.{◌≡◌, ◌+◌, ◌<◌, ◌^◌, length};
 ghost use Rattle.disk.specs.Contents.{CountsFailure};
 
+use crate::progress::Progress;
 use disk::{Disk, DiskFault};
 use std::fs::File;
 use std::io;
@@ -19,6 +20,7 @@ use std::os::unix::fs::FileExt;
 pub struct FileDisk {
     file: File,
     failures: u64,
+    progress: Progress,
 }
 
 /// Contracts see the number of calls that failed.
@@ -35,7 +37,18 @@ impl FileDisk {
     pub fn new(file: File) -> FileDisk
         ensures { result ≡ 0 }
     {
-        FileDisk { file, failures: 0 }
+        FileDisk::watched(file, Progress::silent())
+    }
+
+    /// The same, with what is read told of.
+    pub fn watched(file: File, progress: Progress) -> FileDisk
+        ensures { result ≡ 0 }
+    {
+        FileDisk {
+            file,
+            failures: 0,
+            progress,
+        }
     }
 }
 
@@ -75,6 +88,7 @@ impl Disk for FileDisk {
         requires fits { place + length buffer.old < 2 ^ 64 }
         ensures counts { CountsFailure self.old self.new result }
     {
+        self.progress.pass(buffer.len());
         let outcome = self.file.read_exact_at(buffer, place);
         counted(&mut self.failures, outcome)
     }

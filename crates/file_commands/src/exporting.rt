@@ -1,5 +1,6 @@
 //! The command `export`.
 
+use crate::progress::{Progress, Watched};
 use crate::recording::{open_file, open_recording};
 use crate::refusal::{Ended, Refusal, answer};
 use fbs_export::{ExportFault, first_exported};
@@ -51,17 +52,22 @@ pub struct Extract<'a> {
 fn write_export<R: Files<File = File> + AllocGlobal>(
     rt: &R,
     what: Extract<'_>,
+    progress: Progress,
 ) -> Result<u64, Ended> {
     let alloc = rt.alloc();
     let file = open_file(rt, what.recording)?;
     let metadata = file.metadata()?;
-    let mut index = open_recording(alloc, file)?;
+    let mut index = open_recording(alloc, file, progress)?;
     first_exported(&index, what.from_block, what.to).map_err(Refusal::Export)?;
     let file = match open_out(rt, what.out, &metadata) {
         Ok(file) => file,
         Err(_) => return Err(Ended::Refused(Refusal::File)),
     };
-    let mut writer = BufWriter::new(alloc, file)?;
+    let watched = Watched {
+        inner: file,
+        progress,
+    };
+    let mut writer = BufWriter::new(alloc, watched)?;
     let count = fbs_export::export(
         alloc,
         &mut index,
@@ -78,9 +84,10 @@ fn write_export<R: Files<File = File> + AllocGlobal>(
 fn write_count<R: Files<File = File> + AllocGlobal, O: Write>(
     rt: &R,
     what: Extract<'_>,
+    progress: Progress,
     out: &mut O,
 ) -> Result<(), Ended> {
-    let count = write_export(rt, what)?;
+    let count = write_export(rt, what, progress)?;
     writeln!(out, "exported {count}")?;
     Ok(())
 }
@@ -92,8 +99,9 @@ fn write_count<R: Files<File = File> + AllocGlobal, O: Write>(
 pub fn export<R: Files<File = File> + AllocGlobal, O: Write, E: Write>(
     rt: &R,
     what: Extract<'_>,
+    progress: Progress,
     out: &mut O,
     err: &mut E,
 ) -> io::Result<bool> {
-    answer("export", write_count(rt, what, out), err)
+    answer("export", write_count(rt, what, progress, out), err)
 }

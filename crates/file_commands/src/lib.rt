@@ -7,6 +7,7 @@ mod exporting;
 mod folder;
 mod keeping;
 mod listing;
+mod progress;
 mod recording;
 mod refusal;
 
@@ -16,4 +17,5 @@ pub use exporting::{Extract, export};
 pub use folder::sync_folder;
 pub use keeping::{create_new, keep};
 pub use listing::list;
+pub use progress::Progress;
 pub use refusal::{Refusal, refuse};

@@ -1,6 +1,7 @@
 //! The command `list`.
 
 use crate::disk_of_file::FileDisk;
+use crate::progress::Progress;
 use crate::recording::{open_file, open_recording};
 use crate::refusal::{Ended, answer};
 use key_index::Indexed;
@@ -28,11 +29,12 @@ fn write_blocks<O: Write>(index: &Indexed<FileDisk>, out: &mut O) -> io::Result<
 fn write_list<R: Files<File = File> + AllocGlobal, O: Write>(
     rt: &R,
     path: &str,
+    progress: Progress,
     out: &mut O,
 ) -> Result<(), Ended> {
     let alloc = rt.alloc();
     let file = open_file(rt, path)?;
-    let index = open_recording(alloc, file)?;
+    let index = open_recording(alloc, file, progress)?;
     let mut lines = BufWriter::new(alloc, out)?;
     write_blocks(&index, &mut lines)?;
     lines.flush()?;
@@ -44,8 +46,9 @@ fn write_list<R: Files<File = File> + AllocGlobal, O: Write>(
 pub fn list<R: Files<File = File> + AllocGlobal, O: Write, E: Write>(
     rt: &R,
     path: &str,
+    progress: Progress,
     out: &mut O,
     err: &mut E,
 ) -> io::Result<bool> {
-    answer("list", write_list(rt, path, out), err)
+    answer("list", write_list(rt, path, progress, out), err)
 }

@@ -1,6 +1,7 @@
 //! A recording in a file, opened to be read.
 
 use crate::disk_of_file::FileDisk;
+use crate::progress::Progress;
 use crate::refusal::Refusal;
 use key_index::Indexed;
 use std::alloc::Global;
@@ -16,8 +17,12 @@ pub fn open_file<R: Files<File = File>>(files: &R, path: &str) -> Result<File, R
 }
 
 /// The recording that a file holds.
-pub fn open_recording(alloc: Global, file: File) -> Result<Indexed<FileDisk>, Refusal> {
-    match Indexed::open(alloc, FileDisk::new(file)) {
+pub fn open_recording(
+    alloc: Global,
+    file: File,
+    progress: Progress,
+) -> Result<Indexed<FileDisk>, Refusal> {
+    match Indexed::open(alloc, FileDisk::watched(file, progress)) {
         Ok(index) => Ok(index),
         Err(refused) => Err(Refusal::Recording(refused.fault)),
     }

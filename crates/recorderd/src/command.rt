@@ -3,11 +3,9 @@
 ghost use Rattle.std.specs.Prelude.{◌≤◌, IfOk};
 
 use crate::words::{Chosen, read_words};
-use file_commands::{create_new, keep, refuse};
-use std::fs::File;
+use file_commands::{Progress, create_new, keep, refuse};
 use std::io;
 use std::io::{Read, Write};
-use std::rt::Files;
 
 /// It is done.
 const DONE: u8 = 0;
@@ -17,8 +15,8 @@ const REFUSED: u8 = 1;
 const BAD_WORDS: u8 = 2;
 
 // Runs a drill whose recording is kept in a new file, which is made first.
-fn drill_to_file<R: Files<File = File> + AllocGlobal, I: Read + Drop, O: Write, E: Write>(
-    rt: &R,
+fn drill_to_file<I: Read + Drop, O: Write, E: Write>(
+    rt: &HostRuntime,
     path: &str,
     input: I,
     out: &mut O,
@@ -39,8 +37,8 @@ fn drill_to_file<R: Files<File = File> + AllocGlobal, I: Read + Drop, O: Write, 
     Ok(ran.is_whole)
 }
 
-fn run<R: Files<File = File> + AllocGlobal, I: Read + Drop, O: Write, E: Write>(
-    rt: &R,
+fn run<I: Read + Drop, O: Write, E: Write>(
+    rt: &HostRuntime,
     words: &[String],
     input: I,
     out: &mut O,
@@ -49,13 +47,14 @@ fn run<R: Files<File = File> + AllocGlobal, I: Read + Drop, O: Write, E: Write>(
     ensures { IfOk result (λ status. status ≤ 2) }
 {
     let alloc = rt.alloc();
+    let progress = Progress::new(rt.stderr());
     let is_done = match read_words(alloc, words)? {
         Chosen::Drill { keep: None } => drill::run(alloc, input, out)?,
         Chosen::Drill { keep: Some(path) } => drill_to_file(rt, path, input, out, err)?,
-        Chosen::List(path) => file_commands::list(rt, path, out, err)?,
-        Chosen::Check(path) => file_commands::check(rt, path, out, err)?,
-        Chosen::Export(what) => file_commands::export(rt, what, out, err)?,
-        Chosen::FbsCheck(path) => file_commands::fbs_check(rt, path, out, err)?,
+        Chosen::List(path) => file_commands::list(rt, path, progress, out, err)?,
+        Chosen::Check(path) => file_commands::check(rt, path, progress, out, err)?,
+        Chosen::Export(what) => file_commands::export(rt, what, progress, out, err)?,
+        Chosen::FbsCheck(path) => file_commands::fbs_check(rt, path, progress, out, err)?,
         Chosen::Text(text) => {
             write!(out, "{text}")?;
             true
@@ -70,11 +69,11 @@ fn run<R: Files<File = File> + AllocGlobal, I: Read + Drop, O: Write, E: Write>(
 }
 
 /// Runs the program: the words of its command line (the first is its own name), its input, and its
-/// two outputs; files are those of the runtime. Answers the exit status: 0 where it is done, 1 where
-/// it is refused, where memory for its own work is, or where a stream can't be read or written, and
-/// 2 for a bad command line.
-pub fn command<R: Files<File = File> + AllocGlobal, I: Read + Drop, O: Write, E: Write>(
-    rt: &R,
+/// two outputs; files are those of the runtime, and where its standard error is a terminal, long work
+/// is told of there. Answers the exit status: 0 where it is done, 1 where it is refused, where memory
+/// for its own work is, or where a stream can't be read or written, and 2 for a bad command line.
+pub fn command<I: Read + Drop, O: Write, E: Write>(
+    rt: &HostRuntime,
     words: &[String],
     input: I,
     out: &mut O,
