@@ -12,12 +12,11 @@ use std::rt::Files;
 
 // A line a block: its number, its first message, how many it has, whether it has a key screen
 // (none is written yet), and the time of its first message.
-fn write_blocks<O: Write>(index: &Indexed<FileDisk>, out: &mut O) -> io::Result<()> {
+fn write_blocks<O: Write>(index: &mut Indexed<FileDisk>, out: &mut O) -> Result<(), Ended> {
     for block in 0..index.blocks() {
         let first = index.start(block);
-        let messages = index.messages(block);
-        let count = messages.len();
-        let time = messages[0].time;
+        let count = index.count(block);
+        let time = index.read_from(first, 1)?[0].time;
         writeln!(
             out,
             "block {block} first {first} messages {count} key no time {time}"
@@ -34,9 +33,9 @@ fn write_list<R: Files<File = File> + AllocGlobal, O: Write>(
 ) -> Result<(), Ended> {
     let alloc = rt.alloc();
     let file = open_file(rt, path)?;
-    let index = open_recording(alloc, file, progress)?;
+    let mut index = open_recording(alloc, file, progress)?;
     let mut lines = BufWriter::new(alloc, out)?;
-    write_blocks(&index, &mut lines)?;
+    write_blocks(&mut index, &mut lines)?;
     lines.flush()?;
     Ok(())
 }

@@ -20,33 +20,28 @@ shown_more screen before all n s here shows =
     ap (λ k. hosts_of (take k all)) one ∙ ap hosts_of (take_next all n s here) ∙ map-append message_of (take n all) (s ∷ []) in
     subst (λ hosts. Shows screen hosts) (append_assoc before (hosts_of (take n all)) (s.message ∷ []) ∙ ap (λ t. before ++ t) (sym more)) shows
 
-take_joined : {X : Type 0} (n : ℕ) (xs ys : List X) → take n (xs ++ ys) ≡ take n xs ++ take (n - length xs) ys
-take_joined {X} zero [] ys = refl
-take_joined {X} (suc n) [] ys =
-    let all : suc n ≡ suc n - length {A = X} [] = omega arith in
-    ap (λ k. take k ys) all
-take_joined {X} zero (x ∷ xs) ys =
-    let none : 0 ≡ 0 - length (x ∷ xs) = omega arith in
-    ap (λ k. take k ys) none
-take_joined {X} (suc n) (x ∷ xs) ys =
-    let less : n - length xs ≡ suc n - length (x ∷ xs) = omega arith in
-    ap (λ t. x ∷ t) (take_joined n xs ys ∙ ap (λ k. take n xs ++ take k ys) less)
+take_none : {X : Type 0} (n : ℕ) → take {A = X} n [] ≡ []
+take_none {X} zero = refl
+take_none {X} (suc n) = refl
 
-pub block_more : (blocks : List (List Stamped)) (b : ℕ) (ms : List Stamped) → slice_get blocks b ≡ Some ms → messages_in (take (b + 1) blocks) ≡ messages_in (take b blocks) ++ ms
-block_more blocks b ms here =
-    let one : b + 1 ≡ suc b = omega arith in
-    ap (λ k. messages_in (take k blocks)) one ∙ ap messages_in (take_next blocks b ms here) ∙ messages_with (take b blocks) ms
+take_more : {X : Type 0} (n m : ℕ) (xs : List X) → take (n + m) xs ≡ take n xs ++ take m (drop n xs)
+take_more {X} zero m xs =
+    let none : 0 + m ≡ m = omega arith in
+    ap (λ k. take k xs) none
+take_more {X} (suc n) m [] =
+    let one : suc n + m ≡ suc (n + m) = omega arith in
+    let none : take {A = X} m [] ≡ [] = take_none m in
+    ap (λ k. take {A = X} k []) one ∙ sym none
+take_more {X} (suc n) m (x ∷ xs) =
+    let one : suc n + m ≡ suc (n + m) = omega arith in
+    ap (λ k. take k (x ∷ xs)) one ∙ ap (λ t. x ∷ t) (take_more n m xs)
 
--- the messages of one block more are painted, as far as they are asked for
-pub shown_with_block : (screen : Framebuffer) (n left shown : ℕ) (blocks : List (List Stamped)) (b : ℕ) (ms : List Stamped) → slice_get blocks b ≡ Some ms
-    → left ≡ n - length (messages_in (take b blocks)) → shown ≡ min left (length ms) → Shows screen (hosts_of (take n (messages_in (take b blocks))) ++ hosts_of (take shown ms))
-    → Shows screen (hosts_of (take n (messages_in (take (b + 1) blocks))))
-shown_with_block screen n left shown blocks b ms here rest count shows =
-    let before = messages_in (take b blocks) in
-    let painted : take n (messages_in (take (b + 1) blocks)) ≡ take n before ++ take shown ms =
-    ap (take n) (block_more blocks b ms here) ∙ take_joined n before ms ∙ ap (λ k. take n before ++ take k ms) (sym rest)
-    ∙ ap (λ t. take n before ++ t) (sym (take_min left ms) ∙ ap (λ k. take k ms) (sym count)) in
-    subst (λ hosts. Shows screen hosts) (sym (ap hosts_of painted ∙ map-append message_of (take n before) (take shown ms))) shows
+-- the messages behind those that were painted are painted
+pub shown_with : (screen : Framebuffer) (n count : ℕ) (all read : List Stamped) → read ≡ take count (drop n all) → Shows screen (hosts_of (take n all) ++ hosts_of read)
+    → Shows screen (hosts_of (take (n + count) all))
+shown_with screen n count all read is shows =
+    let painted : take (n + count) all ≡ take n all ++ read = take_more n count all ∙ ap (λ t. take n all ++ t) (sym is) in
+    subst (λ hosts. Shows screen hosts) (sym (ap hosts_of painted ∙ map-append message_of (take n all) read)) shows
 
 -- the message behind the first n, taken off a list of it alone
 only_one : (x s : Stamped) (left : List Stamped) → x ∷ [] ≡ left ++ s ∷ [] → x ≡ s
