@@ -5,3 +5,4 @@ pub mod Screens
 pub mod Same
 pub mod Updates
 pub mod RowsRead
+pub mod Keys

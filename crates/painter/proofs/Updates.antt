@@ -105,3 +105,8 @@ paints_colors width height area colors e bytes u inside short =
           let painted = one_painted bytes r before ∙ ap (λ (z : List ℕ). painted_data host_format (wire_of e) area z before) (data_of area colors e bytes u) in
           subst (λ (p : Picture). HasColors area colors before p) (sym painted) (has_colors host_format area e u.body colors before u.shows);
     }
+
+pub encoding_kept : (width height : ℕ) (area : Area) (colors : List Color) (e : Encoding) (bytes : List ℕ) (u : IsUpdate host_format area colors e bytes) (inside : LiesWithin width height area)
+    (short : length bytes ≤ message_limit) → (paints_colors width height area colors e bytes u inside short).rectangle.encoding ≡ wire_of e
+unfolding paints_colors
+encoding_kept width height area colors e bytes u inside short = refl

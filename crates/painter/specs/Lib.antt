@@ -2,3 +2,4 @@ pub mod Picture
 pub mod Pixels
 pub mod Framebuffer
 pub mod Update
+pub mod Key

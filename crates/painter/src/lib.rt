@@ -2,6 +2,7 @@
 #![tactic(auto)]
 
 mod colors;
+mod key;
 mod laws;
 mod pixel;
 mod rectangle;

@@ -97,6 +97,18 @@ impl Screen {
         self.width == other.width && self.height == other.height && self.pixels == other.pixels
     }
 
+    /// The same screen again.
+    pub fn copy(&self, alloc: Global) -> Result<Screen, NoMemory>
+        ensures { IfOk result (λ screen. screen ≡ self.now) }
+    {
+        let pixels = Vec::from_slice(alloc, &self.pixels)?;
+        Ok(Screen {
+            width: self.width,
+            height: self.height,
+            pixels,
+        })
+    }
+
     /// Takes over the colours of another screen of this size. It takes no memory.
     pub fn set(&mut self, other: &Screen)
         requires width { other.now.width ≡ self.old.width }

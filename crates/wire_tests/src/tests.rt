@@ -5,6 +5,7 @@ mod formats;
 mod hextile_data;
 mod host_messages;
 mod host_sessions;
+mod keys;
 mod rectangles;
 mod rre_data;
 mod samples;

@@ -1,0 +1,27 @@
+-- A key screen: an update that paints a whole screen, whatever stood there before.
+use Rattle.std.specs.Prelude.{◌≡◌, ◌⊎◌, ℕ, List, [], ◌∷◌}
+use Rattle.pixel_format.specs.Canvas.{Picture, Agree}
+use Rattle.client_wire.specs.declared.message.Area.{Area}
+use Rattle.rect_data.specs.declared.encoding.Encoding.TheVariants.{Raw, Hextile}
+use Rattle.rfb_wire.specs.declared.message.Rectangle.{Rectangle}
+use Rattle.rfb_wire.specs.Host.{Host}
+use Rattle.painter.specs.Picture.{painted_message}
+
+-- all places of a screen of this size
+abbrev pub whole_area : ℕ → ℕ → Area
+whole_area width height = record { x = 0; y = 0; w = width; h = height }
+
+-- a rectangle of all places, in an encoding that doesn't look at what stood there
+pub record IsWhole (width height : ℕ) (r : Rectangle) : Type 0 where
+  pub area : r.area ≡ whole_area width height
+  pub encoding : (r.encoding ≡ Raw) ⊎ (r.encoding ≡ Hextile)
+
+-- The message is for a screen of this size. It has one rectangle, over all places, and paints this
+-- picture over any other.
+pub record IsKey (width height : ℕ) (picture : Picture) (m : Host) : Type 0 where
+  pub width_is : m.width ≡ width
+  pub height_is : m.height ≡ height
+  pub rectangle : Rectangle
+  pub only : m.rectangles ≡ rectangle ∷ []
+  pub whole : IsWhole width height rectangle
+  pub paints : (before : Picture) → Agree width height (painted_message m before) picture
