@@ -1,14 +1,13 @@
 -- Parts that show the colours of a tile.
 use Rattle.std.proofs.Common.{◌≡◌, ℕ, ◌+◌, ◌-◌, ◌*◌, ◌/◌, ◌%◌, ◌<◌, ◌≤◌, false, inl, inr, true, cond, List, [], ◌∷◌, ◌++◌, length, set, refl, sym, ap, ◌∙◌, arith}
-use Rattle.std.specs.Prelude.{reverse, nat_lt, ◌&&◌, All, Option, Some, None, IfSome}
-use Rattle.std.proofs.Math.Nat.{div-add-mod, mul_comm, mul-le-mul_right, add-mul}
+use Rattle.std.specs.Prelude.{reverse, nat_lt, nat_le, ◌&&◌}
+use Rattle.std.proofs.Math.Nat.{div-add-mod, mul_comm}
 use Rattle.std.proofs.lemmas.Nat.{div-mul-add, mod-mul-add, mul-add-lt}
-use Rattle.std.proofs.lemmas.Bool.{cases_Bool, cases_eq, cases_lt, lt-ltb, le-ltb}
+use Rattle.std.proofs.lemmas.Bool.{cases_Bool, cases_eq, lt-ltb, le-leb, leb-true, ltb-true, and_parts, and_from}
 use Rattle.std.proofs.lemmas.List.{get_or-set_same, get_or-set_other, reverse-append}
 use Rattle.std.proofs.lemmas.List.Elements.{All-nil, All-push}
 use Rattle.pixel_format.specs.declared.Color.{Color}
 use Rattle.pixel_format.specs.Format.{Format}
-use Rattle.pixel_format.specs.Pixel.{IsWithin}
 use Rattle.pixel_format.specs.Canvas.{covers, black, nth}
 use Rattle.pixel_format.proofs.Covering.{in_is, is_in, not_in}
 use Rattle.hextile.specs.declared.cover.Part.{Part}
@@ -98,31 +97,57 @@ all_shown f w h colors background parts shown size s = record {
       ∙ sym (ap (λ n. part_picture background (reverse parts) (i % w) n) r_is) ∙ sym (s.picture i less) ∙ s.right i less;
 }
 
--- parts over one background everywhere
-pub over_everywhere : {V : Type 0} (items : V → List Part) (r : Option V) (w h : ℕ) (colors shown : List Color) (background : Color)
-    → IfSome r (λ parts. (f : Format) → (b : Color) → All (IsWithin f) colors → ((i : ℕ) → i < length colors → nth shown i ≡ b) → IsCover f w h colors b (items parts))
-    → ((i : ℕ) → i < length colors → nth shown i ≡ background)
-    → IfSome r (λ parts. (f : Format) → All (IsWithin f) colors → IsCover f w h colors background (items parts))
-over_everywhere items None w h colors shown background known all = tt
-over_everywhere items (Some v) w h colors shown background known all = λ f within. known f background within all
-
 -- ---- the places of a part
 
--- none stands behind its last one
-behind_part : (w x y v k i : ℕ) → 0 < k → y * w + x + (k - 1) * w + v ≤ i → covers x y v k (i % w) (i / w) ≡ false
-behind_part w x y v k i some behind =
-    not_in x y v k (i % w) (i / w) (λ is.
-    let r = is.right in
-    let b = is.bottom in
-    let most : i / w ≤ y + (k - 1) = omega arith in
-    let down : i / w * w ≤ (y + (k - 1)) * w = mul-le-mul_right w most in
-    let sum : (y + (k - 1)) * w ≡ y * w + (k - 1) * w = add-mul y (k - 1) w in
-    let whole = index_of w i in
-    absurd (omega (arith, down, sum, whole, behind, r)))
+-- a run of places is a row of a part
+run_at : (w row x n i : ℕ) → x + n ≤ w → row * w + x ≤ i → i < row * w + x + n → (i / w ≡ row) × (i % w ≡ i - row * w)
+run_at w row x n i fits from to =
+    let c = i - row * w in
+    let across : c < w = omega arith in
+    let at : row * w + c ≡ i = omega arith in
+    (ap (λ k. k / w) (sym at) ∙ div-mul-add row w c across, ap (λ k. k % w) (sym at) ∙ mod-mul-add row w c across)
 
-pub all_of_part : (w x y v k n i : ℕ) (color before : Color) → 0 < k → y * w + x + (k - 1) * w + v ≤ n
-    → cond (nat_lt i n && covers x y v k (i % w) (i / w)) color before ≡ cond (covers x y v k (i % w) (i / w)) color before
-all_of_part w x y v k n i color before some most = elim (cases_lt i n) [
-  | inl below ↦ rw (lt-ltb i n below) refl
-  | inr above ↦ rw (le-ltb i n above, behind_part w x y v k i some (omega (arith, above, most))) refl
+-- a place beside a row of a part is in the part with that row where it is in the part without it
+same_rows : (w x y v done i : ℕ) → x + v ≤ w → (nat_le ((y + done) * w + x) i && nat_lt i ((y + done) * w + x + v)) ≡ false
+    → covers x y v done (i % w) (i / w) ≡ covers x y v (done + 1) (i % w) (i / w)
+same_rows w x y v done i fits off = elim (cases_Bool (covers x y v (done + 1) (i % w) (i / w))) [
+  | inl here ↦
+      let is = in_is x y v (done + 1) (i % w) (i / w) here in
+      let l = is.left in
+      let r = is.right in
+      let t = is.top in
+      let b = is.bottom in
+      elim (cases_eq (i / w) (y + done)) [
+        | inl level ↦
+            let whole = index_of w i in
+            let down : i / w * w ≡ (y + done) * w = ap (λ n. n * w) level in
+            let run = and_from _ _ (le-leb ((y + done) * w + x) i (omega (arith, whole, down))) (lt-ltb i ((y + done) * w + x + v) (omega (arith, whole, down))) in
+            absurd (cc)
+        | inr other ↦ is_in x y v done (i % w) (i / w) (record { left = l; right = r; top = t; bottom = omega (arith, other) }) ∙ sym here
+      ]
+  | inr away ↦ not_in x y v done (i % w) (i / w) (λ is.
+      let b = is.bottom in
+      let here = is_in x y v (done + 1) (i % w) (i / w) (record { left = is.left; right = is.right; top = is.top; bottom = omega arith }) in
+      absurd (cc)) ∙ sym away
 ]
+
+-- a row more of a part is shown
+pub row_shown : (w x y v done i : ℕ) (color before : Color) → x + v ≤ w
+    → cond (nat_le ((y + done) * w + x) i && nat_lt i ((y + done) * w + x + v)) color (cond (covers x y v done (i % w) (i / w)) color before)
+    ≡ cond (covers x y v (done + 1) (i % w) (i / w)) color before
+row_shown w x y v done i color before fits =
+    let row = y + done in
+    let start = row * w + x in
+    elim (cases_Bool (nat_le start i && nat_lt i (start + v))) [
+      | inl run ↦
+          let parts = and_parts _ _ run in
+          let from = leb-true _ _ parts.0 in
+          let to = ltb-true _ _ parts.1 in
+          let at = run_at w row x v i fits from to in
+          let level = at.0 in
+          let column = at.1 in
+          let here : covers x y v (done + 1) (i % w) (i / w) ≡ true =
+          is_in x y v (done + 1) (i % w) (i / w) (record { left = omega arith; right = omega arith; top = omega arith; bottom = omega arith }) in
+          rw (run, here) refl
+      | inr off ↦ rw off (ap (λ t. cond t color before) (same_rows w x y v done i fits off))
+    ]

@@ -1,6 +1,6 @@
 //! Which parts of a tile an encoder lists.
 
-ghost use Rattle.std.specs.Prelude.{◌≡◌, ◌↔◌, ℕ, ◌+◌, ◌*◌, ◌/◌, ◌%◌, ◌<◌, ◌≤◌, ◌&&◌, length, All, IsTrue, IfSome, nat_lt, nat_le, reverse, if◌then◌else◌};
+ghost use Rattle.std.specs.Prelude.{◌≡◌, ◌↔◌, ℕ, ◌+◌, ◌*◌, ◌/◌, ◌%◌, ◌<◌, ◌≤◌, ◌&&◌, length, All, IsTrue, [], nat_lt, nat_le, reverse, true, if◌then◌else◌};
 ghost use Rattle.pixel_format.specs.Format.{Format};
 ghost use Rattle.pixel_format.specs.Pixel.{IsWithin};
 ghost use Rattle.pixel_format.specs.Canvas.{covers, nth, rows_of};
@@ -25,6 +25,9 @@ pub(crate) struct Part {
     pub h: u8,
     pub color: Color,
 }
+
+/// The parts of a tile. One list serves all tiles, since to make one clears its memory.
+pub(crate) type Parts = ArrayVec<Part, MOST_PARTS>;
 
 impl Default for Part {
     fn default() -> Part {
@@ -55,22 +58,35 @@ pub(crate) fn tile_colors(colors: &[Color], w: u16, area: TileArea) -> [Color; 2
     ensures colors { AreTileColors colors.now w area.x area.y area.w result (area.w * area.h) }
 {
     let mut tile = [BLACK; 256];
-    for k in 0..area.w as usize * area.h as usize {
-        let column = area.x as usize + k % area.w as usize;
-        let row = area.y as usize + k / area.w as usize;
-        tile[k] = colors[row * w as usize + column];
+    let width = area.w as usize;
+    for row in 0..area.h as usize {
+        let from = (area.y as usize + row) * w as usize + area.x as usize;
+        for column in 0..width {
+            tile[row * width + column] = colors[from + column];
+        }
     }
     tile
 }
 
-/// The index of a colour that most of the places have, if one colour has more than half of them.
-pub(crate) fn most_voted(colors: &[Color]) -> usize
+/// Which colour is a tile's background.
+#[derive(Clone, Copy)]
+pub(crate) struct Background {
+    /// The index of a colour that most of the places have, if one colour has more than half of them.
+    pub place: usize,
+    /// All of the places have it.
+    pub is_only: bool,
+}
+
+/// A vote for a tile's background: each place of another colour takes one away.
+pub(crate) fn most_voted(colors: &[Color]) -> Background
     requires { 0 < length colors.now }
-    ensures { result < length colors.now }
+    ensures place { result.place < length colors.now }
+    ensures only { result.is_only ≡ true → (k : ℕ) → k < length colors.now → nth colors.now k ≡ nth colors.now result.place }
 {
+    let run = first_run(colors);
     let mut place = 0;
-    let mut votes = 0usize;
-    for k in 0..colors.len() {
+    let mut votes = run;
+    for k in run..colors.len() {
         if votes == 0 {
             place = k;
             votes = 1;
@@ -80,7 +96,25 @@ pub(crate) fn most_voted(colors: &[Color]) -> usize
             votes -= 1;
         }
     }
-    place
+    Background {
+        place: if run == colors.len() { 0 } else { place },
+        is_only: run == colors.len(),
+    }
+}
+
+// How many places have the first one's colour before one has another.
+fn first_run(colors: &[Color]) -> usize
+    requires { 0 < length colors.now }
+    ensures within { result ≤ length colors.now }
+    ensures same { (k : ℕ) → k < result → nth colors.now k ≡ nth colors.now 0 }
+{
+    let first = colors[0];
+    for k in 1..colors.len() {
+        if !same(colors[k], first) {
+            return k;
+        }
+    }
+    colors.len()
 }
 
 // How many places from an index on, at most so many, have the colour.
@@ -136,16 +170,18 @@ fn grow(w: u8, h: u8, colors: &[Color], column: u8, row: u8) -> Part
     }
 }
 
-// Whether the part covers a place.
-fn covers_place(part: Part, column: usize, row: usize) -> bool
-    ensures { result ≡ covers part.x part.y part.w part.h column row }
+// Gives so many places from an index on a colour.
+fn show_run(shown: &mut [Color], start: usize, count: u8, color: Color)
+    requires { start + count ≤ length shown.old }
+    ensures { (k : ℕ) → k < length shown.old
+        → nth shown.new k ≡ (if nat_le start k && nat_lt k (start + count) then color else nth shown.old k) }
 {
-    let (x, y) = (part.x as usize, part.y as usize);
-    x <= column && column < x + part.w as usize && y <= row && row < y + part.h as usize
+    for k in start..start + count as usize {
+        shown[k] = color;
+    }
 }
 
-// Gives the places of a part its colour, in a tile of width w. It looks at the places from the
-// part's first one to its last one.
+// Gives the places of a part its colour, in a tile of width w, row by row.
 fn show(shown: &mut [Color], w: u8, part: Part)
     requires width { 0 < w }
     requires across { 0 < part.w }
@@ -155,18 +191,10 @@ fn show(shown: &mut [Color], w: u8, part: Part)
     ensures { (k : ℕ) → k < length shown.old
         → nth shown.new k ≡ (if covers part.x part.y part.w part.h (k % w) (k / w) then part.color else nth shown.old k) }
 {
-    let start = part.y as usize * w as usize + part.x as usize;
-    let rows = part.h as usize - 1;
-    for k in start..start + rows * w as usize + part.w as usize {
-        let here = covers_place(part, k % w as usize, k / w as usize);
-        shown[k] = chosen(here, part.color, shown[k]);
+    for row in 0..part.h {
+        let start = (part.y as usize + row as usize) * w as usize + part.x as usize;
+        show_run(shown, start, part.w, part.color);
     }
-}
-
-fn chosen(here: bool, color: Color, before: Color) -> Color
-    ensures { result ≡ (if here then color else before) }
-{
-    if here { color } else { before }
 }
 
 // Sees to it that a place is shown, by a part more where it isn't. Answers whether there was room
@@ -176,7 +204,7 @@ fn show_place(
     h: u8,
     colors: &[Color],
     k: usize,
-    parts: &mut ArrayVec<Part, MOST_PARTS>,
+    parts: &mut Parts,
     shown: &mut [Color],
 ) -> bool
     requires across { 0 < w }
@@ -201,42 +229,46 @@ fn show_place(
     true
 }
 
-// The parts of a tile that shows the background everywhere.
-fn parts_over(
-    w: u8,
-    h: u8,
-    colors: &[Color],
-    shown: &mut [Color],
-) -> Option<ArrayVec<Part, MOST_PARTS>>
+// Adds the parts of a tile that shows the background everywhere. Answers whether there was room for
+// them.
+fn parts_over(w: u8, h: u8, colors: &[Color], parts: &mut Parts, shown: &mut [Color]) -> bool
     requires across { 0 < w }
     requires colors { length colors.now ≡ w * h }
     requires shown { length colors.now ≤ length shown.old }
-    ensures { IfSome result (λ parts. (format : Format) → (background : Color) → All (IsWithin format) colors.now
-        → ((i : ℕ) → i < length colors.now → nth shown.old i ≡ background) → IsCover format w h colors.now background parts.items) }
+    requires none { parts.old.items ≡ [] }
+    ensures { result ≡ true → (format : Format) → (background : Color) → All (IsWithin format) colors.now
+        → ((i : ℕ) → i < length colors.now → nth shown.old i ≡ background) → IsCover format w h colors.now background parts.new.items }
 {
-    let mut parts = ArrayVec::new();
     for k in 0..colors.len() {
-        if !show_place(w, h, colors, k, &mut parts, shown) {
-            return None;
+        if !show_place(w, h, colors, k, parts, shown) {
+            return false;
         }
     }
-    Some(parts)
+    true
 }
 
-/// Parts of one colour each that, over the background, give every place of a tile of w by h its
-/// colour; `None` where they would be too many.
+/// Leaves those parts in the list, of one colour each, that, over the background, give every place
+/// of a tile of w by h its colour. Answers `false` where they would be too many. Where the
+/// background is the only colour there are none.
 pub(crate) fn cover(
     w: u8,
     h: u8,
     colors: &[Color],
     background: Color,
-) -> Option<ArrayVec<Part, MOST_PARTS>>
+    is_only: bool,
+    parts: &mut Parts,
+) -> bool
     requires across { 0 < w }
     requires size { length colors.now ≡ w * h }
     requires most { length colors.now ≤ 256 }
-    ensures { IfSome result (λ parts. (format : Format) → All (IsWithin format) colors.now
-        → IsCover format w h colors.now background parts.items) }
+    requires only { is_only ≡ true → (k : ℕ) → k < length colors.now → nth colors.now k ≡ background }
+    ensures { result ≡ true → (format : Format) → All (IsWithin format) colors.now
+        → IsCover format w h colors.now background parts.new.items }
 {
+    parts.clear();
+    if is_only {
+        return true;
+    }
     let mut shown = [background; 256];
-    parts_over(w, h, colors, &mut shown)
+    parts_over(w, h, colors, parts, &mut shown)
 }

@@ -7,7 +7,7 @@ ghost use Rattle.hextile.specs.declared.cover.Part.{Part};
 ghost use Rattle.hextile.specs.Grammar.{Tile};
 ghost use Rattle.hextile.specs.Encoded.{IsMaskFor, known_behind, IsKnown, ShowsTile, Shows};
 
-use crate::cover::{Part, cover, most_voted, same, tile_colors};
+use crate::cover::{Part, Parts, cover, most_voted, same, tile_colors};
 use crate::fields::{Mask, pixel_size};
 use crate::position::{count_tiles, tile_area};
 use crate::writing::{Known, append_parts_tile, append_raw_tile};
@@ -84,14 +84,15 @@ fn parts_size(format: &PixelFormat, mask: Mask, count: usize) -> usize
     1 + head + count * (pixel_size(format, mask.colored) + 2)
 }
 
-// Appends a tile of w by h: the shorter one of parts over a background and of pixels. Answers what
-// the next tile need not name.
+// Appends a tile of w by h: the shorter one of parts over a background and of pixels. The parts are
+// listed in the room. Answers what the next tile need not name.
 fn append_tile(
     format: &PixelFormat,
     known: Known,
     w: u8,
     h: u8,
     colors: &[Color],
+    room: &mut Parts,
     bytes: &mut Vec<u8>,
 ) -> Result<Known, NoMemory>
     requires across { 0 < w }
@@ -104,13 +105,15 @@ fn append_tile(
         → Appends (ShowsTile format.now w h colors.now before after) bytes.old.items bytes.new.items) }
     ensures grows { Grows bytes.old.items bytes.new.items }
 {
-    let background = colors[most_voted(colors)];
-    if let Some(parts) = cover(w, h, colors, background) {
-        let ink = shared_color(&parts);
+    let chosen = most_voted(colors);
+    let background = colors[chosen.place];
+    if cover(w, h, colors, background, chosen.is_only, room) {
+        let parts = room.as_slice();
+        let ink = shared_color(parts);
         let mask = mask_for(known, background, ink, parts.len());
         if parts_size(format, mask, parts.len()) <= 1 + colors.len() * format.bytes() {
             let foreground = ink.unwrap_or(background);
-            append_parts_tile(format, mask, background, foreground, &parts, bytes)?;
+            append_parts_tile(format, mask, background, foreground, parts, bytes)?;
             return Ok(known_after(known, background, ink, mask.colored));
         }
     }
@@ -132,11 +135,20 @@ fn append_tiles(
     ensures grows { Grows bytes.old.items bytes.new.items }
 {
     let mut known = NOTHING_KNOWN;
+    let mut room = Parts::new();
     for number in 0..count_tiles(w, h) {
         let area = tile_area(w, h, number);
         let tile = tile_colors(colors, w, area);
         let places = area.w as usize * area.h as usize;
-        known = append_tile(format, known, area.w, area.h, &tile[..places], bytes)?;
+        known = append_tile(
+            format,
+            known,
+            area.w,
+            area.h,
+            &tile[..places],
+            &mut room,
+            bytes,
+        )?;
     }
     Ok(())
 }

@@ -1,6 +1,7 @@
 //! Writing the data of a tile.
 
 ghost use Rattle.std.specs.Prelude.{◌≡◌, ℕ, ◌+◌, ◌*◌, ◌<◌, ◌≤◌, [], ◌∷◌, ◌++◌, length, map, All, OnOk, if◌then◌else◌};
+ghost use Rattle.pixel_format.specs.Format.{pixel_bytes};
 ghost use Rattle.pixel_format.specs.Pixel.{IsWithin, pixel_of};
 ghost use Rattle.pixel_format.specs.Appending.{Appends, Grows};
 ghost use Rattle.std.specs.List.{flat_map};
@@ -39,8 +40,29 @@ fn append_pixel(format: &PixelFormat, color: Color, bytes: &mut Vec<u8>) -> Resu
     ensures written { OnOk result (bytes.new.items ≡ bytes.old.items ++ pixel_of format.now color) }
     ensures grows { Grows bytes.old.items bytes.new.items }
 {
+    match format.bytes() {
+        1 => append_sized(format, 1, color, bytes),
+        2 => append_sized(format, 2, color, bytes),
+        _ => append_sized(format, 4, color, bytes),
+    }
+}
+
+// The same for pixels of so many bytes, which the compiler knows where it is called.
+#[inline(always)]
+fn append_sized(
+    format: &PixelFormat,
+    size: usize,
+    color: Color,
+    bytes: &mut Vec<u8>,
+) -> Result<(), NoMemory>
+    requires bytes { size ≡ pixel_bytes format.now }
+    requires small { size ≤ 4 }
+    requires within { IsWithin format.now color }
+    ensures ok { OnOk result (Appends (IsPixel format.now color) bytes.old.items bytes.new.items) }
+    ensures written { OnOk result (bytes.new.items ≡ bytes.old.items ++ pixel_of format.now color) }
+    ensures grows { Grows bytes.old.items bytes.new.items }
+{
     let mut pixel = [0; 4];
-    let size = format.bytes();
     format.put(color, &mut pixel[..size]);
     bytes.extend_from_slice(&pixel[..size])
 }
@@ -135,8 +157,30 @@ fn append_pixels(
     ensures written { OnOk result (bytes.new.items ≡ bytes.old.items ++ flat_map (pixel_of format.now) colors.now) }
     ensures grows { Grows bytes.old.items bytes.new.items }
 {
+    match format.bytes() {
+        1 => append_pixels_sized(format, 1, colors, bytes),
+        2 => append_pixels_sized(format, 2, colors, bytes),
+        _ => append_pixels_sized(format, 4, colors, bytes),
+    }
+}
+
+// The same for pixels of so many bytes: a loop for each size.
+#[inline(always)]
+fn append_pixels_sized(
+    format: &PixelFormat,
+    size: usize,
+    colors: &[Color],
+    bytes: &mut Vec<u8>,
+) -> Result<(), NoMemory>
+    requires bytes { size ≡ pixel_bytes format.now }
+    requires small { size ≤ 4 }
+    requires within { All (IsWithin format.now) colors.now }
+    ensures ok { OnOk result (Appends (ArePixels format.now colors.now) bytes.old.items bytes.new.items) }
+    ensures written { OnOk result (bytes.new.items ≡ bytes.old.items ++ flat_map (pixel_of format.now) colors.now) }
+    ensures grows { Grows bytes.old.items bytes.new.items }
+{
     for color in colors {
-        append_pixel(format, *color, bytes)?;
+        append_sized(format, size, *color, bytes)?;
     }
     Ok(())
 }

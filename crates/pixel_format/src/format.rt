@@ -163,6 +163,7 @@ impl PixelFormat {
 
     /// Writes the pixel of a colour, its bytes as they stand on the wire. Bits that belong to no
     /// channel are 0.
+    #[inline(always)]
     pub fn put(&self, color: Color, bytes: &mut [u8])
         requires whole { length bytes.old ≡ pixel_bytes self.now }
         requires within { IsWithin self.now color }
@@ -190,18 +191,20 @@ impl PixelFormat {
         }
     }
 
-    // Writes the pixel of a number.
+    // Writes the pixel of a number. It looks at the length of the bytes, which a loop over pixels
+    // knows.
+    #[inline(always)]
     fn put_number(&self, number: u32, bytes: &mut [u8])
         requires whole { length bytes.old ≡ pixel_bytes self.now }
         requires fits { number < 2 ^ self.now.bits }
         ensures bytes { bytes.new ≡ number_bytes self.now number }
         ensures number { pixel_number self.now bytes.new ≡ number }
     {
-        if self.bits == 8 {
+        if bytes.len() == 1 {
             bytes.copy_from_slice(&[number as u8]);
-        } else if self.bits == 16 && self.big_endian {
+        } else if bytes.len() == 2 && self.big_endian {
             bytes.copy_from_slice(&(number as u16).to_be_bytes());
-        } else if self.bits == 16 {
+        } else if bytes.len() == 2 {
             bytes.copy_from_slice(&(number as u16).to_le_bytes());
         } else if self.big_endian {
             bytes.copy_from_slice(&number.to_be_bytes());
@@ -324,17 +327,28 @@ fn value_of(channel: Channel, number: u32) -> u16
     ((number >> channel.shift) % (channel.max as u32 + 1)) as u16
 }
 
-// A value of a channel, at its place in a pixel's number. Where the maximum is 0, the shift may lie
-// beyond the number.
+// The lowest bit of a channel in a pixel's number, or 0 for a channel of maximum 0, whose shift may
+// lie beyond the number. It is the same for all pixels, so a loop over them finds it once.
+#[inline(always)]
+fn unit_of(channel: Channel) -> u32
+    requires { channel.max * 2 ^ channel.shift < 2 ^ 32 }
+    ensures some { 0 < channel.max → result ≡ 2 ^ channel.shift }
+    ensures none { channel.max ≡ 0 → result ≡ 0 }
+{
+    if channel.max == 0 {
+        return 0;
+    }
+    1 << channel.shift
+}
+
+// A value of a channel, at its place in a pixel's number.
+#[inline(always)]
 fn placed(channel: Channel, value: u16) -> u32
     requires within { value ≤ channel.max }
     requires fits { channel.max * 2 ^ channel.shift < 2 ^ 32 }
     ensures { result ≡ value * 2 ^ channel.shift }
 {
-    if value == 0 {
-        return 0;
-    }
-    (value as u32) << channel.shift
+    value as u32 * unit_of(channel)
 }
 
 // A value of at most 255, in proportion to another maximum.

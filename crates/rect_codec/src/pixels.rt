@@ -16,7 +16,21 @@ fn put_pixels(format: &PixelFormat, colors: &[Color], pixels: &mut [u8])
     requires within { All (IsWithin format.now) colors.now }
     ensures { (k : ℕ) → k < length colors.now → IsPixelOf format.now (nth colors.now k) (pixel_at format.now pixels.new k) }
 {
-    let size = format.bytes();
+    match format.bytes() {
+        1 => put_of_size(format, 1, colors, pixels),
+        2 => put_of_size(format, 2, colors, pixels),
+        _ => put_of_size(format, 4, colors, pixels),
+    }
+}
+
+// The same for pixels of so many bytes: a loop for each size, in which the compiler knows it.
+#[inline(always)]
+fn put_of_size(format: &PixelFormat, size: usize, colors: &[Color], pixels: &mut [u8])
+    requires bytes { size ≡ pixel_bytes format.now }
+    requires size { length pixels.old ≡ length colors.now * pixel_bytes format.now }
+    requires within { All (IsWithin format.now) colors.now }
+    ensures { (k : ℕ) → k < length colors.now → IsPixelOf format.now (nth colors.now k) (pixel_at format.now pixels.new k) }
+{
     for (k, color) in colors.iter().enumerate() {
         let start = k * size;
         format.put(*color, &mut pixels[start..start + size]);

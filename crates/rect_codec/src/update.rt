@@ -1,6 +1,6 @@
 //! Updates of one rectangle.
 
-ghost use Rattle.std.specs.Prelude.{◌≡◌, ◌+◌, ◌*◌, ◌++◌, All, OnOk, OnErr, length};
+ghost use Rattle.std.specs.Prelude.{◌≡◌, ◌+◌, ◌*◌, ◌++◌, All, IfOk, OnOk, OnErr, length, true, false};
 ghost use Rattle.pixel_format.specs.Pixel.{IsWithin};
 ghost use Rattle.pixel_format.specs.Appending.{Appends};
 ghost use Rattle.rect_codec.specs.Written.{Shows, update_head, IsUpdate, IsUpdateFor};
@@ -40,48 +40,63 @@ fn append_head(area: Area, encoding: Encoding, out: &mut Vec<u8>) -> Result<(), 
     ])
 }
 
-// Appends the data of a rectangle.
+// Appends the data of a rectangle, and answers whether they are there: RRE's are where they have
+// fewer bytes than the limit. Where they aren't, `out` stays as it was.
 fn append_data(
     alloc: Global,
     format: &PixelFormat,
     area: Area,
     colors: &[Color],
     encoding: Encoding,
+    limit: usize,
     out: &mut Vec<u8>,
-) -> Result<(), NoMemory>
+) -> Result<bool, NoMemory>
     requires size { length colors.now ≡ area.h * area.w }
     requires within { All (IsWithin format.now) colors.now }
-    ensures ok { OnOk result (Appends (Shows encoding format.now area.w area.h colors.now) out.old.items out.new.items) }
+    ensures ok { IfOk result (λ whole. whole ≡ true
+        → Appends (Shows encoding format.now area.w area.h colors.now) out.old.items out.new.items) }
+    ensures unchanged { IfOk result (λ whole. whole ≡ false → out.new.items ≡ out.old.items) }
+    ensures raw { IfOk result (λ whole. encoding ≡ Encoding.Raw → whole ≡ true) }
     ensures err { OnErr result (out.new.items ≡ out.old.items) }
 {
     match encoding {
-        Encoding::Raw => append_pixels(format, colors, out),
-        Encoding::Rre => rre::encode(alloc, format, area.w, area.h, colors, out),
-        Encoding::Hextile => hextile::encode(format, area.w, area.h, colors, out),
+        Encoding::Raw => append_pixels(format, colors, out)?,
+        Encoding::Rre => {
+            return rre::encode_below(alloc, format, area.w, area.h, colors, limit, out);
+        }
+        Encoding::Hextile => hextile::encode(format, area.w, area.h, colors, out)?,
     }
+    Ok(true)
 }
 
-// Appends an update in this encoding, whatever its length.
+// Appends an update in this encoding, and answers whether it is there: in RRE it is where its data
+// have fewer bytes than the limit, in the others whatever its length. Where it isn't, `out` stays as
+// it was.
 fn append_update(
     alloc: Global,
     format: &PixelFormat,
     area: Area,
     colors: &[Color],
     encoding: Encoding,
+    limit: usize,
     out: &mut Vec<u8>,
-) -> Result<(), NoMemory>
+) -> Result<bool, NoMemory>
     requires size { length colors.now ≡ area.h * area.w }
     requires within { All (IsWithin format.now) colors.now }
-    ensures ok { OnOk result (Appends (IsUpdate format.now area colors.now encoding) out.old.items out.new.items) }
+    ensures ok { IfOk result (λ whole. whole ≡ true
+        → Appends (IsUpdate format.now area colors.now encoding) out.old.items out.new.items) }
+    ensures unchanged { IfOk result (λ whole. whole ≡ false → out.new.items ≡ out.old.items) }
+    ensures raw { IfOk result (λ whole. encoding ≡ Encoding.Raw → whole ≡ true) }
     ensures err { OnErr result (out.new.items ≡ out.old.items) }
 {
     let start = out.len();
     append_head(area, encoding, out)?;
-    if let Err(fault) = append_data(alloc, format, area, colors, encoding, out) {
-        out.truncate(start);
-        return Err(fault);
+    let written = append_data(alloc, format, area, colors, encoding, limit, out);
+    if let Ok(true) = written {
+        return Ok(true);
     }
-    Ok(())
+    out.truncate(start);
+    written
 }
 
 /// Appends a FramebufferUpdate of one rectangle (RFC 6143, section 7.6.1) that gives the places of
@@ -102,13 +117,16 @@ pub fn write_update(
     ensures ok { OnOk result (Appends (IsUpdateFor format.now area colors.now encoding) out.old.items out.new.items) }
     ensures err { OnErr result (out.new.items ≡ out.old.items) }
 {
+    let size = colors.len() * format.bytes();
     if encoding != Encoding::Raw {
         let kept = out.len();
-        append_update(alloc, format, area, colors, encoding, out)?;
-        if out.len() - kept < HEAD_SIZE + colors.len() * format.bytes() {
+        let whole = append_update(alloc, format, area, colors, encoding, size, out)?;
+        if whole && out.len() - kept < HEAD_SIZE + size {
             return Ok(());
         }
         out.truncate(kept);
     }
-    append_update(alloc, format, area, colors, Encoding::Raw, out)
+    let whole = append_update(alloc, format, area, colors, Encoding::Raw, size, out)?;
+    prove!(whole);
+    Ok(())
 }

@@ -29,7 +29,7 @@ is_at_key c d =
     ∙ ap (λ t. ((d.r == c.r) && t) && is_eq (nat_cmp c.b d.b)) (is_eq_numbers c.g d.g)
     ∙ ap (λ t. ((d.r == c.r) && (d.g == c.g)) && t) (is_eq_numbers c.b d.b)
 
-one_color : (one other : Color) → is_color one other ≡ true → one ≡ other
+pub one_color : (one other : Color) → is_color one other ≡ true → one ≡ other
 one_color one other h =
     let front = and_parts (one.r == other.r && one.g == other.g) (one.b == other.b) h in
     let pair = and_parts (one.r == other.r) (one.g == other.g) front.0 in
@@ -88,7 +88,7 @@ pub record IsTally (colors : List Color) (counts : BTreeMap (ℕ × ℕ × ℕ) 
   pub at_most : (color : Color) → counted counts color ≤ most
   pub best : counted counts (nth colors place) ≡ most
 
-self_color : (color : Color) → is_color color color ≡ true
+pub self_color : (color : Color) → is_color color color ≡ true
 self_color c = and_from (c.r == c.r && c.g == c.g) (c.b == c.b) (and_from (c.r == c.r) (c.g == c.g) (eq-eqb c.r c.r refl) (eq-eqb c.g c.g refl)) (eq-eqb c.b c.b refl)
 
 -- a run of one colour, from `start` to `end`

@@ -1,8 +1,8 @@
 //! Which subrectangles an encoder lists.
 
-ghost use Rattle.std.specs.Prelude.{◌≡◌, ◌↔◌, ℕ, ◌+◌, ◌*◌, ◌^◌, ◌<◌, ◌≤◌, length, IsTrue, OnOk, IfOk, slice_index, if◌then◌else◌, ◌&&◌, nat_le, nat_lt};
+ghost use Rattle.std.specs.Prelude.{◌≡◌, ◌↔◌, ℕ, ◌+◌, ◌*◌, ◌^◌, ◌<◌, ◌≤◌, length, IsTrue, OnOk, IfOk, IfSome, None, true, false, slice_index, if◌then◌else◌, ◌&&◌, nat_le, nat_lt};
 ghost use Rattle.rre.specs.Encoded.{IsUniform, AreUniform, Reaches, part_picture};
-ghost use Rattle.rre.specs.Frequent.{is_color, count_of, counted};
+ghost use Rattle.rre.specs.Frequent.{is_color, count_of, counted, HasMajority};
 ghost use Rattle.pixel_format.specs.Canvas.{Agree, nth, rows_of};
 
 use crate::data::Subrectangle;
@@ -15,6 +15,9 @@ fn same(one: Color, other: Color) -> bool
 {
     one.r == other.r && one.g == other.g && one.b == other.b
 }
+
+// The most colours that are counted. With more, the others are mostly no shorter to write in RRE.
+const MOST_COLORS: usize = 64;
 
 // How often each colour was met, by its channels.
 type Counts = BTreeMap<(u16, u16, u16), usize>;
@@ -32,6 +35,20 @@ fn count_more(counts: &mut Counts, color: Color, more: usize) -> Result<usize, N
     Ok(count)
 }
 
+// The first place from an index on that has another colour, or how many places there are.
+fn end_of_color(colors: &[Color], start: usize, color: Color) -> usize
+    requires { start ≤ length colors.now }
+    ensures reached { start ≤ result }
+    ensures within { result ≤ length colors.now }
+    ensures same { (k : ℕ) → start ≤ k → k < result → nth colors.now k ≡ color }
+{
+    let mut end = start;
+    while end < colors.len() && same(colors[end], color) {
+        end += 1;
+    }
+    end
+}
+
 // The end of the run of one colour that begins at a place.
 fn end_of_run(colors: &[Color], start: usize) -> usize
     requires { start < length colors.now }
@@ -39,27 +56,26 @@ fn end_of_run(colors: &[Color], start: usize) -> usize
     ensures within { result ≤ length colors.now }
     ensures same { (k : ℕ) → start ≤ k → k < result → nth colors.now k ≡ nth colors.now start }
 {
-    let color = colors[start];
-    let mut end = start + 1;
-    while end < colors.len() && same(colors[end], color) {
-        end += 1;
-    }
-    end
+    end_of_color(colors, start + 1, colors[start])
 }
 
-/// The index of a colour that stands at the most places: no colour stands at more. Each run of one
-/// colour is one look into a map of the colours so far.
-pub(crate) fn background(alloc: Global, colors: &[Color]) -> Result<usize, NoMemory>
+// The index of a colour that stands at the most places: no colour stands at more. `None` where the
+// colours are too many to be counted. Each run of one colour is one look into a map of the colours
+// so far.
+fn most_counted(alloc: Global, colors: &[Color]) -> Result<Option<usize>, NoMemory>
     requires { 0 < length colors.now }
-    ensures within { IfOk result (λ place. place < length colors.now) }
-    ensures frequent { IfOk result (λ place. (color : Color)
-        → count_of color colors.now ≤ count_of (nth colors.now place) colors.now) }
+    ensures within { IfOk result (λ found. IfSome found (λ place. place < length colors.now)) }
+    ensures frequent { IfOk result (λ found. IfSome found (λ place. (color : Color)
+        → count_of color colors.now ≤ count_of (nth colors.now place) colors.now)) }
 {
     let mut counts = BTreeMap::new(alloc);
     let mut place = 0;
     let mut most = 0;
     let mut start = 0;
     while start < colors.len() {
+        if counts.len() > MOST_COLORS {
+            return Ok(None);
+        }
         let end = end_of_run(colors, start);
         let count = count_more(&mut counts, colors[start], end - start)?;
         if most < count {
@@ -68,7 +84,43 @@ pub(crate) fn background(alloc: Global, colors: &[Color]) -> Result<usize, NoMem
         }
         start = end;
     }
-    Ok(place)
+    Ok(Some(place))
+}
+
+// The index of the colour that stands at more than half of the places, if one does: each place of
+// another colour takes one vote of it away.
+fn most_voted(colors: &[Color]) -> usize
+    requires { 0 < length colors.now }
+    ensures within { result < length colors.now }
+    ensures majority { HasMajority colors.now result }
+{
+    let mut place = 0;
+    let mut votes = 0usize;
+    for k in 0..colors.len() {
+        if votes == 0 {
+            place = k;
+            votes = 1;
+        } else if same(colors[k], colors[place]) {
+            votes += 1;
+        } else {
+            votes -= 1;
+        }
+    }
+    place
+}
+
+/// The index of a colour that stands at the most places where the colours are few, and else of the
+/// one that stands at more than half of them, if one does.
+pub(crate) fn background(alloc: Global, colors: &[Color]) -> Result<usize, NoMemory>
+    requires { 0 < length colors.now }
+    ensures within { IfOk result (λ place. place < length colors.now) }
+    ensures majority { IfOk result (HasMajority colors.now) }
+{
+    let counted = most_counted(alloc, colors)?;
+    if let Some(place) = counted {
+        return Ok(place);
+    }
+    Ok(most_voted(colors))
 }
 
 // Whether so many places of a row, from a column on, have the colour.
@@ -145,54 +197,70 @@ fn raise(reach: &mut [u16], column: u16, width: u16, end: u16)
     }
 }
 
-// Covers the places of a row that have another colour than the background.
+// Covers the places of a row that have another colour than the background. Answers whether so many
+// parts in all are enough.
 fn cover_row(
     colors: &[Color],
     h: u16,
     row: u16,
     background: Color,
+    most: usize,
     reach: &mut [u16],
     parts: &mut Vec<Subrectangle>,
-) -> Result<(), NoMemory>
+) -> Result<bool, NoMemory>
     requires narrow { length reach.old < 65536 }
     requires row { row < h }
     requires size { length colors.now ≡ h * length reach.old }
     requires reaches { Reaches colors.now (length reach.old) h background parts.old.items reach.old 0 row }
-    ensures { OnOk result (Reaches colors.now (length reach.old) h background parts.new.items reach.new 0 (row + 1)) }
+    ensures whole { IfOk result (λ whole. whole ≡ true
+        → Reaches colors.now (length reach.old) h background parts.new.items reach.new 0 (row + 1)) }
+    ensures many { IfOk result (λ whole. whole ≡ false → most < h * length reach.old) }
 {
     let start = row as usize * reach.len();
+    let line = &colors[start..start + reach.len()];
     let mut column = 0;
-    while (column as usize) < reach.len() {
-        if reach[column as usize] > row || same(colors[start + column as usize], background) {
+    while column < line.len() {
+        if same(line[column], background) {
+            column = end_of_color(line, column + 1, background);
+        } else if reach[column] > row {
             column += 1;
+        } else if parts.len() >= most {
+            return Ok(false);
         } else {
-            let part = grow(colors, h, column, row, reach);
+            let x = column as u16;
+            let part = grow(colors, h, x, row, reach);
             parts.push(part)?;
-            raise(reach, column, part.w, row + part.h);
-            column += part.w;
+            raise(reach, x, part.w, row + part.h);
+            column += part.w as usize;
         }
     }
-    Ok(())
+    Ok(true)
 }
 
-/// Subrectangles of one colour each that, over the background, give every place of colours by rows
-/// its colour. Each place is looked at a bounded number of times.
+/// At most so many subrectangles of one colour each that, over the background, give every place of
+/// colours by rows its colour; `None` where they would be more. Each place is looked at a bounded
+/// number of times.
 pub(crate) fn cover(
     alloc: Global,
     w: u16,
     h: u16,
     colors: &[Color],
     background: Color,
-) -> Result<Vec<Subrectangle>, NoMemory>
+    most: usize,
+) -> Result<Option<Vec<Subrectangle>>, NoMemory>
     requires { length colors.now ≡ h * w }
-    ensures uniform { IfOk result (λ parts. AreUniform colors.now w h parts.items) }
-    ensures few { IfOk result (λ parts. length parts.items ≤ h * w) }
-    ensures picture { IfOk result (λ parts. Agree w h (part_picture background parts.items) (rows_of colors.now w)) }
+    ensures uniform { IfOk result (λ covered. IfSome covered (λ parts. AreUniform colors.now w h parts.items)) }
+    ensures few { IfOk result (λ covered. IfSome covered (λ parts. length parts.items ≤ h * w)) }
+    ensures picture { IfOk result (λ covered. IfSome covered (λ parts.
+        Agree w h (part_picture background parts.items) (rows_of colors.now w))) }
+    ensures many { IfOk result (λ covered. covered ≡ None → most < h * w) }
 {
     let mut parts = Vec::new(alloc);
     let mut reach = vec![in alloc; 0; w as usize]?;
     for row in 0..h {
-        cover_row(colors, h, row, background, &mut reach, &mut parts)?;
+        if !cover_row(colors, h, row, background, most, &mut reach, &mut parts)? {
+            return Ok(None);
+        }
     }
-    Ok(parts)
+    Ok(Some(parts))
 }

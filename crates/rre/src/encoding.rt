@@ -1,25 +1,23 @@
 //! Encoding a rectangle.
 
-ghost use Rattle.std.specs.Prelude.{◌≡◌, ◌*◌, ◌≤◌, All, IfOk, OnOk, OnErr, length};
+ghost use Rattle.std.specs.Prelude.{◌≡◌, ◌+◌, ◌*◌, ◌<◌, All, IfOk, OnOk, OnErr, length, true, false};
 ghost use Rattle.pixel_format.specs.Pixel.{IsWithin};
 ghost use Rattle.pixel_format.specs.Appending.{Appends};
 ghost use Rattle.rre.specs.Encoded.{Shows};
-ghost use Rattle.rre.specs.Frequent.{count_of};
 
 use crate::append::append_data;
 use crate::cover::{background, cover};
 use pixel_format::{Color, NoMemory, PixelFormat};
 use std::alloc::Global;
 
-// The colour of the background, which stands at the most places: black where there are none.
+// The colour of the background: black where there are no places.
 fn background_color(
     alloc: Global,
     format: &PixelFormat,
     colors: &[Color],
 ) -> Result<Color, NoMemory>
     requires { All (IsWithin format.now) colors.now }
-    ensures within { IfOk result (IsWithin format.now) }
-    ensures frequent { IfOk result (λ color. (other : Color) → count_of other colors.now ≤ count_of color colors.now) }
+    ensures { IfOk result (IsWithin format.now) }
 {
     if colors.is_empty() {
         return Ok(Color { r: 0, g: 0, b: 0 });
@@ -28,12 +26,44 @@ fn background_color(
     Ok(colors[place])
 }
 
+// Appends data of at most so many subrectangles, and answers whether they are enough. Where they
+// aren't, and for want of memory, `bytes` stays as it was.
+fn append_few(
+    alloc: Global,
+    format: &PixelFormat,
+    w: u16,
+    h: u16,
+    colors: &[Color],
+    most: usize,
+    bytes: &mut Vec<u8>,
+) -> Result<bool, NoMemory>
+    requires size { length colors.now ≡ h * w }
+    requires within { All (IsWithin format.now) colors.now }
+    ensures ok { IfOk result (λ whole. whole ≡ true → Appends (Shows format.now w h colors.now) bytes.old.items bytes.new.items) }
+    ensures unchanged { IfOk result (λ whole. whole ≡ false → bytes.new.items ≡ bytes.old.items) }
+    ensures many { IfOk result (λ whole. whole ≡ false → most < h * w) }
+    ensures err { OnErr result (bytes.new.items ≡ bytes.old.items) }
+{
+    let background = background_color(alloc, format, colors)?;
+    let covered = cover(alloc, w, h, colors, background, most)?;
+    let Some(parts) = covered else {
+        return Ok(false);
+    };
+    let start = bytes.len();
+    if let Err(fault) = append_data(format, background, &parts, bytes) {
+        bytes.truncate(start);
+        return Err(fault);
+    }
+    Ok(true)
+}
+
 /// Appends data of a rectangle of w by h that has these colours, by rows from the top and each from
 /// the left, in a format to whose maxima they keep (RFC 6143, section 7.7.3). Bits of a pixel that
 /// belong to no channel are 0. Which background and which subrectangles it lists isn't promised:
-/// today the background is a colour that stands at the most places, and the subrectangles are as
-/// wide, and then as high, as one colour reaches. It looks at each place a bounded number of times.
-/// Want of memory leaves `bytes` as it was.
+/// today the background is a colour that stands at the most places where the colours are few, else
+/// one that stands at more than half of them, if there is one; and the subrectangles are as wide,
+/// and then as high, as one colour reaches. It looks at each place a bounded number of times. Want
+/// of memory leaves `bytes` as it was.
 pub fn encode(
     alloc: Global,
     format: &PixelFormat,
@@ -47,12 +77,37 @@ pub fn encode(
     ensures ok { OnOk result (Appends (Shows format.now w h colors.now) bytes.old.items bytes.new.items) }
     ensures err { OnErr result (bytes.new.items ≡ bytes.old.items) }
 {
-    let background = background_color(alloc, format, colors)?;
-    let parts = cover(alloc, w, h, colors, background)?;
-    let start = bytes.len();
-    if let Err(fault) = append_data(format, background, &parts, bytes) {
-        bytes.truncate(start);
-        return Err(fault);
-    }
+    let most = h as usize * w as usize;
+    let whole = append_few(alloc, format, w, h, colors, most, bytes)?;
+    prove!(whole);
     Ok(())
+}
+
+/// Appends data as [`encode`] does if they have fewer bytes than the limit, and answers whether they
+/// have. It stops listing subrectangles once they have as many. Where it answers `false`, and for
+/// want of memory, `bytes` stays as it was.
+pub fn encode_below(
+    alloc: Global,
+    format: &PixelFormat,
+    w: u16,
+    h: u16,
+    colors: &[Color],
+    limit: usize,
+    bytes: &mut Vec<u8>,
+) -> Result<bool, NoMemory>
+    requires size { length colors.now ≡ h * w }
+    requires within { All (IsWithin format.now) colors.now }
+    ensures ok { IfOk result (λ whole. whole ≡ true → Appends (Shows format.now w h colors.now) bytes.old.items bytes.new.items) }
+    ensures below { IfOk result (λ whole. whole ≡ true → length bytes.new.items < length bytes.old.items + limit) }
+    ensures unchanged { IfOk result (λ whole. whole ≡ false → bytes.new.items ≡ bytes.old.items) }
+    ensures err { OnErr result (bytes.new.items ≡ bytes.old.items) }
+{
+    let before = bytes.len();
+    let most = limit / (format.bytes() + 8);
+    let whole = append_few(alloc, format, w, h, colors, most, bytes)?;
+    if bytes.len() < before.saturating_add(limit) {
+        return Ok(whole);
+    }
+    bytes.truncate(before);
+    Ok(false)
 }

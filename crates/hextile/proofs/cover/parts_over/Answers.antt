@@ -4,7 +4,7 @@ use Rattle.hextile.proofs.Covered.{all_shown}
 use Rattle.hextile.proofs.cover.parts_over.Goals as goal
 
 pub returns : goal.returns
-returns c = λ format background within all.
+returns c = λ _ format background within all.
     let most = c.loop-k.auto.k-end in
     let least = c.loop-k-test.false in
     let done : c.loop-k.k ≡ length c.args.colors.now = omega (arith, most, least) in

@@ -1,14 +1,31 @@
-use Rattle.std.proofs.Common.{◌∙◌, ◌<◌, ◌≤◌, ◌*◌, length, refl, arith}
+use Rattle.std.proofs.Common.{◌≡◌, ◌∙◌, ◌<◌, ◌≤◌, ◌+◌, ◌*◌, ◌/◌, ◌%◌, ℕ, length, ap, sym, subst, arith}
 use Rattle.std.proofs.lemmas.List.{length-set}
+use Rattle.std.proofs.lemmas.Nat.{div-mul-add, mod-mul-add, mul-add-lt}
 use Rattle.std.proofs.Math.Nat.{mul-le-mul}
+use Rattle.std.specs.Prelude.{slice_set}
+use Rattle.pixel_format.specs.Canvas.{nth}
+use Rattle.hextile.specs.Encoded.{AreTileColors}
 use Rattle.hextile.proofs.Covered.{colors_more}
 use Rattle.hextile.proofs.cover.tile_colors.Goals as goal
 
-pub loop-k-preserved : goal.loop-k-preserved
-loop-k-preserved c =
-    let most : c.args.area.w * c.args.area.h ≤ 256 = mul-le-mul c.requires.wide c.requires.high in
-    let fits : c.loop-k.k < length c.loop-k.tile = omega (arith, most, c.loop-k.invariant.size, c.loop-k-test.true) in
+pub loop-column-preserved : goal.loop-column-preserved
+loop-column-preserved c =
+    let area = c.args.area in
+    let tw = area.w in
+    let row = c.loop-row.row in
+    let column = c.loop-column.column in
+    let k = row * tw + column in
+    let across : column < tw = omega (arith, c.loop-column-test.true) in
+    let down : row < area.h = omega (arith, c.loop-row-test.true) in
+    let most : tw * area.h ≤ 256 = mul-le-mul c.requires.wide c.requires.high in
+    let fits : k < length c.loop-column.tile = omega (arith, most, c.loop-column.invariant.size, mul-add-lt row tw column area.h down across) in
+    let at : (area.y + k / tw) * c.args.w + (area.x + k % tw) ≡ (area.y + row) * c.args.w + area.x + column =
+    ap (λ (n : ℕ). (area.y + n) * c.args.w + (area.x + k % tw)) (div-mul-add row tw column across)
+    ∙ ap (λ (n : ℕ). (area.y + row) * c.args.w + (area.x + n)) (mod-mul-add row tw column across) ∙ omega arith in
+    let next : k + 1 ≡ row * tw + (column + 1) = omega arith in
     record {
-      size = length-set _ _ _ ∙ c.loop-k.invariant.size;
-      are = colors_more c.args.colors.now c.args.w c.args.area.x c.args.area.y c.args.area.w c.loop-k.tile c.loop-k.k _ fits c.loop-k.invariant.are refl;
+      size = length-set _ _ _ ∙ c.loop-column.invariant.size;
+      are = subst (λ (n : ℕ). AreTileColors c.args.colors.now c.args.w area.x area.y tw
+          (slice_set c.loop-column.tile k (nth c.args.colors.now ((area.y + row) * c.args.w + area.x + column))) n) next
+          (colors_more c.args.colors.now c.args.w area.x area.y tw c.loop-column.tile k _ fits c.loop-column.invariant.are (ap (nth c.args.colors.now) (sym at)));
     }

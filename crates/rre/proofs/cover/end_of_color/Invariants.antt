@@ -1,10 +1,10 @@
 use Rattle.std.proofs.Common.{◌≡◌, ℕ, ◌-◌, ◌<◌, ◌≤◌, length}
 use Rattle.pixel_format.specs.Canvas.{nth}
-use Rattle.rre.proofs.cover.end_of_run.Given as goal
+use Rattle.rre.proofs.cover.end_of_color.Given as goal
 
 abbrev pub invariant-loop-end : goal.invariant-loop-end
 invariant-loop-end l = record {
-  some : l.start < l.end;
+  reached : l.start ≤ l.end;
   within : l.end ≤ length l.colors;
   same : (k : ℕ) → l.start ≤ k → k < l.end → nth l.colors k ≡ l.color;
 }

@@ -1,6 +1,6 @@
 use Rattle.std.proofs.Common.{◌-◌, length}
 use Rattle.rre.proofs.Frequencies.{IsTally}
-use Rattle.rre.proofs.cover.background.Given as goal
+use Rattle.rre.proofs.cover.most_counted.Given as goal
 
 abbrev pub invariant-loop-start : goal.invariant-loop-start
 invariant-loop-start l = record {

@@ -3,7 +3,7 @@ use Rattle.std.specs.List.{flat_map}
 use Rattle.pixel_format.specs.Pixel.{pixel_of}
 use Rattle.pixel_format.specs.Appending.{Appends}
 use Rattle.hextile.specs.Data.{ArePixels}
-use Rattle.hextile.proofs.writing.append_pixels.Given as goal
+use Rattle.hextile.proofs.writing.append_pixels_sized.Given as goal
 
 abbrev pub invariant-loop-color : goal.invariant-loop-color
 invariant-loop-color l = record {

@@ -2,7 +2,7 @@ use Rattle.std.proofs.Common.{ℕ, ◌<◌}
 use Rattle.pixel_format.specs.Canvas.{nth}
 use Rattle.rect_codec.specs.Picture.{pixel_at}
 use Rattle.rect_codec.specs.Written.{IsPixelOf}
-use Rattle.rect_codec.proofs.pixels.put_pixels.Given as goal
+use Rattle.rect_codec.proofs.pixels.put_of_size.Given as goal
 
 -- the pixels so far are those of their colours
 abbrev pub invariant-loop-k : goal.invariant-loop-k

@@ -1,6 +1,0 @@
-use Rattle.std.proofs.Common.{arith}
-use Rattle.pixel_format.proofs.Lanes.{shift_below}
-use Rattle.pixel_format.proofs.format.placed.Goals as goal
-
-pub overflow_shl-result : goal.overflow_shl-result
-overflow_shl-result c = shift_below c.args.value c.args.channel.max c.args.channel.shift (omega arith) c.requires.within c.requires.fits

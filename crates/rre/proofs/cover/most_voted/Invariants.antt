@@ -1,0 +1,7 @@
+use Rattle.rre.proofs.Votes.{IsVote}
+use Rattle.rre.proofs.cover.most_voted.Given as goal
+
+abbrev pub invariant-loop-k : goal.invariant-loop-k
+invariant-loop-k l = record {
+  votes : IsVote l.colors l.k l.place l.votes;
+}
