@@ -66,6 +66,22 @@ fn answered(alloc: Global, session: &mut Session, bytes: &[u8]) -> Result<Vec<u8
     Ok(out)
 }
 
+// The session's calls, without what they promise: a test would be slow to prove beside all of it.
+fn feed(session: &mut Session, piece: &[u8]) -> Result<(), SessionFault> {
+    session.feed(piece)
+}
+
+// What is put out now.
+fn put_out(alloc: Global, session: &mut Session) -> Result<Vec<u8>, Fail> {
+    let mut out = Vec::new(alloc);
+    session.answer(&mut out)?;
+    Ok(out)
+}
+
+fn new_session(alloc: Global) -> Result<Session, Fail> {
+    Ok(Session::new(alloc, 2, 1, b"r")?)
+}
+
 // Goes on by one message, which paints green.
 fn paint_green(alloc: Global, session: &mut Session) -> Result<(), Fail>
     requires width { session.old.view.screen.width ≡ 2 }
@@ -86,39 +102,43 @@ fn paint_green(alloc: Global, session: &mut Session) -> Result<(), Fail>
 #[test]
 fn greeting(rt: HostRuntime) -> Result<(), Fail> {
     let alloc = rt.alloc();
-    let mut session = Session::new(alloc, 2, 1, b"r")?;
-    let mut out = Vec::new(alloc);
-    session.answer(&mut out)?;
-    assert!(rt; out.as_slice() == &GREETING[..12]);
-    for byte in HANDSHAKE {
-        session.feed(&[byte])?;
+    let mut session = new_session(alloc)?;
+    assert!(rt; put_out(alloc, &mut session)?.as_slice() == &GREETING[..12]);
+    for piece in HANDSHAKE.chunks(1) {
+        feed(&mut session, piece)?;
     }
-    session.answer(&mut out)?;
-    assert!(rt; out.as_slice() == GREETING.as_slice());
-    session.answer(&mut out)?;
-    assert!(rt; out.len() == 43);
+    for answer in [&GREETING[12..], b""] {
+        assert!(rt; put_out(alloc, &mut session)?.as_slice() == answer);
+    }
     assert!(rt; !session.wants());
     Ok(())
 }
 
-// Another version, and another type: the fault at each call from then on, and the reason once.
+// Another version: the fault at each call from then on, and the reason once.
 #[test]
-fn refusals(rt: HostRuntime) -> Result<(), Fail> {
+fn another_version(rt: HostRuntime) -> Result<(), Fail> {
     let alloc = rt.alloc();
-    let mut session = Session::new(alloc, 2, 1, b"r")?;
-    assert!(rt; session.feed(b"RFB 003.003\n\x01") == Err(SessionFault::Version));
-    assert!(rt; session.feed(&[]) == Err(SessionFault::Version));
+    let mut session = new_session(alloc)?;
+    for piece in [b"RFB 003.003\n\x01".as_slice(), b""] {
+        assert!(rt; feed(&mut session, piece) == Err(SessionFault::Version));
+    }
     session.close();
-    assert!(rt; session.feed(&HANDSHAKE) == Err(SessionFault::Version));
-    let mut out = Vec::new(alloc);
-    session.answer(&mut out)?;
-    session.answer(&mut out)?;
-    assert!(rt; out.as_slice() == b"RFB 003.008\n\0\0\0\0\x10only RFB 003.008".as_slice());
-    let mut other = Session::new(alloc, 2, 1, b"r")?;
-    assert!(rt; other.feed(b"RFB 003.008\n\x02") == Err(SessionFault::Security));
-    assert!(rt; other.feed(&[1]) == Err(SessionFault::Security));
-    let mut told = Vec::new(alloc);
-    other.answer(&mut told)?;
+    assert!(rt; feed(&mut session, &HANDSHAKE) == Err(SessionFault::Version));
+    for answer in [b"RFB 003.008\n\0\0\0\0\x10only RFB 003.008".as_slice(), b""] {
+        assert!(rt; put_out(alloc, &mut session)?.as_slice() == answer);
+    }
+    Ok(())
+}
+
+// Another type.
+#[test]
+fn another_security(rt: HostRuntime) -> Result<(), Fail> {
+    let alloc = rt.alloc();
+    let mut session = new_session(alloc)?;
+    for piece in [b"RFB 003.008\n\x02".as_slice(), b"\x01"] {
+        assert!(rt; feed(&mut session, piece) == Err(SessionFault::Security));
+    }
+    let told = put_out(alloc, &mut session)?;
     assert!(rt;
         told.as_slice() == b"RFB 003.008\n\x01\x01\0\0\0\x01\0\0\0\x09only None".as_slice()
     );
@@ -128,11 +148,15 @@ fn refusals(rt: HostRuntime) -> Result<(), Fail> {
 // The faults' numbers, and first bytes of a stream.
 #[test]
 fn numbers(rt: HostRuntime) -> Result<(), Fail> {
-    assert!(rt; SessionFault::Wire(WireFault::UnknownType).number() == 1);
-    assert!(rt; SessionFault::Wire(WireFault::NoMemory).number() == 9);
-    assert!(rt; SessionFault::Version.number() == 20);
-    assert!(rt; SessionFault::Security.number() == 21);
-    assert!(rt; SessionFault::Closed.number() == 22);
+    for (fault, number) in [
+        (SessionFault::Wire(WireFault::UnknownType), 1),
+        (SessionFault::Wire(WireFault::NoMemory), 9),
+        (SessionFault::Version, 20),
+        (SessionFault::Security, 21),
+        (SessionFault::Closed, 22),
+    ] {
+        assert!(rt; fault.number() == number);
+    }
     assert!(rt; is_whole(&HANDSHAKE)?);
     assert!(rt; !is_whole(b"RFB 003.003")?);
     Ok(())
@@ -145,50 +169,65 @@ fn faults(rt: HostRuntime) -> Result<(), Fail> {
     let alloc = rt.alloc();
     let mut session = started(alloc, 2, &BOTH)?;
     let fault = SessionFault::Wire(WireFault::UnknownType);
-    assert!(rt; session.feed(b"\x03\0\0\0\0\0\0\x01\0\x01\x07") == Err(fault));
-    assert!(rt; session.feed(&FIRST) == Err(fault));
-    let mut out = Vec::new(alloc);
-    session.answer(&mut out)?;
-    assert!(rt; out.as_slice() == RED.as_slice());
-    let mut other = started(alloc, 2, &BOTH)?;
-    other.feed(&FIRST)?;
-    other.close();
-    assert!(rt; other.feed(&FIRST) == Err(SessionFault::Closed));
-    out.clear();
-    other.answer(&mut out)?;
-    assert!(rt; out.as_slice() == RED.as_slice());
-    let mut last = started(alloc, 2, &BOTH)?;
-    let format = b"\0\0\0\0\x20\x18\0\0\0\xff\0\xff\0\xff\x10\x08\0\0\0\0";
-    let refused = SessionFault::Wire(WireFault::BadFormat(FormatFault::NoTrueColor));
-    assert!(rt; last.feed(format) == Err(refused));
+    for piece in [b"\x03\0\0\0\0\0\0\x01\0\x01\x07".as_slice(), &FIRST] {
+        assert!(rt; feed(&mut session, piece) == Err(fault));
+    }
+    assert!(rt; put_out(alloc, &mut session)?.as_slice() == RED.as_slice());
     Ok(())
 }
 
-// Red and green are asked for one by one, and again; nothing is sent until something is painted.
+#[test]
+fn closed(rt: HostRuntime) -> Result<(), Fail> {
+    let alloc = rt.alloc();
+    let mut session = started(alloc, 2, &BOTH)?;
+    feed(&mut session, &FIRST)?;
+    session.close();
+    assert!(rt; feed(&mut session, &FIRST) == Err(SessionFault::Closed));
+    assert!(rt; put_out(alloc, &mut session)?.as_slice() == RED.as_slice());
+    Ok(())
+}
+
+#[test]
+fn another_format(rt: HostRuntime) -> Result<(), Fail> {
+    let mut session = started(rt.alloc(), 2, &BOTH)?;
+    let format = b"\0\0\0\0\x20\x18\0\0\0\xff\0\xff\0\xff\x10\x08\0\0\0\0";
+    let refused = SessionFault::Wire(WireFault::BadFormat(FormatFault::NoTrueColor));
+    assert!(rt; feed(&mut session, format) == Err(refused));
+    Ok(())
+}
+
+// Whether red and green are answered when they are asked for one by one.
+fn is_red_and_green(alloc: Global, session: &mut Session) -> Result<bool, Fail>
+    ensures screen { session.new.view.screen ≡ session.old.view.screen }
+    ensures position { session.new.view.position ≡ session.old.view.position }
+{
+    let first = answered(alloc, session, &FIRST)?;
+    let second = answered(alloc, session, &CHANGES)?;
+    Ok(first.as_slice() == RED.as_slice() && second.as_slice() == GREEN.as_slice())
+}
+
+// Red and green are asked for, and again; nothing is sent until something is painted.
 #[test]
 fn red_and_green(rt: HostRuntime) -> Result<(), Fail> {
     let alloc = rt.alloc();
     let mut session = started(alloc, 2, &BOTH)?;
     session.feed(b"\x02\0\0\x01\0\0\0\0")?;
-    let first = answered(alloc, &mut session, &FIRST)?;
-    assert!(rt; first.as_slice() == RED.as_slice());
-    let second = answered(alloc, &mut session, &CHANGES)?;
-    assert!(rt; second.as_slice() == GREEN.as_slice());
+    assert!(rt; is_red_and_green(alloc, &mut session)?);
     let none = answered(alloc, &mut session, &CHANGES)?;
     assert!(rt; none.is_empty() && session.wants());
     paint_green(alloc, &mut session)?;
     assert!(rt; session.position() == 2);
-    let again = answered(alloc, &mut session, &[])?;
-    assert!(rt; again.as_slice() == GREEN.as_slice());
+    assert!(rt; put_out(alloc, &mut session)?.as_slice() == GREEN.as_slice());
     Ok(())
 }
 
 // What the pixel (255, 128, 0) is answered with, after this format.
 fn orange(alloc: Global, format: &[u8]) -> Result<Vec<u8>, Fail> {
     let mut session = started(alloc, 1, &ORANGE)?;
-    session.feed(&[0, 0, 0, 0])?;
-    session.feed(format)?;
-    let answer = answered(alloc, &mut session, &FIRST)?;
+    feed(&mut session, &[0, 0, 0, 0])?;
+    feed(&mut session, format)?;
+    feed(&mut session, &FIRST)?;
+    let answer = put_out(alloc, &mut session)?;
     let pixel = answer.get(16..).unwrap_or_default();
     Ok(Vec::from_slice(alloc, pixel)?)
 }
@@ -198,18 +237,29 @@ fn orange(alloc: Global, format: &[u8]) -> Result<Vec<u8>, Fail> {
 #[test]
 fn formats(rt: HostRuntime) -> Result<(), Fail> {
     let alloc = rt.alloc();
-    let host = orange(alloc, b"\x20\x18\0\x01\0\xff\0\xff\0\xff\x10\x08\0\0\0\0")?;
-    assert!(rt; host.as_slice() == b"\0\x80\xff\0".as_slice());
-    let swapped = orange(alloc, b"\x20\x18\x01\x01\0\xff\0\xff\0\xff\x10\x08\0\0\0\0")?;
-    assert!(rt; swapped.as_slice() == b"\0\xff\x80\0".as_slice());
-    let high = orange(alloc, b"\x10\x10\x01\x01\0\x1f\0\x3f\0\x1f\x0b\x05\0\0\0\0")?;
-    assert!(rt; high.as_slice() == b"\xfc\0".as_slice());
-    let low = orange(alloc, b"\x10\x10\0\x01\0\x1f\0\x3f\0\x1f\x0b\x05\0\0\0\0")?;
-    assert!(rt; low.as_slice() == b"\0\xfc".as_slice());
-    let eight = orange(alloc, b"\x08\x08\0\x01\0\x07\0\x07\0\x03\0\x03\x06\0\0\0")?;
-    assert!(rt; eight.as_slice() == b"\x27".as_slice());
-    let few = orange(alloc, b"\x08\x06\0\x01\0\x01\0\x03\0\x07\x05\x03\0\0\0\0")?;
-    assert!(rt; few.as_slice() == b"\x30".as_slice());
+    let rows: [(&[u8], &[u8]); 6] = [
+        (
+            b"\x20\x18\0\x01\0\xff\0\xff\0\xff\x10\x08\0\0\0\0",
+            b"\0\x80\xff\0",
+        ),
+        (
+            b"\x20\x18\x01\x01\0\xff\0\xff\0\xff\x10\x08\0\0\0\0",
+            b"\0\xff\x80\0",
+        ),
+        (
+            b"\x10\x10\x01\x01\0\x1f\0\x3f\0\x1f\x0b\x05\0\0\0\0",
+            b"\xfc\0",
+        ),
+        (
+            b"\x10\x10\0\x01\0\x1f\0\x3f\0\x1f\x0b\x05\0\0\0\0",
+            b"\0\xfc",
+        ),
+        (b"\x08\x08\0\x01\0\x07\0\x07\0\x03\0\x03\x06\0\0\0", b"\x27"),
+        (b"\x08\x06\0\x01\0\x01\0\x03\0\x07\x05\x03\0\0\0\0", b"\x30"),
+    ];
+    for (format, pixel) in rows {
+        assert!(rt; orange(alloc, format)?.as_slice() == pixel);
+    }
     Ok(())
 }
 

@@ -1,9 +1,9 @@
 //! A viewer of the test, which paints what it is answered (RFC 6143, sections 7.6.1 and 7.7), beside
 //! a session that is lent slices and asked at random.
 
-ghost use Rattle.std.specs.Prelude.{◌≡◌, ◌<◌, OnOk};
+ghost use Rattle.std.specs.Prelude.{◌≡◌, ◌<◌, IfOk, OnOk};
 
-use super::HANDSHAKE;
+use super::{HANDSHAKE, answered};
 use crate::Session;
 use client_wire::{Area, write_request, write_set_encodings, write_set_pixel_format};
 use flusher_core::Slice;
@@ -321,34 +321,65 @@ fn shows(screen: &Screen, format: &PixelFormat, pixels: &[Color], area: Area) ->
     true
 }
 
+// What a viewer shows, and whether it was answered yet.
+#[derive(Drop)]
+struct Viewer {
+    pixels: Vec<Color>,
+    format: PixelFormat,
+    answered: bool,
+}
+
+// Asks for an area, and paints what is answered: the area, or nothing where that isn't an update.
+fn look(
+    alloc: Global,
+    seed: &mut u64,
+    session: &mut Session,
+    viewer: &mut Viewer,
+) -> Result<Option<Area>, Fail>
+    ensures { session.new.view.screen ≡ session.old.view.screen }
+{
+    let asked = Area {
+        x: below(seed, 25),
+        y: below(seed, 25),
+        w: below(seed, 25),
+        h: below(seed, 25),
+    };
+    let piece = ask(alloc, seed, &mut viewer.format, asked)?;
+    let out = answered(alloc, session, &piece)?;
+    viewer.answered |= !out.is_empty();
+    if out.is_empty() || paint(&out, &viewer.format, &mut viewer.pixels).is_some() {
+        Ok(Some(asked))
+    } else {
+        Ok(None)
+    }
+}
+
+fn begun(alloc: Global) -> Result<Session, Fail>
+    ensures width { IfOk result (λ s. s.view.screen.width ≡ WIDTH) }
+    ensures height { IfOk result (λ s. s.view.screen.height ≡ HEIGHT) }
+{
+    let mut session = Session::new(alloc, WIDTH, HEIGHT, b"painted")?;
+    answered(alloc, &mut session, &HANDSHAKE)?;
+    Ok(session)
+}
+
 // After each answer the viewer shows the converted screen in the area that it asked for.
 #[test]
 fn painted(rt: HostRuntime) -> Result<(), Fail> {
     let alloc = rt.alloc();
     let mut seed = 1;
-    let mut session = Session::new(alloc, WIDTH, HEIGHT, b"painted")?;
+    let mut session = begun(alloc)?;
     let mut screen = Screen::black(alloc, WIDTH, HEIGHT)?;
-    let mut pixels = vec![in alloc; BLACK; 360]?;
-    let mut format = PixelFormat::host();
-    let mut answered = false;
-    session.feed(&HANDSHAKE)?;
-    session.answer(&mut Vec::new(alloc))?;
+    let mut viewer = Viewer {
+        pixels: vec![in alloc; BLACK; 360]?,
+        format: PixelFormat::host(),
+        answered: false,
+    };
     for _ in 0..400 {
         go_on(alloc, &mut seed, &mut session, &mut screen)?;
-        let asked = Area {
-            x: below(&mut seed, 25),
-            y: below(&mut seed, 25),
-            w: below(&mut seed, 25),
-            h: below(&mut seed, 25),
-        };
-        let piece = ask(alloc, &mut seed, &mut format, asked)?;
-        session.feed(&piece)?;
-        let mut out = Vec::new(alloc);
-        session.answer(&mut out)?;
-        let read = out.is_empty() || paint(&out, &format, &mut pixels).is_some();
-        answered |= !out.is_empty();
-        let right = !answered || shows(&screen, &format, &pixels, asked);
-        assert!(rt; read && right);
+        let asked = look(alloc, &mut seed, &mut session, &mut viewer)?.ok_or("no update")?;
+        let right = shows(&screen, &viewer.format, &viewer.pixels, asked);
+        assert!(rt; right || !viewer.answered);
     }
     Ok(())
 }

@@ -39,13 +39,11 @@ fn read(alloc: Global, bytes: &[u8], length: usize) -> (Vec<HostMessage>, Option
 fn one_message_in_any_pieces(rt: HostRuntime) {
     for length in 1..=20 {
         let (messages, fault) = read(rt.alloc(), &RED, length);
-        assert_eq!(rt; fault, None);
-        assert_eq!(rt; messages.len(), 1);
-        assert_eq!(rt; messages[0].bytes(), RED.as_slice());
-        assert_eq!(rt; messages[0].size(), (1, 1));
+        assert!(rt; fault.is_none() && messages.len() == 1);
+        assert!(rt; messages[0].bytes() == RED.as_slice() && messages[0].size() == (1, 1));
     }
     let (messages, fault) = read(rt.alloc(), &RED[..19], 20);
-    assert_eq!(rt; (messages.len(), fault), (0, None));
+    assert!(rt; messages.len() == 0 && fault == None);
 }
 
 #[test]
@@ -63,9 +61,9 @@ fn rectangle_of_an_update(rt: HostRuntime) -> Result<(), Fail> {
         start: 16,
         end: 20,
     };
-    assert_eq!(rt; message.rectangles(), [rectangle].as_slice());
+    assert!(rt; message.rectangles() == [rectangle].as_slice());
     let again = message.copy(rt.alloc())?;
-    assert_eq!(rt; again.bytes(), RED.as_slice());
+    assert!(rt; again.bytes() == RED.as_slice());
     Ok(())
 }
 
@@ -74,12 +72,9 @@ fn messages_told_apart(rt: HostRuntime) -> Result<(), Fail> {
     let red = HostMessage::from_bytes(rt.alloc(), 1, 1, &RED)?;
     let bell = HostMessage::from_bytes(rt.alloc(), 1, 1, &[2])?;
     let other = HostMessage::from_bytes(rt.alloc(), 2, 1, &[2])?;
-    assert!(rt; red.is_update());
-    assert!(rt; !bell.is_update());
-    assert!(rt; red.same(&red.copy(rt.alloc())?));
-    assert!(rt; !red.same(&bell));
-    assert!(rt; !bell.same(&other));
-    assert_eq!(rt; ServerReader::new(rt.alloc(), 3, 2).size(), (3, 2));
+    assert!(rt; red.is_update() && !bell.is_update());
+    assert!(rt; red.same(&red.copy(rt.alloc())?) && !red.same(&bell) && !bell.same(&other));
+    assert!(rt; ServerReader::new(rt.alloc(), 3, 2).size() == (3, 2));
     Ok(())
 }
 
@@ -95,39 +90,38 @@ fn faults_at_the_end(alloc: Global, bytes: &[u8], expected: WireFault) -> bool
 #[test]
 fn each_fault_at_its_byte(rt: HostRuntime) {
     let alloc = rt.alloc();
-    assert!(rt; faults_at_the_end(alloc, &[9], WireFault::UnknownType));
-    let mut outside = RED;
-    outside[5] = 1;
-    assert!(rt; faults_at_the_end(alloc, &outside[..16], WireFault::OutsideScreen));
     // The area is judged before the encoding.
-    outside[12] = 255;
-    assert!(rt; faults_at_the_end(alloc, &outside[..16], WireFault::OutsideScreen));
-    let mut encoding = RED;
-    encoding[12] = 255;
-    encoding[13] = 255;
-    encoding[14] = 255;
-    encoding[15] = 17;
-    assert!(rt; faults_at_the_end(alloc, &encoding[..16], WireFault::Encoding(-239)));
-    assert_eq!(rt; WireFault::Encoding(-239).number(), 3);
+    let rows: [(&[u8], WireFault); 4] = [
+        (b"\x09", WireFault::UnknownType),
+        (
+            b"\0\0\0\x01\0\x01\0\0\0\x01\0\x01\0\0\0\0",
+            WireFault::OutsideScreen,
+        ),
+        (
+            b"\0\0\0\x01\0\x01\0\0\0\x01\0\x01\xff\0\0\0",
+            WireFault::OutsideScreen,
+        ),
+        (
+            b"\0\0\0\x01\0\0\0\0\0\x01\0\x01\xff\xff\xff\x11",
+            WireFault::Encoding(-239),
+        ),
+    ];
+    for (bytes, fault) in rows {
+        assert!(rt; bytes.len() > 0 && faults_at_the_end(alloc, bytes, fault));
+    }
+    assert!(rt; WireFault::Encoding(-239).number() == 3);
 }
 
 #[test]
 fn a_fault_is_for_good(rt: HostRuntime) {
     let mut reader = ServerReader::new(rt.alloc(), 1, 1);
     let mut messages = Vec::new(rt.alloc());
-    let mut bytes = [0; 21];
-    bytes[..20].copy_from_slice(&RED);
-    bytes[20] = 9;
-    assert_eq!(rt;
-        feed(&mut reader, &bytes, &mut messages),
-        Err(WireFault::UnknownType)
-    );
-    assert_eq!(rt; messages.len(), 1);
-    assert_eq!(rt;
-        feed(&mut reader, &RED, &mut messages),
-        Err(WireFault::UnknownType)
-    );
-    assert_eq!(rt; messages.len(), 1);
+    // The red pixel and a byte that begins no message; and the red pixel again.
+    let bytes = b"\0\0\0\x01\0\0\0\0\0\x01\0\x01\0\0\0\0\0\0\xff\0\x09".as_slice();
+    for piece in [bytes, &RED] {
+        let fault = feed(&mut reader, piece, &mut messages).err();
+        assert!(rt; fault == Some(WireFault::UnknownType) && messages.len() == 1);
+    }
 }
 
 // So many bytes, all zero. It promises nothing of them: a list of 65,536 is long to reason of.
@@ -170,11 +164,11 @@ fn bytes_that_are_no_message(rt: HostRuntime) {
     let alloc = rt.alloc();
     for bytes in [&RED[..19], &RED[..0]] {
         let fault = HostMessage::from_bytes(alloc, 1, 1, bytes).err();
-        assert_eq!(rt; fault, Some(BytesFault::NotOne));
+        assert!(rt; fault == Some(BytesFault::NotOne));
     }
     let fault = HostMessage::from_bytes(alloc, 1, 1, &[9]).err();
-    assert_eq!(rt; fault.map(|f| f.number()), Some(1));
-    assert_eq!(rt; BytesFault::NotOne.number(), 0);
+    assert!(rt; fault.map(|f| f.number()) == Some(1));
+    assert!(rt; BytesFault::NotOne.number() == 0);
 }
 
 // The messages that a reader of a screen of 1 by 1 makes of the bytes, in one piece and byte by
@@ -201,14 +195,14 @@ fn messages_without_rectangles(rt: HostRuntime) -> Result<(), Fail> {
     let empty = [3, 9, 9, 9, 0, 0, 0, 0];
     assert!(rt; is_one_message(alloc, &empty, &empty));
     let bell = HostMessage::from_bytes(alloc, 1, 1, &[2])?;
-    assert_eq!(rt; bell.rectangles().len(), 0);
+    assert!(rt; bell.rectangles().len() == 0);
     // An empty colour map is no recorded message.
     let fault = HostMessage::from_bytes(alloc, 1, 1, &[1, 0, 0, 0, 0, 0]).err();
-    assert_eq!(rt; fault, Some(BytesFault::NotOne));
+    assert!(rt; fault == Some(BytesFault::NotOne));
     let fault = HostMessage::from_bytes(alloc, 1, 1, &[2, 2]).err();
-    assert_eq!(rt; fault, Some(BytesFault::NotOne));
+    assert!(rt; fault == Some(BytesFault::NotOne));
     let fault = HostMessage::from_bytes(alloc, 1, 1, &[2, 9]).err();
-    assert_eq!(rt; fault, Some(BytesFault::Wire(WireFault::UnknownType)));
+    assert!(rt; fault == Some(BytesFault::Wire(WireFault::UnknownType)));
     Ok(())
 }
 
@@ -221,8 +215,8 @@ fn texts_at_the_limit(rt: HostRuntime) -> Result<(), Fail> {
     recorded[5] = 1;
     recorded[8 + 65_536] = 2;
     let (messages, fault) = read(alloc, &recorded, 1_000);
-    assert_eq!(rt; (messages.len(), fault), (2, None));
-    assert_eq!(rt; messages[0].bytes().len(), 8 + 65_536);
+    assert!(rt; messages.len() == 2 && fault == None);
+    assert!(rt; messages[0].bytes().len() == 8 + 65_536);
     let mut over = vec![in alloc; 0; 8 + 65_537 + 1]?;
     over[0] = 3;
     over[5] = 1;
@@ -268,7 +262,7 @@ fn messages_that_are_written(rt: HostRuntime) -> Result<(), Fail> {
     };
     write_raw_update(area, &[0, 248], &mut host)?;
     let update = [0, 0, 0, 1, 0, 1, 1, 2, 0, 1, 0, 1, 0, 0, 0, 0, 0, 248];
-    assert_eq!(rt; host.as_slice(), update.as_slice());
+    assert!(rt; host.as_slice() == update.as_slice());
     host.clear();
     let color = Color {
         r: 65_535,
@@ -277,7 +271,7 @@ fn messages_that_are_written(rt: HostRuntime) -> Result<(), Fail> {
     };
     write_color_map(258, &[color], &mut host)?;
     let map = [1, 0, 1, 2, 0, 1, 255, 255, 1, 0, 0, 1];
-    assert_eq!(rt; host.as_slice(), map.as_slice());
+    assert!(rt; host.as_slice() == map.as_slice());
     written_update_is_read();
     written_color_map_is_read();
     written_bell_is_read();
@@ -325,8 +319,8 @@ fn plain_function_and_reader_agree(rt: HostRuntime) -> Result<(), Fail> {
     let Some(Front::Recorded(message)) = read_message(rt.alloc(), 1, 1, &RED)? else {
         return Err("a message")?;
     };
-    assert_eq!(rt; message.bytes(), RED.as_slice());
-    assert_eq!(rt; message.rectangles().len(), 1);
+    assert!(rt; message.bytes() == RED.as_slice());
+    assert!(rt; message.rectangles().len() == 1);
     Ok(())
 }
 
@@ -351,7 +345,7 @@ fn reading_while_memory_lasts(rt: HostRuntime) {
     }
     assert!(rt; stopped.is_some() || messages.len() == 3);
     for (message, length) in messages.iter().zip(&[1, 10, 20]) {
-        assert_eq!(rt; message.bytes().len(), *length);
+        assert!(rt; message.bytes().len() == *length);
     }
 }
 
@@ -369,27 +363,15 @@ fn writing_while_memory_lasts(rt: HostRuntime) {
     for _ in 0..9 {
         let before = out.len();
         let written = write_raw_update(area, &[0, 0, 255, 0], &mut out);
-        assert_eq!(rt;
-            out.len(),
-            if written.is_ok() { before + 20 } else { before }
-        );
+        assert!(rt; out.len() == (if written.is_ok() { before + 20 } else { before }));
         let before = out.len();
         let written = write_color_map(7, &[color], &mut out);
-        assert_eq!(rt;
-            out.len(),
-            if written.is_ok() { before + 12 } else { before }
-        );
+        assert!(rt; out.len() == (if written.is_ok() { before + 12 } else { before }));
         let before = out.len();
         let written = write_cut_text(b"hello", &mut out);
-        assert_eq!(rt;
-            out.len(),
-            if written.is_ok() { before + 13 } else { before }
-        );
+        assert!(rt; out.len() == (if written.is_ok() { before + 13 } else { before }));
         let before = out.len();
         let written = write_bell(&mut out);
-        assert_eq!(rt;
-            out.len(),
-            if written.is_ok() { before + 1 } else { before }
-        );
+        assert!(rt; out.len() == (if written.is_ok() { before + 1 } else { before }));
     }
 }

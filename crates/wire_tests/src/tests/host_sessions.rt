@@ -4,29 +4,23 @@ use client_wire::WireFault;
 use host_session::{HostFault, HostSession};
 use rfb_wire::HostMessage;
 use std::alloc::Global;
-use std::process::Abort;
 use std::test::Fail;
 
 // The version, and its newline.
 const VERSION: [u8; 12] = *b"RFB 003.008\n";
 
-// Of a screen of 1 by 1, a ServerInit whose name is x. The host's own format is no valid one.
-const SERVER_INIT: [u8; 25] = [
-    0, 1, 0, 1, 9, 9, 9, 9, 9, 9, 9, 9, 9, 9, 9, 9, 9, 9, 9, 9, 0, 0, 0, 1, b'x',
-];
-
 // One red pixel at (0, 0): an update of one Raw rectangle.
 const RED: [u8; 20] = [0, 0, 0, 1, 0, 0, 0, 0, 0, 1, 0, 1, 0, 0, 0, 0, 0, 0, 255, 0];
 
-// What is sent once ServerInit is whole: SetPixelFormat, SetEncodings, and a request for all of a
-// screen of 1 by 1.
-const FIRST_REQUESTS: [u8; 50] = [
-    0, 0, 0, 0, 32, 24, 0, 1, 0, 255, 0, 255, 0, 255, 16, 8, 0, 0, 0, 0, 2, 0, 0, 4, 0, 0, 0, 1, 0,
-    0, 0, 5, 0, 0, 0, 2, 0, 0, 0, 0, 3, 0, 0, 0, 0, 0, 0, 1, 0, 1,
-];
+// A host's part of a whole handshake, and an update: version, one type, OK, ServerInit of a screen of
+// 1 by 1 whose name is x, and the red pixel. The host's own format is no valid one.
+const RED_STREAM: [u8; 63] =
+    *b"RFB 003.008\n\x01\x01\0\0\0\0\0\x01\0\x01\t\t\t\t\t\t\t\t\t\t\t\t\t\t\t\t\0\0\0\x01x\0\0\0\x01\0\0\0\0\0\x01\0\x01\0\0\0\0\0\0\xff\0";
 
-// A request for what has changed on it.
-const REQUEST: [u8; 10] = [3, 1, 0, 0, 0, 0, 0, 1, 0, 1];
+// What is said in answer: version, type, shared-flag; once ServerInit is whole SetPixelFormat,
+// SetEncodings and a request for all of the screen; and a request for what has changed on it.
+const RED_ANSWERS: [u8; 74] =
+    *b"RFB 003.008\n\x01\x01\0\0\0\0\x20\x18\0\x01\0\xff\0\xff\0\xff\x10\x08\0\0\0\0\x02\0\0\x04\0\0\0\x01\0\0\0\x05\0\0\0\x02\0\0\0\0\x03\0\0\0\0\0\0\x01\0\x01\x03\x01\0\0\0\0\0\x01\0\x01";
 
 // Feeds a piece. It promises nothing, so that a test isn't proved beside all that the session does.
 fn feed(
@@ -70,50 +64,56 @@ impl Talk {
             None => 0,
         }
     }
-}
 
-// The host's part of a whole handshake, and an update.
-fn red_stream(alloc: Global) -> Result<Vec<u8>, Fail> {
-    let mut stream = Vec::from_slice(alloc, &VERSION)?;
-    stream.extend_from_slice(&[1, 1, 0, 0, 0, 0])?;
-    stream.extend_from_slice(&SERVER_INIT)?;
-    stream.extend_from_slice(&RED)?;
-    Ok(stream)
-}
-
-// What is said in answer.
-fn red_answers(alloc: Global) -> Result<Vec<u8>, Fail> {
-    let mut answers = Vec::from_slice(alloc, &VERSION)?;
-    answers.extend_from_slice(&[1, 1])?;
-    answers.extend_from_slice(&FIRST_REQUESTS)?;
-    answers.extend_from_slice(&REQUEST)?;
-    Ok(answers)
-}
-
-// The red update came, was answered, and nothing is refused.
-fn assert_red(rt: &impl Abort, alloc: Global, talk: &Talk) -> Result<(), Fail> {
-    let answers = red_answers(alloc)?;
-    assert_eq!(rt; talk.number(), 0);
-    assert_eq!(rt; talk.out.as_slice(), answers.as_slice());
-    assert_eq!(rt; talk.messages.len(), 1);
-    for message in &talk.messages {
-        assert_eq!(rt; message.bytes(), RED.as_slice());
+    fn size(&self) -> Option<(u16, u16)> {
+        self.session.size()
     }
-    assert_eq!(rt; talk.session.size(), Some((1, 1)));
-    assert_eq!(rt; talk.session.name(), b"x".as_slice());
-    assert!(rt; talk.session.reason().is_empty());
-    Ok(())
+
+    fn name(&self) -> &[u8] {
+        self.session.name()
+    }
+
+    fn reason(&self) -> &[u8] {
+        self.session.reason()
+    }
+
+    // The red update came, was answered, and nothing is refused.
+    fn has_red(&self) -> bool {
+        self.number() == 0
+            && self.out.as_slice() == RED_ANSWERS.as_slice()
+            && self.messages.len() == 1
+            && self
+                .messages
+                .iter()
+                .all(|message| message.bytes() == RED.as_slice())
+            && self.size() == Some((1, 1))
+            && self.name() == b"x".as_slice()
+            && self.reason().is_empty()
+    }
+
+    // This fault is answered, for this reason, and so much was said.
+    fn is_refused(&self, number: u8, reason: &[u8], out: &[u8]) -> bool {
+        self.number() == number
+            && self.reason() == reason
+            && self.size().is_none()
+            && self.out.as_slice() == out
+            && self.messages.is_empty()
+    }
+}
+
+// A session that was fed two pieces.
+fn heard(alloc: Global, expected: Option<(u16, u16)>, two: (&[u8], &[u8])) -> Result<Talk, Fail> {
+    let mut talk = Talk::new(alloc, expected);
+    talk.feed(two.0)?;
+    talk.feed(two.1)?;
+    Ok(talk)
 }
 
 #[test]
 fn handshake_and_an_update_in_two_pieces(rt: HostRuntime) -> Result<(), Fail> {
-    let stream = red_stream(rt.alloc())?;
-    for cut in 0..=stream.len() {
-        let (first, second) = stream.split_at(cut);
-        let mut talk = Talk::new(rt.alloc(), Some((1, 1)));
-        talk.feed(first)?;
-        talk.feed(second)?;
-        assert_red(&rt, rt.alloc(), &talk)?;
+    for cut in 0..=RED_STREAM.len() {
+        let talk = heard(rt.alloc(), Some((1, 1)), RED_STREAM.split_at(cut))?;
+        assert!(rt; talk.has_red(), "at {cut}");
     }
     Ok(())
 }
@@ -122,11 +122,11 @@ fn handshake_and_an_update_in_two_pieces(rt: HostRuntime) -> Result<(), Fail> {
 fn handshake_and_an_update_byte_by_byte(rt: HostRuntime) -> Result<(), Fail> {
     let mut talk = Talk::new(rt.alloc(), None);
     let mut said = Vec::new(rt.alloc());
-    for byte in &red_stream(rt.alloc())? {
-        talk.feed(&[*byte])?;
+    for piece in RED_STREAM.chunks(1) {
+        talk.feed(piece)?;
         said.push(talk.out.len())?;
     }
-    assert_red(&rt, rt.alloc(), &talk)?;
+    assert!(rt; talk.has_red());
     // Each answer is due at the last byte of what it answers, and not before.
     for (count, length) in said.iter().enumerate() {
         let due = match count + 1 {
@@ -137,126 +137,106 @@ fn handshake_and_an_update_byte_by_byte(rt: HostRuntime) -> Result<(), Fail> {
             43..63 => 64,
             _ => 74,
         };
-        assert_eq!(rt; *length, due);
+        assert!(rt; *length == due);
     }
     Ok(())
 }
 
-// Behind the version, the stream is refused at its last byte, with this fault and this reason, once
-// so much is said behind the version. The fault is answered for good.
-fn assert_refused(
-    rt: &impl Abort,
+// What a host sends behind its version, the number of its fault, its reason, and what is said behind
+// the version.
+type Refused<'a> = (&'a [u8], u8, &'a [u8], &'a [u8]);
+
+// Whether no fault is answered to a piece, nor a reason, and this fault to the one behind it, for
+// good.
+fn is_refused_at_the_end(
     alloc: Global,
     expected: Option<(u16, u16)>,
-    behind: &[u8],
-    number: u8,
-    reason: &[u8],
-    said: &[u8],
-) -> Result<(), Fail> {
+    two: (&[u8], &[u8]),
+    told: (u8, &[u8], &[u8]),
+) -> Result<bool, Fail> {
+    let (number, reason, out) = told;
+    let mut talk = Talk::new(alloc, expected);
+    talk.feed(two.0)?;
+    let is_whole = two.1.is_empty();
+    let before = talk.number() == (if is_whole { number } else { 0 });
+    let went_on = is_whole || talk.reason().is_empty();
+    talk.feed(two.1)?;
+    let refused = talk.number() == number;
+    talk.feed(&RED)?;
+    Ok(before && went_on && refused && talk.is_refused(number, reason, out))
+}
+
+// Whether the stream is refused at its last byte, however it is cut, and the fault is for good.
+fn is_refused(alloc: Global, expected: Option<(u16, u16)>, row: Refused) -> Result<bool, Fail> {
+    let (behind, number, reason, said) = row;
     let mut stream = Vec::from_slice(alloc, &VERSION)?;
     stream.extend_from_slice(behind)?;
     let mut out = Vec::from_slice(alloc, &VERSION)?;
     out.extend_from_slice(said)?;
     for cut in 0..=stream.len() {
-        let (first, second) = stream.split_at(cut);
-        let mut talk = Talk::new(alloc, expected);
-        talk.feed(first)?;
-        assert_eq!(rt; talk.number(), if second.is_empty() { number } else { 0 });
-        assert!(rt; second.is_empty() || talk.session.reason().is_empty());
-        talk.feed(second)?;
-        assert_eq!(rt; talk.number(), number);
-        talk.feed(&RED)?;
-        assert_eq!(rt; talk.number(), number);
-        assert_eq!(rt; talk.session.reason(), reason);
-        assert_eq!(rt; talk.session.size(), None);
-        assert_eq!(rt; talk.out.as_slice(), out.as_slice());
-        assert!(rt; talk.messages.is_empty());
+        let told = (number, reason, out.as_slice());
+        if !is_refused_at_the_end(alloc, expected, stream.split_at(cut), told)? {
+            return Ok(false);
+        }
     }
-    Ok(())
+    Ok(true)
 }
 
 #[test]
 fn refusals(rt: HostRuntime) -> Result<(), Fail> {
-    let alloc = rt.alloc();
-    assert_refused(&rt, alloc, None, &[2, 2, 16], 21, b"", &[])?;
-    assert_refused(&rt, alloc, None, b"\0\0\0\0\x03no!", 22, b"no!", &[])?;
-    assert_refused(&rt, alloc, None, &[0, 0, 0, 0, 0], 22, b"", &[])?;
-    assert_refused(
-        &rt,
-        alloc,
-        None,
-        b"\x01\x01\0\0\0\x01\0\0\0\x03no!",
-        22,
-        b"no!",
-        &[1],
-    )?;
-    assert_refused(
-        &rt,
-        alloc,
-        None,
-        &[1, 1, 0, 0, 0, 0, 0, 0, 0, 1],
-        24,
-        b"",
-        &[1, 1],
-    )?;
-    let expected = Some((2, 1));
-    assert_refused(
-        &rt,
-        alloc,
-        expected,
-        &[1, 1, 0, 0, 0, 0, 0, 1, 0, 1],
-        23,
-        b"",
-        &[1, 1],
-    )?;
-    assert_refused(
-        &rt,
-        alloc,
-        expected,
-        &[1, 1, 0, 0, 0, 0, 0, 0, 0, 1],
-        24,
-        b"",
-        &[1, 1],
-    )
+    let rows: [Refused; 5] = [
+        (b"\x02\x02\x10", 21, b"", b""),
+        (b"\0\0\0\0\x03no!", 22, b"no!", b""),
+        (b"\0\0\0\0\0", 22, b"", b""),
+        (b"\x01\x01\0\0\0\x01\0\0\0\x03no!", 22, b"no!", b"\x01"),
+        (b"\x01\x01\0\0\0\0\0\0\0\x01", 24, b"", b"\x01\x01"),
+    ];
+    for row in rows {
+        assert!(rt; is_refused(rt.alloc(), None, row)?, "{}", row.1);
+    }
+    Ok(())
+}
+
+// A screen of 2 by 1 is expected.
+#[test]
+fn other_sizes(rt: HostRuntime) -> Result<(), Fail> {
+    let rows: [Refused; 2] = [
+        (b"\x01\x01\0\0\0\0\0\x01\0\x01", 23, b"", b"\x01\x01"),
+        (b"\x01\x01\0\0\0\0\0\0\0\x01", 24, b"", b"\x01\x01"),
+    ];
+    for row in rows {
+        assert!(rt; is_refused(rt.alloc(), Some((2, 1)), row)?, "{}", row.1);
+    }
+    Ok(())
 }
 
 #[test]
 fn another_version(rt: HostRuntime) -> Result<(), Fail> {
     let mut talk = Talk::new(rt.alloc(), None);
     talk.feed(b"RFB 003.003")?;
-    assert_eq!(rt; talk.number(), 0);
-    talk.feed(b"\n")?;
-    assert_eq!(rt; talk.number(), 20);
-    talk.feed(b"")?;
-    assert_eq!(rt; talk.number(), 20);
-    assert!(rt; talk.out.is_empty());
+    assert!(rt; talk.number() == 0);
+    for piece in [b"\n".as_slice(), b""] {
+        talk.feed(piece)?;
+        assert!(rt; talk.is_refused(20, b"", b""));
+    }
     Ok(())
 }
 
 #[test]
 fn a_request_for_the_update_before_a_fault(rt: HostRuntime) -> Result<(), Fail> {
-    let mut stream = red_stream(rt.alloc())?;
-    stream.push(9)?;
-    let mut talk = Talk::new(rt.alloc(), None);
-    talk.feed(&stream)?;
-    assert_eq!(rt; talk.fault, Some(HostFault::Wire(WireFault::UnknownType)));
-    assert_eq!(rt; talk.messages.len(), 1);
-    assert_eq!(rt; talk.out.as_slice(), red_answers(rt.alloc())?.as_slice());
+    let mut talk = heard(rt.alloc(), None, (&RED_STREAM, &[9]))?;
+    assert!(rt; talk.fault == Some(HostFault::Wire(WireFault::UnknownType)));
+    assert!(rt; talk.messages.len() == 1 && talk.out.as_slice() == RED_ANSWERS.as_slice());
     talk.feed(&[2])?;
-    assert_eq!(rt; talk.number(), 1);
-    assert_eq!(rt; talk.messages.len(), 1);
+    assert!(rt; talk.number() == 1 && talk.messages.len() == 1);
     Ok(())
 }
 
 #[test]
 fn bells_and_cut_texts_are_not_answered(rt: HostRuntime) -> Result<(), Fail> {
-    let mut talk = Talk::new(rt.alloc(), None);
-    talk.feed(&red_stream(rt.alloc())?)?;
-    let said = talk.out.len();
-    talk.feed(&[2, 3, 0, 0, 0, 0, 0, 0, 0])?;
-    assert_eq!(rt; talk.number(), 0);
-    assert_eq!(rt; talk.messages.len(), 3);
-    assert_eq!(rt; talk.out.len(), said);
+    let talk = heard(rt.alloc(), None, (&RED_STREAM, b"\x02\x03\0\0\0\0\0\0\0"))?;
+    assert!(rt; talk.number() == 0 && talk.messages.len() == 3);
+    assert!(rt; talk.out.len() == RED_ANSWERS.len());
     Ok(())
 }
 
@@ -285,21 +265,17 @@ fn names_of_any_length(rt: HostRuntime) -> Result<(), Fail> {
         let mut talk = before_name(rt.alloc(), count)?;
         let name = letters(rt.alloc(), count)?;
         for piece in name.chunks(100) {
-            assert_eq!(rt; talk.session.size(), None);
-            assert!(rt; talk.session.name().is_empty());
+            assert!(rt; talk.size().is_none() && talk.name().is_empty());
             talk.feed(piece)?;
         }
-        assert_eq!(rt; talk.session.size(), Some((1, 1)));
         let kept = letters(rt.alloc(), count.min(1_024))?;
-        assert_eq!(rt; talk.session.name(), kept.as_slice());
+        assert!(rt; talk.size() == Some((1, 1)) && talk.name() == kept.as_slice());
         talk.feed(&RED)?;
-        assert_eq!(rt; talk.out.as_slice(), red_answers(rt.alloc())?.as_slice());
-        assert_eq!(rt; talk.messages.len(), 1);
+        assert!(rt; talk.messages.len() == 1 && talk.out.as_slice() == RED_ANSWERS.as_slice());
     }
     let mut talk = before_name(rt.alloc(), u32::MAX)?;
     talk.feed(&letters(rt.alloc(), 2_000)?)?;
-    assert_eq!(rt; talk.number(), 0);
-    assert_eq!(rt; talk.session.size(), None);
+    assert!(rt; talk.number() == 0 && talk.size().is_none());
     Ok(())
 }
 
@@ -312,14 +288,13 @@ fn reasons_of_any_length(rt: HostRuntime) -> Result<(), Fail> {
         talk.feed(&count.to_be_bytes())?;
         let kept = letters(rt.alloc(), count.min(1_024))?;
         for byte in &kept {
-            assert_eq!(rt; talk.number(), 0);
+            assert!(rt; talk.number() == 0);
             talk.feed(&[*byte])?;
         }
-        assert_eq!(rt; talk.fault, Some(HostFault::Failed));
-        assert_eq!(rt; talk.session.reason(), kept.as_slice());
+        let failed = Some(HostFault::Failed);
+        assert!(rt; talk.fault == failed && talk.reason() == kept.as_slice());
         talk.feed(b"more")?;
-        assert_eq!(rt; talk.fault, Some(HostFault::Failed));
-        assert_eq!(rt; talk.session.reason(), kept.as_slice());
+        assert!(rt; talk.fault == failed && talk.reason() == kept.as_slice());
     }
     Ok(())
 }
@@ -328,28 +303,26 @@ fn reasons_of_any_length(rt: HostRuntime) -> Result<(), Fail> {
 // good and `out` has changed nothing, and what was put out is a beginning of it.
 #[test]
 fn want_of_memory(rt: HostRuntime) -> Result<(), Fail> {
-    let stream = red_stream(rt.alloc())?;
-    let answers = red_answers(rt.alloc())?;
     let mut session = HostSession::new(rt.alloc(), None);
     let mut messages = Vec::new(rt.alloc());
     let mut out = Vec::new(rt.alloc());
-    for piece in stream.chunks(5) {
+    for piece in RED_STREAM.chunks(5) {
         if let Err(fault) = feed(&mut session, piece, &mut messages) {
-            assert_eq!(rt; fault, HostFault::Wire(WireFault::NoMemory));
+            assert!(rt; fault == HostFault::Wire(WireFault::NoMemory));
             let again = feed(&mut session, &[2], &mut messages);
-            assert_eq!(rt; again, Err(fault));
+            assert!(rt; again == Err(fault));
         }
         let before = out.len();
         if session.out(&mut out).is_err() {
-            assert_eq!(rt; out.len(), before);
+            assert!(rt; out.len() == before);
             session.out(&mut out)?;
         }
     }
-    assert!(rt; answers.starts_with(&out));
+    assert!(rt; RED_ANSWERS.starts_with(&out));
     assert!(rt; messages.len() <= 1);
     if feed(&mut session, &[], &mut messages).is_ok() {
-        assert_eq!(rt; out.len(), answers.len());
-        assert_eq!(rt; messages.len(), 1);
+        assert!(rt; out.len() == RED_ANSWERS.len());
+        assert!(rt; messages.len() == 1);
     }
     Ok(())
 }

@@ -63,9 +63,9 @@ fn whole_in_any_pieces(rt: HostRuntime) -> Result<(), Fail> {
     assert!(rt; is_whole(alloc, (3, 1), &copy));
     let message = HostMessage::from_bytes(alloc, 4, 4, &rre)?;
     let rectangles = message.rectangles();
-    assert_eq!(rt; rectangles.len(), 1);
-    assert_eq!(rt; rectangles[0].encoding, Encoding::Rre);
-    assert_eq!(rt; (rectangles[0].start, rectangles[0].end), (16, 60));
+    assert!(rt; rectangles.len() == 1);
+    assert!(rt; rectangles[0].encoding == Encoding::Rre);
+    assert!(rt; rectangles[0].start == 16 && rectangles[0].end == 60);
     Ok(())
 }
 
@@ -79,46 +79,51 @@ fn data_of_two_rectangles(rt: HostRuntime) -> Result<(), Fail> {
     assert!(rt; is_whole(alloc, (1, 1), &bytes));
     let message = HostMessage::from_bytes(alloc, 1, 1, &bytes)?;
     let spans = message.rectangles();
-    assert_eq!(rt; spans.len(), 2);
-    assert_eq!(rt; (spans[0].start, spans[0].end), (16, 21));
-    assert_eq!(rt; (spans[1].start, spans[1].end), (33, 33));
+    assert!(rt; spans.len() == 2);
+    assert!(rt; spans[0].start == 16 && spans[0].end == 21);
+    assert!(rt; spans[1].start == 33 && spans[1].end == 33);
     Ok(())
 }
 
 #[test]
 fn refused_at_their_bytes(rt: HostRuntime) -> Result<(), Fail> {
     let alloc = rt.alloc();
-    // A first tile that names no background.
-    let mask = update(alloc, 1, 1, 5, &[0])?;
-    assert!(rt; faults_at_the_end(alloc, &mask, WireFault::BadHextile));
-    // A subrectangle two places wide.
-    let wide = update(alloc, 1, 1, 5, &[30, 0, 0, 0, 0, 1, 1, 1, 1, 1, 0, 16])?;
-    assert!(rt; faults_at_the_end(alloc, &wide[..17], WireFault::BadHextile));
-    let wide = update(alloc, 1, 1, 5, &[26, 0, 0, 0, 0, 1, 1, 1, 1, 1, 0, 16])?;
-    assert!(rt; faults_at_the_end(alloc, &wide, WireFault::BadHextile));
-    let part = update(
-        alloc,
-        1,
-        1,
-        2,
-        &[0, 0, 0, 1, 0, 0, 0, 0, 1, 1, 1, 1, 0, 1, 0, 0, 0, 1, 0, 1],
-    )?;
-    assert!(rt; faults_at_the_end(alloc, &part, WireFault::BadRre));
-    let source = update(alloc, 1, 1, 1, &[0, 1, 0, 0])?;
-    assert!(rt; faults_at_the_end(alloc, &source, WireFault::SourceOutside));
-    assert_eq!(rt; WireFault::BadRre.number(), 5);
-    assert_eq!(rt; WireFault::BadHextile.number(), 6);
-    assert_eq!(rt; WireFault::SourceOutside.number(), 7);
+    // A first tile that names no background; one whose subrectangles have colours beside a
+    // foreground; and a subrectangle two places wide, in Hextile and in RRE. A source outside.
+    let rows: [(u8, &[u8], WireFault); 5] = [
+        (5, b"\0", WireFault::BadHextile),
+        (5, b"\x1e", WireFault::BadHextile),
+        (
+            5,
+            b"\x1a\0\0\0\0\x01\x01\x01\x01\x01\0\x10",
+            WireFault::BadHextile,
+        ),
+        (
+            2,
+            b"\0\0\0\x01\0\0\0\0\x01\x01\x01\x01\0\x01\0\0\0\x01\0\x01",
+            WireFault::BadRre,
+        ),
+        (1, b"\0\x01\0\0", WireFault::SourceOutside),
+    ];
+    for (number, content, fault) in rows {
+        let bytes = update(alloc, 1, 1, number, content)?;
+        assert!(rt; faults_at_the_end(alloc, &bytes, fault));
+    }
+    assert!(rt; WireFault::BadRre.number() == 5 && WireFault::BadHextile.number() == 6);
+    assert!(rt; WireFault::SourceOutside.number() == 7);
+    Ok(())
+}
+
+// The fault is for good.
+#[test]
+fn refused_behind_a_fault(rt: HostRuntime) -> Result<(), Fail> {
+    let alloc = rt.alloc();
     let mut reader = ServerReader::new(alloc, 1, 1);
     let mut messages = Vec::new(alloc);
-    assert_eq!(rt;
-        feed(&mut reader, &mask, &mut messages),
-        Err(WireFault::BadHextile)
-    );
-    assert_eq!(rt;
-        feed(&mut reader, &RED, &mut messages),
-        Err(WireFault::BadHextile)
-    );
-    assert_eq!(rt; messages.len(), 0);
+    let mask = update(alloc, 1, 1, 5, &[0])?;
+    for bytes in [mask.as_slice(), &RED] {
+        let fault = feed(&mut reader, bytes, &mut messages).err();
+        assert!(rt; fault == Some(WireFault::BadHextile) && messages.is_empty());
+    }
     Ok(())
 }
