@@ -1,4 +1,4 @@
-//! Tests of the crates of a recording, from its journal up to the desk.
+//! Tests of the crates of a recording, from its disk up to the desk, and of the lines of drills.
 #![tactic(auto)]
 
 mod message;

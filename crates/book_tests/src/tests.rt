@@ -2,7 +2,10 @@
 
 mod books;
 mod desks;
+mod disks;
 mod drills;
+mod fbs_files;
 mod index;
 mod journal;
+mod lines;
 mod replays;

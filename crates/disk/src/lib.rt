@@ -13,6 +13,3 @@ pub use failing::FailingDisk;
 pub use fused::FusedDisk;
 pub use memory::{Fill, MemoryDisk};
 pub use switch::Switch;
-
-#[cfg(test)]
-mod tests;

@@ -6,8 +6,6 @@
 mod fault;
 mod line;
 mod reading;
-#[cfg(test)]
-mod tests;
 mod words;
 
 pub use fault::LineFault;

@@ -16,6 +16,3 @@ pub use exporting::{export, first_exported};
 pub use fault::{ExportFault, FbsFault};
 pub use laws::exported_is_read;
 pub use summary::Summary;
-
-#[cfg(test)]
-mod tests;

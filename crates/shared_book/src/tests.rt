@@ -27,7 +27,10 @@ fn new_desk<D: Disk + Drop>(alloc: Global, disk: D) -> Result<Desk<D>, Fail>
     ensures height { IfOk result (λ desk. desk.head.height ≡ 1) }
 {
     let header = Header::new(alloc, 1, 1, 4, b"x")?;
-    let book = Book::create(alloc, disk, header).map_err(|refused| refused.fault)?;
+    let book = match Book::create(alloc, disk, header) {
+        Ok(book) => book,
+        Err(refused) => Err(refused.fault)?,
+    };
     Ok(Desk::new(book))
 }
 

@@ -5,7 +5,7 @@ ghost use Rattle.flusher_core.specs.State.{accepted_count};
 
 use super::{UPDATE, confirm, find, new_desk};
 use crate::{
-    HostSource, Mark, Point, Receipt, ReceiptSink, Shared, Ticket, Token, Turn, Turnstile,
+    Closed, HostSource, Mark, Point, Receipt, ReceiptSink, Shared, Ticket, Token, Turn, Turnstile,
     ViewerSink, run_flusher, run_host, run_viewer,
 };
 use broadcast::{Desk, Start};
@@ -317,6 +317,39 @@ fn work<D: Disk + Send, M: Mark + Send + Sync, R: Threads + Wait + Clock + Sync>
     })
 }
 
+// The last two tickets have different numbers.
+fn are_apart<D: Disk, M: Mark, R: Wait + Abort>(
+    rt: &R,
+    closed: &mut Closed<D, M>,
+    tickets: Vec<Ticket<M>>,
+) {
+    let mut tickets = tickets;
+    if let (Some(mut one), Some(mut other)) = (tickets.pop(), tickets.pop()) {
+        closed.apart(rt, &mut one, &mut other);
+        assert!(rt; one.number() != other.number());
+    }
+}
+
+// All receipts are confirmed, and all tickets found. Where memory was ample, so many messages are
+// committed, and handed to each viewer.
+fn settle<D: Disk + Drop, M: Mark, R: Wait + Abort>(
+    rt: &R,
+    closed: Closed<D, M>,
+    told: Told<M>,
+    due: Option<u64>,
+) -> Result<(), Fail> {
+    let mut closed = closed;
+    find(rt, &mut closed, &told.tickets)?;
+    confirm(rt, &mut closed, &told.committed)?;
+    assert!(rt; due.unwrap_or(closed.committed()) == closed.committed());
+    for receipts in &told.seen {
+        let handed = confirm(rt, &mut closed, receipts)?;
+        assert!(rt; due.unwrap_or(handed) == handed);
+    }
+    are_apart(rt, &mut closed, told.tickets);
+    Ok(())
+}
+
 // The workers share a desk. All receipts are then confirmed, and all tickets found; where memory is
 // ample, each message is committed and handed to each viewer.
 fn share<D: Disk + Send + Drop, M: Mark + Send + Sync, R: Threads + Wait + Clock + Abort + Sync>(
@@ -335,21 +368,14 @@ fn share<D: Disk + Send + Drop, M: Mark + Send + Sync, R: Threads + Wait + Clock
     requires sized { (M.head.width ≡ 1) × (M.head.height ≡ 1) }
 {
     let shared = Shared::<D, M>::new(rt, token, desk);
-    let mut told = work(rt, alloc, &shared, gates, count, viewers)?;
-    let mut closed = shared.finish();
-    find(rt, &mut closed, &told.tickets)?;
-    confirm(rt, &mut closed, &told.committed)?;
+    let told = work(rt, alloc, &shared, gates, count, viewers)?;
     let is_ample = !gates.lacked.load(Ordering::SeqCst);
-    assert!(rt; !is_ample || closed.committed() == count);
-    for receipts in &told.seen {
-        let handed = confirm(rt, &mut closed, receipts)?;
-        assert!(rt; !is_ample || handed == count);
-    }
-    if let (Some(mut one), Some(mut other)) = (told.tickets.pop(), told.tickets.pop()) {
-        closed.apart(rt, &mut one, &mut other);
-        assert!(rt; one.number() != other.number());
-    }
-    Ok(())
+    settle(
+        rt,
+        shared.finish(),
+        told,
+        if is_ample { Some(count) } else { None },
+    )
 }
 
 fn shared_by_workers<R: Threads + Wait + Clock + Abort + Sync>(

@@ -7,31 +7,31 @@ use std::test::Fail;
 #[test]
 fn host_pixels(rt: HostRuntime) {
     let host = PixelFormat::host();
-    assert_eq!(rt; host.bytes(), 4);
+    assert!(rt; host.bytes() == 4);
     // Blue, green, red, and a byte that plays no part.
     let red = Color { r: 255, g: 0, b: 0 };
-    assert_eq!(rt; host.pixel(&[0, 0, 255, 0]), red);
-    assert_eq!(rt; host.pixel(&[0, 0, 255, 9]), red);
+    assert!(rt; host.pixel(&[0, 0, 255, 0]) == red);
+    assert!(rt; host.pixel(&[0, 0, 255, 9]) == red);
     let other = Color { r: 3, g: 2, b: 1 };
-    assert_eq!(rt; host.pixel(&[1, 2, 3, 4]), other);
+    assert!(rt; host.pixel(&[1, 2, 3, 4]) == other);
 }
 
 #[test]
 fn sixteen_bits(rt: HostRuntime) -> Result<(), Fail> {
     let format = PixelFormat::read(&SIXTEEN)?;
-    assert_eq!(rt; format.bytes(), 2);
+    assert!(rt; format.bytes() == 2);
     let screen = Color {
         r: 255,
         g: 128,
         b: 0,
     };
     let color = format.convert(screen);
-    assert_eq!(rt; color, Color { r: 31, g: 32, b: 0 });
+    assert!(rt; color == Color { r: 31, g: 32, b: 0 });
     let mut pixel = [0; 2];
     format.put(color, &mut pixel);
-    assert_eq!(rt; pixel, [0xfc, 0x00]);
-    assert_eq!(rt; format.pixel(&pixel), color);
-    assert_eq!(rt; format.write(), SIXTEEN);
+    assert!(rt; pixel == [0xfc, 0x00]);
+    assert!(rt; format.pixel(&pixel) == color);
+    assert!(rt; format.write() == SIXTEEN);
     Ok(())
 }
 
@@ -48,15 +48,15 @@ fn faults_in_their_order(rt: HostRuntime) {
     // Each has all the faults behind its own, too.
     let overlapping = [16, 16, 1, 1, 0, 31, 0, 63, 0, 31, 11, 6, 0, 0, 0, 0];
     let mut bytes = overlapping;
-    assert_eq!(rt; fault_of(bytes), 5);
+    assert!(rt; fault_of(bytes) == 5);
     bytes[12] = 12;
-    assert_eq!(rt; fault_of(bytes), 4);
+    assert!(rt; fault_of(bytes) == 4);
     bytes[9] = 30;
-    assert_eq!(rt; fault_of(bytes), 3);
+    assert!(rt; fault_of(bytes) == 3);
     bytes[3] = 0;
-    assert_eq!(rt; fault_of(bytes), 2);
+    assert!(rt; fault_of(bytes) == 2);
     bytes[0] = 24;
-    assert_eq!(rt; fault_of(bytes), 1);
+    assert!(rt; fault_of(bytes) == 1);
 }
 
 #[test]
@@ -64,11 +64,11 @@ fn channels_at_the_edges(rt: HostRuntime) -> Result<(), Fail> {
     // A channel of maximum 0 has no bits, whatever its shift.
     let bytes = [8, 8, 0, 9, 0, 0, 0, 255, 0, 0, 255, 0, 8, 1, 2, 3];
     let format = PixelFormat::read(&bytes)?;
-    assert_eq!(rt; format.bytes(), 1);
-    assert_eq!(rt; format.pixel(&[200]), Color { r: 0, g: 200, b: 0 });
+    assert!(rt; format.bytes() == 1);
+    assert!(rt; format.pixel(&[200]) == Color { r: 0, g: 200, b: 0 });
     // 16 bits of red above 16 bits of blue.
     let wide = [32, 32, 0, 1, 255, 255, 0, 0, 255, 255, 16, 40, 0, 0, 0, 0];
-    assert_eq!(rt; fault_of(wide), 0);
+    assert!(rt; fault_of(wide) == 0);
     valid_formats();
     written_as_read();
     Ok(())

@@ -35,12 +35,12 @@ const FOUR_TILES: [u8; 12] = [2, 0, 0, 255, 0, 0, 2, 255, 0, 0, 0, 0];
 fn colors_carried_over(rt: HostRuntime) -> Result<(), Fail> {
     let host = PixelFormat::host();
     let sheet = painted(&host, 17, 17, &FOUR_TILES)?;
-    assert_eq!(rt; sheet.color(0, 0), RED);
-    assert_eq!(rt; sheet.color(16, 0), RED);
-    assert_eq!(rt; sheet.color(0, 16), BLUE);
-    assert_eq!(rt; sheet.color(16, 16), BLUE);
-    assert_eq!(rt; sheet.color(17, 16), WHITE);
-    assert_eq!(rt; sheet.color(16, 17), WHITE);
+    assert!(rt; sheet.color(0, 0) == RED);
+    assert!(rt; sheet.color(16, 0) == RED);
+    assert!(rt; sheet.color(0, 16) == BLUE);
+    assert!(rt; sheet.color(16, 16) == BLUE);
+    assert!(rt; sheet.color(17, 16) == WHITE);
+    assert!(rt; sheet.color(16, 17) == WHITE);
     Ok(())
 }
 
@@ -48,12 +48,9 @@ fn colors_carried_over(rt: HostRuntime) -> Result<(), Fail> {
 fn whole_at_the_last_byte(rt: HostRuntime) {
     let host = PixelFormat::host();
     for n in 0..12 {
-        assert_eq!(rt;
-            measure(&host, 17, 17, &FOUR_TILES[..n]),
-            Err(Measure::NeedMore)
-        );
+        assert!(rt; measure(&host, 17, 17, &FOUR_TILES[..n]) == Err(Measure::NeedMore));
     }
-    assert_eq!(rt; measure(&host, 17, 17, &FOUR_TILES), Ok(12));
+    assert!(rt; measure(&host, 17, 17, &FOUR_TILES) == Ok(12));
     grammar_reads_data();
     one_reading_of_data();
     no_data_begin_others();
@@ -100,52 +97,78 @@ fn answer(w: u16, h: u16, bytes: &[u8]) -> Option<Result<usize, Measure>> {
     Some(whole)
 }
 
+// A tile of a background and two coloured subrectangles, the second of which is in rows 1 and 2.
+const TWO_COLORED: [u8; 18] =
+    *b"\x1a\x01\x02\x03\x04\x02\x05\x06\x07\x08\x20\x01\x05\x06\x07\x08\x11\x11";
+
 #[test]
 fn masks_refused_at_once(rt: HostRuntime) {
     let bad = Some(Err(Measure::Bad));
     // no background; bits that mean nothing; a foreground beside coloured subrectangles; no
     // foreground
     for mask in [0, 4, 8, 12, 16, 24, 34, 66, 130, 22, 30, 10] {
-        assert_eq!(rt; answer(3, 2, &[mask]), bad);
+        assert!(rt; answer(3, 2, &[mask]) == bad);
     }
     // no foreground in the second tile; a raw tile in between names nothing
-    assert_eq!(rt; answer(17, 1, &[2, 0, 0, 0, 0, 8]), bad);
-    assert_eq!(rt;
-        answer(17, 1, &[2, 0, 0, 0, 0, 4, 0, 0, 0, 0]),
-        Some(Ok(10))
-    );
-    assert_eq!(rt; answer(1, 17, &[18, 0, 0, 0, 0, 16]), Some(Ok(6)));
-    let mut raw = [7; 69];
+    let rows: [(u16, u16, &[u8], Result<usize, Measure>); 3] = [
+        (17, 1, b"\x02\0\0\0\0\x08", Err(Measure::Bad)),
+        (17, 1, b"\x02\0\0\0\0\x04\0\0\0\0", Ok(10)),
+        (1, 17, b"\x12\0\0\0\0\x10", Ok(6)),
+    ];
+    for (w, h, bytes, expected) in rows {
+        assert!(rt; answer(w, h, bytes) == Some(expected));
+    }
+}
+
+#[test]
+fn masks_behind_raw_tiles(rt: HostRuntime) -> Result<(), Fail> {
+    let mut raw = vec![in rt.alloc(); 7; 65]?;
     raw[0] = 255;
-    assert_eq!(rt; answer(16, 1, &raw[..65]), Some(Ok(65)));
-    raw[65] = 0;
-    assert_eq!(rt; answer(17, 1, &raw[..66]), bad);
+    assert!(rt; answer(16, 1, &raw) == Some(Ok(65)));
+    raw.push(0)?;
+    assert!(rt; answer(17, 1, &raw) == Some(Err(Measure::Bad)));
+    Ok(())
 }
 
 #[test]
 fn subrectangles_refused_at_the_last_byte(rt: HostRuntime) {
-    let bad = Some(Err(Measure::Bad));
-    let plain = |corner: u8, size: u8| [14, 1, 2, 3, 4, 5, 6, 7, 8, 1, corner, size];
-    assert_eq!(rt; answer(3, 2, &plain(0x10, 0x11)), Some(Ok(12)));
-    assert_eq!(rt; answer(3, 2, &plain(0x20, 0x10)), bad);
-    assert_eq!(rt; answer(3, 2, &plain(0x01, 0x01)), bad);
-    assert_eq!(rt; answer(3, 2, &plain(0x30, 0x00)), bad);
-    let colored = [
-        26, 1, 2, 3, 4, 2, 5, 6, 7, 8, 0x20, 0x01, 5, 6, 7, 8, 0x11, 0x11,
+    let rows: [(u16, &[u8], Result<usize, Measure>); 7] = [
+        (
+            2,
+            b"\x0e\x01\x02\x03\x04\x05\x06\x07\x08\x01\x10\x11",
+            Ok(12),
+        ),
+        (
+            2,
+            b"\x0e\x01\x02\x03\x04\x05\x06\x07\x08\x01\x20\x10",
+            Err(Measure::Bad),
+        ),
+        (
+            2,
+            b"\x0e\x01\x02\x03\x04\x05\x06\x07\x08\x01\x01\x01",
+            Err(Measure::Bad),
+        ),
+        (
+            2,
+            b"\x0e\x01\x02\x03\x04\x05\x06\x07\x08\x01\x30\0",
+            Err(Measure::Bad),
+        ),
+        (2, &TWO_COLORED, Err(Measure::Bad)),
+        (3, &TWO_COLORED, Ok(18)),
+        (2, b"\x1a\x01\x02\x03\x04\0", Ok(6)),
     ];
-    assert_eq!(rt; answer(3, 2, &colored), bad);
-    assert_eq!(rt; answer(3, 3, &colored), Some(Ok(18)));
-    let none = [26, 1, 2, 3, 4, 0];
-    assert_eq!(rt; answer(3, 2, &none), Some(Ok(6)));
+    for (h, bytes, expected) in rows {
+        assert!(rt; answer(3, h, bytes) == Some(expected));
+    }
 }
 
 #[test]
 fn no_area(rt: HostRuntime) -> Result<(), Fail> {
-    assert_eq!(rt; answer(0, 7, &[]), Some(Ok(0)));
-    assert_eq!(rt; measure(&PixelFormat::host(), 65_535, 0, &[9]), Ok(0));
+    assert!(rt; answer(0, 7, &[]) == Some(Ok(0)));
+    assert!(rt; measure(&PixelFormat::host(), 65_535, 0, &[9]) == Ok(0));
     let mut bytes = vec![in rt.alloc(); 9]?;
     encode(&PixelFormat::host(), 0, 5, &[], &mut bytes)?;
-    assert_eq!(rt; bytes.as_slice(), [9].as_slice());
+    assert!(rt; bytes.as_slice() == [9].as_slice());
     Ok(())
 }
 
@@ -294,11 +317,11 @@ fn as_the_plain_way(rt: HostRuntime) -> Result<(), Fail> {
                 tiles.push(tile)?;
             }
         }
-        assert_eq!(rt; measure(&host, w, h, &bytes), Ok(bytes.len()));
+        assert!(rt; measure(&host, w, h, &bytes) == Ok(bytes.len()));
         let sheet = painted(&host, w, h, &bytes)?;
         for row in 0..h {
             for column in 0..w {
-                assert_eq!(rt; sheet.color(column, row), plain(&tiles, w, column, row));
+                assert!(rt; sheet.color(column, row) == plain(&tiles, w, column, row));
             }
         }
     }
@@ -413,9 +436,9 @@ fn encoded_shortly(rt: HostRuntime) -> Result<(), Fail> {
         picture[k] = any_color(&mut seed);
     }
     let raw = encoded(rt.alloc(), 48, &picture)?;
-    assert_eq!(rt; raw.len(), 12 + 65 + 5);
-    assert_eq!(rt; raw[12], 1);
-    assert_eq!(rt; &raw[77..], [2, 0, 0, 255, 0].as_slice());
+    assert!(rt; raw.len() == 12 + 65 + 5);
+    assert!(rt; raw[12] == 1);
+    assert!(rt; &raw[77..] == [2, 0, 0, 255, 0].as_slice());
     Ok(())
 }
 

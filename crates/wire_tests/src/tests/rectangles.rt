@@ -26,12 +26,12 @@ fn whole_and_one_byte_less(rt: HostRuntime) {
             panic!(rt; "no encoding {number}");
         };
         let whole = measure(&host, 2, 1, encoding, AREA, data);
-        assert_eq!(rt; whole, Ok(Some(data.len())));
+        assert!(rt; whole == Ok(Some(data.len())));
         let less = measure(&host, 2, 1, encoding, AREA, &data[..data.len() - 1]);
-        assert_eq!(rt; less, Ok(None));
+        assert!(rt; less == Ok(None));
     }
-    assert_eq!(rt; Encoding::from_number(3), None);
-    assert_eq!(rt; Encoding::from_number(4_294_967_057), None);
+    assert!(rt; Encoding::from_number(3) == None);
+    assert!(rt; Encoding::from_number(4_294_967_057) == None);
 }
 
 #[test]
@@ -62,16 +62,16 @@ fn field_by_field(rt: HostRuntime) {
 #[test]
 fn source_within_the_screen(rt: HostRuntime) {
     let source = source_at(AREA, &[0, 1, 0, 2]);
-    assert_eq!(rt; (source.x, source.y, source.w, source.h), (1, 2, 1, 1));
+    assert!(rt; source.x == 1 && source.y == 2 && source.w == 1 && source.h == 1);
     assert!(rt; lies_inside(source, 2, 3));
     assert!(rt; !lies_inside(source, 1, 3));
     assert!(rt; !lies_inside(source, 2, 2));
     let host = PixelFormat::host();
     let outside = measure(&host, 1, 1, Encoding::CopyRect, AREA, &[0, 1, 0, 0]);
-    assert_eq!(rt; outside, Err(WireFault::SourceOutside));
+    assert!(rt; outside == Err(WireFault::SourceOutside));
     let part = [0, 0, 0, 1, 0, 0, 0, 0, 1, 1, 1, 1, 0, 1, 0, 0, 0, 1, 0, 1];
     let outside = measure(&host, 1, 1, Encoding::Rre, AREA, &part);
-    assert_eq!(rt; outside, Err(WireFault::BadRre));
+    assert!(rt; outside == Err(WireFault::BadRre));
     let outside = measure(&host, 1, 1, Encoding::Hextile, AREA, &[0]);
-    assert_eq!(rt; outside, Err(WireFault::BadHextile));
+    assert!(rt; outside == Err(WireFault::BadHextile));
 }

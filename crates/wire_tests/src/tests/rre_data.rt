@@ -39,12 +39,12 @@ const FOUR_BY_FOUR: [u8; 44] = [
 fn four_by_four(rt: HostRuntime) -> Result<(), Fail> {
     let host = PixelFormat::host();
     let sheet = painted(&host, 4, 4, &FOUR_BY_FOUR)?;
-    assert_eq!(rt; sheet.color(1, 1), RED);
-    assert_eq!(rt; sheet.color(2, 2), GREEN);
-    assert_eq!(rt; sheet.color(3, 3), GREEN);
-    assert_eq!(rt; sheet.color(0, 3), BLACK);
-    assert_eq!(rt; sheet.color(4, 3), WHITE);
-    assert_eq!(rt; sheet.color(3, 4), WHITE);
+    assert!(rt; sheet.color(1, 1) == RED);
+    assert!(rt; sheet.color(2, 2) == GREEN);
+    assert!(rt; sheet.color(3, 3) == GREEN);
+    assert!(rt; sheet.color(0, 3) == BLACK);
+    assert!(rt; sheet.color(4, 3) == WHITE);
+    assert!(rt; sheet.color(3, 4) == WHITE);
     Ok(())
 }
 
@@ -52,12 +52,9 @@ fn four_by_four(rt: HostRuntime) -> Result<(), Fail> {
 fn whole_at_the_last_byte(rt: HostRuntime) {
     let host = PixelFormat::host();
     for n in 0..44 {
-        assert_eq!(rt;
-            measure(&host, 4, 4, &FOUR_BY_FOUR[..n]),
-            Err(Measure::NeedMore)
-        );
+        assert!(rt; measure(&host, 4, 4, &FOUR_BY_FOUR[..n]) == Err(Measure::NeedMore));
     }
-    assert_eq!(rt; measure(&host, 4, 4, &FOUR_BY_FOUR), Ok(44));
+    assert!(rt; measure(&host, 4, 4, &FOUR_BY_FOUR) == Ok(44));
     grammar_reads_data();
     one_reading_of_data();
     no_data_begin_others();
@@ -74,8 +71,8 @@ fn refused_at_the_last_byte(rt: HostRuntime) {
         } else {
             Measure::Bad
         });
-        assert_eq!(rt; measure(&host, 3, 4, &FOUR_BY_FOUR[..n]), answer);
-        assert_eq!(rt; measure(&host, 4, 3, &FOUR_BY_FOUR[..n]), answer);
+        assert!(rt; measure(&host, 3, 4, &FOUR_BY_FOUR[..n]) == answer);
+        assert!(rt; measure(&host, 4, 3, &FOUR_BY_FOUR[..n]) == answer);
     }
 }
 
@@ -83,27 +80,27 @@ fn refused_at_the_last_byte(rt: HostRuntime) {
 #[test]
 fn no_area(rt: HostRuntime) {
     let host = PixelFormat::host();
-    assert_eq!(rt; measure(&host, 0, 0, &[0, 0, 0, 0, 1, 2, 3, 4]), Ok(8));
+    assert!(rt; measure(&host, 0, 0, &[0, 0, 0, 0, 1, 2, 3, 4]) == Ok(8));
     let mut one = [0; 20];
     one[3] = 1;
-    assert_eq!(rt; measure(&host, 0, 0, &one), Ok(20));
+    assert!(rt; measure(&host, 0, 0, &one) == Ok(20));
     one[17] = 1;
-    assert_eq!(rt; measure(&host, 0, 0, &one), Err(Measure::Bad));
-    assert_eq!(rt; measure(&host, 1, 0, &one), Ok(20));
+    assert!(rt; measure(&host, 0, 0, &one) == Err(Measure::Bad));
+    assert!(rt; measure(&host, 1, 0, &one) == Ok(20));
 }
 
 #[test]
 fn one_place_of_each_width(rt: HostRuntime) -> Result<(), Fail> {
     let host = PixelFormat::host();
     let one = painted(&host, 1, 1, &[0, 0, 0, 0, 1, 2, 3, 4])?;
-    assert_eq!(rt; one.color(0, 0), Color { r: 3, g: 2, b: 1 });
+    assert!(rt; one.color(0, 0) == Color { r: 3, g: 2, b: 1 });
     let sixteen = PixelFormat::read(&SIXTEEN)?;
     let one = painted(&sixteen, 1, 1, &[0, 0, 0, 0, 0xfc, 0x01])?;
-    assert_eq!(rt; one.color(0, 0), Color { r: 31, g: 32, b: 1 });
+    assert!(rt; one.color(0, 0) == Color { r: 31, g: 32, b: 1 });
     let eight = PixelFormat::read(&EIGHT)?;
     let covered = [0, 0, 0, 1, 0, 0b10_001_111, 0, 0, 0, 0, 0, 1, 0, 1];
     let one = painted(&eight, 1, 1, &covered)?;
-    assert_eq!(rt; one.color(0, 0), Color { r: 7, g: 1, b: 2 });
+    assert!(rt; one.color(0, 0) == Color { r: 7, g: 1, b: 2 });
     Ok(())
 }
 
@@ -157,14 +154,11 @@ fn as_the_plain_way(rt: HostRuntime) -> Result<(), Fail> {
             parts.push(any_part(&mut seed))?;
         }
         let bytes = written(rt.alloc(), background, &parts)?;
-        assert_eq!(rt; measure(&host, 16, 12, &bytes), Ok(bytes.len()));
+        assert!(rt; measure(&host, 16, 12, &bytes) == Ok(bytes.len()));
         let sheet = painted(&host, 16, 12, &bytes)?;
         for row in 0..12 {
             for column in 0..16 {
-                assert_eq!(rt;
-                    sheet.color(column, row),
-                    plain(background, &parts, column, row)
-                );
+                assert!(rt; sheet.color(column, row) == plain(background, &parts, column, row));
             }
         }
     }
@@ -241,7 +235,7 @@ fn encoded(alloc: Global, picture: &[Color]) -> Result<Vec<u8>, NoMemory>
 fn encoded_shortly(rt: HostRuntime) -> Result<(), Fail> {
     let mut picture = vec![in rt.alloc(); RED; 16 * 16]?;
     let bytes = encoded(rt.alloc(), &picture)?;
-    assert_eq!(rt; bytes.as_slice(), [0, 0, 0, 0, 0, 0, 255, 0].as_slice());
+    assert!(rt; bytes.as_slice() == [0, 0, 0, 0, 0, 0, 255, 0].as_slice());
     for row in 3..7 {
         for column in 2..12 {
             picture[16 * row + column] = GREEN;
@@ -251,7 +245,7 @@ fn encoded_shortly(rt: HostRuntime) -> Result<(), Fail> {
     let green = [
         0, 0, 0, 1, 0, 0, 255, 0, 0, 255, 0, 0, 0, 2, 0, 3, 0, 10, 0, 4,
     ];
-    assert_eq!(rt; bytes.as_slice(), green.as_slice());
+    assert!(rt; bytes.as_slice() == green.as_slice());
     Ok(())
 }
 
@@ -259,6 +253,6 @@ fn encoded_shortly(rt: HostRuntime) -> Result<(), Fail> {
 fn nothing_encoded(rt: HostRuntime) -> Result<(), Fail> {
     let mut bytes = Vec::new(rt.alloc());
     encode(rt.alloc(), &PixelFormat::host(), 0, 5, &[], &mut bytes)?;
-    assert_eq!(rt; bytes.as_slice(), [0; 8].as_slice());
+    assert!(rt; bytes.as_slice() == [0; 8].as_slice());
     Ok(())
 }

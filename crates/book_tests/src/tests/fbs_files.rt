@@ -1,7 +1,7 @@
-//! Files worked by hand.
+//! What no clause says of `fbs_export`: files worked by hand.
 
-use crate::{ExportFault, FbsFault, check, export};
 use disk::MemoryDisk;
+use fbs_export::{ExportFault, FbsFault, Summary, check, export};
 use key_index::Indexed;
 use std::alloc::Global;
 use std::io;
@@ -16,20 +16,33 @@ const FRONT: [u8; 64] =
 const CUT: [u8; 40] =
     *b"\0\0\0\x07\0\0\0\x01\0\0\0\xff\0\0\0\x05\0\0\0\x0d\0\0\x01\0\x01\0\0\0\0\0\0\xff\0\xff\xff\xff\0\0\0\x09";
 
-#[test]
-fn a_message_over_two_blocks(rt: HostRuntime) -> Result<(), Fail> {
-    let alloc = rt.alloc();
+// What a file says. It promises nothing, so that a test isn't proved beside all that `check` does.
+fn checked(alloc: Global, file: &[u8]) -> Result<Summary, FbsFault> {
+    let mut reader = file;
+    check(alloc, &mut reader)
+}
+
+fn two_blocks(alloc: Global) -> Result<Vec<u8>, Fail> {
     let mut file = Vec::from_slice(alloc, &FRONT)?;
     file.extend_from_slice(&CUT)?;
-    let mut whole = file.as_slice();
-    let told = check(alloc, &mut whole)?;
+    Ok(file)
+}
+
+#[test]
+fn a_message_over_two_blocks(rt: HostRuntime) -> Result<(), Fail> {
+    let told = checked(rt.alloc(), &two_blocks(rt.alloc())?)?;
     assert!(rt; told.width == 1 && told.height == 1 && told.rest == 0);
     assert!(rt; told.messages.len() == 1 && told.messages[0].time == 9);
-    let mut first = &file[..80];
-    let told = check(alloc, &mut first)?;
+    Ok(())
+}
+
+#[test]
+fn a_message_that_is_cut_off(rt: HostRuntime) -> Result<(), Fail> {
+    let file = two_blocks(rt.alloc())?;
+    let told = checked(rt.alloc(), file.get(..80).ok_or("short")?)?;
     assert!(rt; told.messages.is_empty() && told.rest == 7);
-    let mut cut = &file[..70];
-    assert!(rt; check(alloc, &mut cut).err() == Some(FbsFault::Truncated));
+    let cut = checked(rt.alloc(), file.get(..70).ok_or("short")?);
+    assert!(rt; cut.err() == Some(FbsFault::Truncated));
     Ok(())
 }
 
@@ -44,7 +57,10 @@ const RED: [u8; 28] = *b"\0\0\0\x14\0\0\0\x01\0\0\0\0\0\x01\0\x01\0\0\0\0\0\0\xf
 
 fn opened(alloc: Global) -> Result<Indexed<MemoryDisk>, Fail> {
     let disk = MemoryDisk::from_bytes(alloc, RECORDING.to_vec(alloc)?);
-    Ok(Indexed::open(alloc, disk).map_err(|refused| refused.fault)?)
+    match Indexed::open(alloc, disk) {
+        Ok(index) => Ok(index),
+        Err(refused) => Err(refused.fault)?,
+    }
 }
 
 // What is exported from a block to a count, or why nothing is.
@@ -65,9 +81,14 @@ fn a_recording_is_exported(rt: HostRuntime) -> Result<(), Fail> {
     whole.extend_from_slice(&RED)?;
     let file = exported(alloc, 0, 1)??;
     assert!(rt; file.len() == 120 && file.as_slice() == whole.as_slice());
-    let mut reader = file.as_slice();
-    let told = check(alloc, &mut reader)?;
+    let told = checked(alloc, &file)?;
     assert!(rt; told.messages.len() == 2 && told.rest == 0);
+    Ok(())
+}
+
+#[test]
+fn the_end_of_a_recording_is_exported(rt: HostRuntime) -> Result<(), Fail> {
+    let alloc = rt.alloc();
     // Behind the last block: the opening, and the screen as it is then.
     let end = exported(alloc, 1, 1)??;
     assert!(rt; end.len() == 92 && end.ends_with(&RED));
@@ -134,18 +155,22 @@ impl Write for SlowWriter {
     }
 }
 
+// The fault that is met when the call after so many fails.
+fn fault_after(alloc: Global, file: &[u8], calls: usize) -> Option<FbsFault> {
+    let mut reader = SlowReader {
+        bytes: file,
+        one_fails: OneFails { calls },
+    };
+    check(alloc, &mut reader).err()
+}
+
 // Whichever call of the reader fails, this is answered, though the next one would give a byte.
 #[test]
 fn each_read_fails_once(rt: HostRuntime) -> Result<(), Fail> {
     let alloc = rt.alloc();
-    let mut file = Vec::from_slice(alloc, &FRONT)?;
-    file.extend_from_slice(&CUT)?;
+    let file = two_blocks(alloc)?;
     for calls in 0..106 {
-        let mut reader = SlowReader {
-            bytes: &file,
-            one_fails: OneFails { calls },
-        };
-        let fault = check(alloc, &mut reader).err();
+        let fault = fault_after(alloc, &file, calls);
         let due = if calls < 105 {
             Some(FbsFault::Read)
         } else {
@@ -156,6 +181,20 @@ fn each_read_fails_once(rt: HostRuntime) -> Result<(), Fail> {
     Ok(())
 }
 
+// The fault that is met when the call after so many fails, and what was written.
+fn exported_after(
+    alloc: Global,
+    index: &mut Indexed<MemoryDisk>,
+    calls: usize,
+) -> (Option<ExportFault>, Vec<u8>) {
+    let mut writer = SlowWriter {
+        bytes: Vec::new(alloc),
+        one_fails: OneFails { calls },
+    };
+    let fault = export(alloc, index, 0, 1, &mut writer).err();
+    (fault, writer.bytes)
+}
+
 // Whichever call of the writer fails, this is answered, and nothing more is written.
 #[test]
 fn each_write_fails_once(rt: HostRuntime) -> Result<(), Fail> {
@@ -163,19 +202,13 @@ fn each_write_fails_once(rt: HostRuntime) -> Result<(), Fail> {
     let whole = exported(alloc, 0, 1)??;
     let mut index = opened(alloc)?;
     for calls in 0..121 {
-        let mut writer = SlowWriter {
-            bytes: Vec::new(alloc),
-            one_fails: OneFails { calls },
-        };
-        let fault = export(alloc, &mut index, 0, 1, &mut writer).err();
+        let (fault, written) = exported_after(alloc, &mut index, calls);
         let due = if calls < 120 {
             Some(ExportFault::Write)
         } else {
             None
         };
-        assert!(rt;
-            fault == due && writer.bytes.len() == calls && whole.starts_with(&writer.bytes)
-        );
+        assert!(rt; fault == due && written.len() == calls && whole.starts_with(&written));
     }
     Ok(())
 }

@@ -1,7 +1,7 @@
-//! What no clause says: that calls succeed where there is memory, and when the calls of an armed
-//! disk fail. The bytes that a crash leaves are worked out by hand from the rules.
+//! What no clause says of `disk`: that calls succeed where there is memory, and when the calls of an
+//! armed disk fail. The bytes that a crash leaves are worked out by hand from the rules.
 
-use crate::{Disk, DiskFault, FailingDisk, Fill, FusedDisk, MemoryDisk, Switch};
+use disk::{Disk, DiskFault, FailingDisk, Fill, FusedDisk, MemoryDisk, Switch};
 use std::alloc::{AllocError, Global};
 use std::test::Fail;
 
@@ -22,11 +22,11 @@ fn what_is_written_and_synced_is_read_back(rt: HostRuntime) -> Result<(), Fail> 
     disk.write_at(0, b"ab")?;
     disk.sync()?;
     disk.write_at(1, b"xyz")?;
-    assert_eq!(rt; disk.len()?, 4);
+    assert!(rt; disk.len()? == 4);
     let mut middle = [0; 2];
     disk.read_at(1, &mut middle)?;
-    assert_eq!(rt; middle.as_slice(), b"xy".as_slice());
-    assert_eq!(rt; disk.bytes(), b"axyz".as_slice());
+    assert!(rt; middle.as_slice() == b"xy".as_slice());
+    assert!(rt; disk.bytes() == b"axyz".as_slice());
     Ok(())
 }
 
@@ -37,13 +37,13 @@ fn a_write_without_memory_does_nothing(rt: HostRuntime) -> Result<(), Fail> {
     let mut before = b"".as_slice();
     for (bytes, file) in [("ab", "ab"), ("cdef", "cdef"), ("g", "gdef")] {
         if disk.write_at(0, bytes.as_bytes()).is_err() {
-            assert_eq!(rt; disk.bytes(), before);
+            assert!(rt; disk.bytes() == before);
             disk.write_at(0, bytes.as_bytes())?;
         }
         if disk.sync().is_err() {
             disk.sync()?;
         }
-        assert_eq!(rt; disk.bytes(), file.as_bytes());
+        assert!(rt; disk.bytes() == file.as_bytes());
         before = file.as_bytes();
     }
     Ok(())
@@ -56,7 +56,7 @@ fn a_crash_leaves_what_its_fill_says(rt: HostRuntime) -> Result<(), Fail> {
         disk.write_at(0, b"ab")?;
         disk.sync()?;
         disk.write_at(1, b"xyz")?;
-        assert_eq!(rt; disk.left(fill).bytes(), file, "at {fill:?}");
+        assert!(rt; disk.left(fill).bytes() == file, "at {fill:?}");
     }
     Ok(())
 }
@@ -68,16 +68,16 @@ fn one_call_fails_and_does_nothing(rt: HostRuntime) -> Result<(), Fail> {
     let mut disk = FailingDisk::new(memory, switch.clone()?);
     switch.fail_after(7);
     switch.fail_after(1);
-    assert_eq!(rt; disk.len(), Ok(2));
-    assert_eq!(rt; disk.write_at(0, b"ab"), Err(DiskFault));
+    assert!(rt; disk.len() == Ok(2));
+    assert!(rt; disk.write_at(0, b"ab") == Err(DiskFault));
     let mut file = [0; 2];
-    assert_eq!(rt; disk.read_at(0, &mut file), Ok(()));
-    assert_eq!(rt; file.as_slice(), b"xy".as_slice());
-    assert_eq!(rt; disk.write_at(0, b"cd"), Ok(()));
+    assert!(rt; disk.read_at(0, &mut file) == Ok(()));
+    assert!(rt; file.as_slice() == b"xy".as_slice());
+    assert!(rt; disk.write_at(0, b"cd") == Ok(()));
     switch.fail_after(0);
     switch.disarm();
-    assert_eq!(rt; disk.sync(), Ok(()));
-    assert_eq!(rt; disk.into_inner().bytes(), b"cd".as_slice());
+    assert!(rt; disk.sync() == Ok(()));
+    assert!(rt; disk.into_inner().bytes() == b"cd".as_slice());
     Ok(())
 }
 
@@ -91,12 +91,12 @@ fn a_stop_leaves_the_write_that_it_met(rt: HostRuntime) -> Result<(), Fail> {
         disk.sync()?;
         disk.len()?;
         disk.read_at(0, &mut [0; 2])?;
-        assert_eq!(rt; disk.sync(), Err(DiskFault));
-        assert_eq!(rt; disk.write_at(1, b"xyz"), Err(DiskFault));
-        assert_eq!(rt; disk.write_at(0, b"never"), Err(DiskFault));
-        assert_eq!(rt; disk.len(), Err(DiskFault));
+        assert!(rt; disk.sync() == Err(DiskFault));
+        assert!(rt; disk.write_at(1, b"xyz") == Err(DiskFault));
+        assert!(rt; disk.write_at(0, b"never") == Err(DiskFault));
+        assert!(rt; disk.len() == Err(DiskFault));
         switch.disarm();
-        assert_eq!(rt; disk.left(fill).bytes(), file, "at {fill:?}");
+        assert!(rt; disk.left(fill).bytes() == file, "at {fill:?}");
     }
     Ok(())
 }
@@ -107,8 +107,8 @@ fn a_second_stop_forgets_the_first(rt: HostRuntime) -> Result<(), Fail> {
     let mut disk = fused(rt.alloc(), &switch)?;
     disk.write_at(0, b"ab")?;
     switch.stop_after(0);
-    assert_eq!(rt; disk.write_at(1, b"xyz"), Err(DiskFault));
+    assert!(rt; disk.write_at(1, b"xyz") == Err(DiskFault));
     switch.stop_after(9);
-    assert_eq!(rt; disk.left(Fill::Now).bytes(), b"ab".as_slice());
+    assert!(rt; disk.left(Fill::Now).bytes() == b"ab".as_slice());
     Ok(())
 }
