@@ -4,8 +4,14 @@ ghost use Rattle.std.specs.Prelude.{◌≤◌, IfOk};
 
 use crate::words::{Chosen, read_words};
 use file_commands::{Progress, create_new, keep, refuse};
+use std::fs::File;
 use std::io;
 use std::io::{Read, Write};
+use std::net::{Net, TcpListener, TcpStream};
+use std::rt::Files;
+use std::sync::Wait;
+use std::thread::Threads;
+use std::time::Clock;
 
 /// It is done.
 const DONE: u8 = 0;
@@ -15,13 +21,18 @@ const REFUSED: u8 = 1;
 const BAD_WORDS: u8 = 2;
 
 // Runs a drill whose recording is kept in a new file, which is made first.
-fn drill_to_file<I: Read + Drop, O: Write, E: Write>(
-    rt: &HostRuntime,
-    path: &str,
-    input: I,
-    out: &mut O,
-    err: &mut E,
-) -> io::Result<bool> {
+fn drill_to_file<
+    R: Files<File = File>
+        + Net<Stream = TcpStream, Listener = TcpListener>
+        + Threads
+        + Wait
+        + Clock
+        + Sync
+        + AllocGlobal,
+    I: Read + Drop,
+    O: Write,
+    E: Write,
+>(rt: &R, path: &str, input: I, out: &mut O, err: &mut E) -> io::Result<bool> {
     let mut disk = match create_new(rt, path) {
         Ok(disk) => disk,
         Err(refusal) => {
@@ -37,9 +48,21 @@ fn drill_to_file<I: Read + Drop, O: Write, E: Write>(
     Ok(ran.is_whole)
 }
 
-fn run<I: Read + Drop, O: Write, E: Write>(
-    rt: &HostRuntime,
+fn run<
+    R: Files<File = File>
+        + Net<Stream = TcpStream, Listener = TcpListener>
+        + Threads
+        + Wait
+        + Clock
+        + Sync
+        + AllocGlobal,
+    I: Read + Drop,
+    O: Write,
+    E: Write,
+>(
+    rt: &R,
     words: &[String],
+    progress: Progress,
     input: I,
     out: &mut O,
     err: &mut E,
@@ -47,7 +70,6 @@ fn run<I: Read + Drop, O: Write, E: Write>(
     ensures { IfOk result (λ status. status ≤ 2) }
 {
     let alloc = rt.alloc();
-    let progress = Progress::new(rt.stderr());
     let is_done = match read_words(alloc, words)? {
         Chosen::Drill { keep: None } => drill::run(alloc, input, out)?,
         Chosen::Drill { keep: Some(path) } => drill_to_file(rt, path, input, out, err)?,
@@ -55,6 +77,7 @@ fn run<I: Read + Drop, O: Write, E: Write>(
         Chosen::Check(path) => file_commands::check(rt, path, progress, out, err)?,
         Chosen::Export(what) => file_commands::export(rt, what, progress, out, err)?,
         Chosen::FbsCheck(path) => file_commands::fbs_check(rt, path, progress, out, err)?,
+        Chosen::Serve(plan, address) => serve::serve(rt, plan, address, out, err)?,
         Chosen::Text(text) => {
             write!(out, "{text}")?;
             true
@@ -68,20 +91,24 @@ fn run<I: Read + Drop, O: Write, E: Write>(
     Ok(if is_done { DONE } else { REFUSED })
 }
 
-/// Runs the program: the words of its command line (the first is its own name), its input, and its
-/// two outputs; files are those of the runtime, and where its standard error is a terminal, long work
-/// is told of there. Answers the exit status: 0 where it is done, 1 where it is refused, where memory
+/// Runs the program: the words of its command line (the first is its own name), where long work is
+/// told of, its input, and its two outputs; files and sockets are those of the runtime. Answers the exit status: 0 where it is done, 1 where it is refused, where memory
 /// for its own work is, or where a stream can't be read or written, and 2 for a bad command line.
-pub fn command<I: Read + Drop, O: Write, E: Write>(
-    rt: &HostRuntime,
-    words: &[String],
-    input: I,
-    out: &mut O,
-    err: &mut E,
-) -> u8
+pub fn command<
+    R: Files<File = File>
+        + Net<Stream = TcpStream, Listener = TcpListener>
+        + Threads
+        + Wait
+        + Clock
+        + Sync
+        + AllocGlobal,
+    I: Read + Drop,
+    O: Write,
+    E: Write,
+>(rt: &R, words: &[String], progress: Progress, input: I, out: &mut O, err: &mut E) -> u8
     ensures { result ≤ 2 }
 {
-    match run(rt, words, input, out, err) {
+    match run(rt, words, progress, input, out, err) {
         Ok(status) => status,
         Err(_) => REFUSED,
     }

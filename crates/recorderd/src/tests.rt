@@ -3,6 +3,7 @@
 mod files;
 
 use crate::command::command;
+use file_commands::Progress;
 use std::io;
 use std::io::{Read, Write};
 use std::test::Fail;
@@ -15,13 +16,13 @@ fn a_drill_is_run(rt: HostRuntime) -> Result<(), Fail> {
     let mut err = Vec::new(alloc);
     let script =
         b"new 1 1 4 x\nhost 0 0000 0001 0000 0000 0001 0001 00000000 0000ff00\ntake\nbody\ngate\nopen\npixel 1 0 0".as_slice();
-    assert!(rt; command(&rt, &words, script, &mut out, &mut err) == 0);
+    assert!(rt; command(&rt, &words, Progress::silent(), script, &mut out, &mut err) == 0);
     assert!(rt;
         out.as_slice()
             == b"recording 1 1 4\naccepted 0\ntaken 0 1\nwritten\ncommitted 1\nopened 1\nff0000\n".as_slice()
     );
     let bad = b"open\n".as_slice();
-    assert!(rt; command(&rt, &words, bad, &mut out, &mut err) == 1);
+    assert!(rt; command(&rt, &words, Progress::silent(), bad, &mut out, &mut err) == 1);
     assert!(rt; err.as_slice() == b"".as_slice());
     Ok(())
 }
@@ -50,14 +51,32 @@ fn words_that_are_no_command_line(rt: HostRuntime) -> Result<(), Fail> {
         }
         let mut out = Vec::new(alloc);
         let mut err = Vec::new(alloc);
-        assert!(rt; command(&rt, &words, b"".as_slice(), &mut out, &mut err) == 2);
+        assert!(rt;
+            command(
+                &rt,
+                &words,
+                Progress::silent(),
+                b"".as_slice(),
+                &mut out,
+                &mut err
+            ) == 2
+        );
         assert!(rt; out.as_slice() == b"".as_slice());
         assert!(rt; err.as_slice() == b"recorderd: bad command line\n".as_slice());
     }
     let words = ["recorderd".to_string(alloc)?, "--help".to_string(alloc)?];
     let mut out = Vec::new(alloc);
     let mut err = Vec::new(alloc);
-    assert!(rt; command(&rt, &words, b"".as_slice(), &mut out, &mut err) == 0);
+    assert!(rt;
+        command(
+            &rt,
+            &words,
+            Progress::silent(),
+            b"".as_slice(),
+            &mut out,
+            &mut err
+        ) == 0
+    );
     assert!(rt; out.len() > 0);
     assert!(rt; err.as_slice() == b"".as_slice());
     Ok(())
@@ -102,11 +121,20 @@ fn streams_that_fail(rt: HostRuntime) -> Result<(), Fail> {
     let script = b"new 1 1 4 x\nopen\n".as_slice();
     for room in 0..25 {
         let mut out = Full { room };
-        let status = command(&rt, &words, script, &mut out, &mut err);
+        let status = command(&rt, &words, Progress::silent(), script, &mut out, &mut err);
         assert!(rt; status == 1, "with room for {room}");
     }
     let mut out = Full { room: 25 };
-    assert!(rt; command(&rt, &words, script, &mut out, &mut err) == 0);
-    assert!(rt; command(&rt, &words, Unreadable, &mut Full { room: 25 }, &mut err) == 1);
+    assert!(rt; command(&rt, &words, Progress::silent(), script, &mut out, &mut err) == 0);
+    assert!(rt;
+        command(
+            &rt,
+            &words,
+            Progress::silent(),
+            Unreadable,
+            &mut Full { room: 25 },
+            &mut err
+        ) == 1
+    );
     Ok(())
 }

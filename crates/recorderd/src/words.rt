@@ -1,8 +1,10 @@
 //! The words of the command line.
 
+use broadcast::Start;
 use clap::error::ErrorKind;
 use clap::{Arg, ArgAction, ArgMatches, Command};
 use file_commands::Extract;
+use serve::Plan;
 use std::alloc::{AllocError, Global};
 use std::io;
 
@@ -14,6 +16,8 @@ pub enum Chosen<'a> {
     Check(&'a str),
     Export(Extract<'a>),
     FbsCheck(&'a str),
+    /// What is to be served, to viewers that connect to this address.
+    Serve(Plan<'a>, &'a str),
     /// Text to be printed: help, or the version.
     Text(String),
     /// The words are no command line.
@@ -69,6 +73,53 @@ fn fbs_check<'a>(alloc: Global) -> Result<Command<'a>, AllocError> {
         .arg(required(alloc, "PATH", "The FBS file"))
 }
 
+fn option<'a>(alloc: Global, name: &'a str, value: &'a str, help: &'a str) -> Arg<'a> {
+    Arg::new(alloc, value)
+        .long(name)
+        .help(help)
+        .action(ArgAction::Set)
+}
+
+fn serving<'a>(alloc: Global) -> Result<Command<'a>, AllocError> {
+    Command::new(alloc, "serve")
+        .about("Records a host into a file, and shows the recording to viewers as it grows")
+        .after_help(
+            "Example: recorderd serve --file r --host 127.0.0.1:5901 --listen 127.0.0.1:5900",
+        )
+        .arg(option(
+            alloc,
+            "file",
+            "PATH",
+            "The recording; made for a host where it isn't there",
+        )
+        .required(true))?
+        .arg(option(alloc, "listen", "ADDR", "Where viewers connect to").required(true))?
+        .arg(option(
+            alloc,
+            "host",
+            "HOST",
+            "The host; without one the recording is served alone",
+        ))?
+        .arg(option(
+            alloc,
+            "key",
+            "K",
+            "A new recording's key interval, 1 to 4096 [default: 256]",
+        ))?
+        .arg(option(
+            alloc,
+            "viewers",
+            "N",
+            "How many viewers are served, 1 to 64 [default: 1]",
+        ))?
+        .arg(option(
+            alloc,
+            "from",
+            "FROM",
+            "A number of messages, or live: where viewers begin [default: live]",
+        ))
+}
+
 fn all_commands<'a>(alloc: Global) -> Result<Command<'a>, AllocError> {
     Command::new(alloc, "recorderd")
         .about("Records one VNC session, so that a crash at any moment loses nothing acknowledged")
@@ -78,7 +129,8 @@ fn all_commands<'a>(alloc: Global) -> Result<Command<'a>, AllocError> {
         .subcommand(list(alloc)?)?
         .subcommand(check(alloc)?)?
         .subcommand(export(alloc)?)?
-        .subcommand(fbs_check(alloc)?)
+        .subcommand(fbs_check(alloc)?)?
+        .subcommand(serving(alloc)?)
 }
 
 // A decimal number: digits alone.
@@ -98,6 +150,32 @@ fn extract<'a>(matches: &ArgMatches<'a>) -> Option<Extract<'a>> {
     })
 }
 
+// The number of an option within these limits; where the option isn't given, this one.
+fn within(word: Option<&str>, least: u64, most: u64, default: u64) -> Option<u64> {
+    let Some(word) = word else {
+        return Some(default);
+    };
+    number(word).filter(|number| least <= *number && *number <= most)
+}
+
+// Where viewers begin.
+fn start(word: Option<&str>) -> Option<Start> {
+    match word {
+        None | Some("live") => Some(Start::Live),
+        Some(word) => Some(Start::At(number(word)?)),
+    }
+}
+
+fn plan<'a>(matches: &ArgMatches<'a>) -> Option<Plan<'a>> {
+    Some(Plan {
+        file: matches.get_str("PATH")?,
+        host: matches.get_str("HOST"),
+        key_interval: u16::try_from(within(matches.get_str("K"), 1, 4096, 256)?).ok()?,
+        viewers: usize::try_from(within(matches.get_str("N"), 1, 64, 1)?).ok()?,
+        from: start(matches.get_str("FROM"))?,
+    })
+}
+
 // The command that the words name; none where a number isn't one.
 fn choose<'a>(matches: &ArgMatches<'a>) -> Option<Chosen<'a>> {
     let (name, matches) = matches.subcommand()?;
@@ -108,6 +186,7 @@ fn choose<'a>(matches: &ArgMatches<'a>) -> Option<Chosen<'a>> {
         "list" => Some(Chosen::List(matches.get_str("PATH")?)),
         "check" => Some(Chosen::Check(matches.get_str("PATH")?)),
         "export" => Some(Chosen::Export(extract(matches)?)),
+        "serve" => Some(Chosen::Serve(plan(matches)?, matches.get_str("ADDR")?)),
         "fbs-check" => Some(Chosen::FbsCheck(matches.get_str("PATH")?)),
         _ => None,
     }

@@ -51,7 +51,7 @@ pub trait ReceiptSink<T>: Drop {
 pub enum Turn {
     /// The messages behind its position, so many at most.
     Want(u32),
-    /// To wait until there are some, or the host has ended.
+    /// To wait until there are some, the host has ended, or the viewer has left.
     Wait,
     /// To go on behind the first so many messages.
     Seek(u64),
@@ -72,6 +72,12 @@ pub trait ViewerSink<T>: Drop {
     ghost position: { Self → ℕ };
 
     ghost slice_of: { T → Slice };
+
+    /// Whether the viewer has gone, so that nothing is waited for any more. It is asked under the
+    /// lock, and so waits for nobody; who makes it true calls `wake` of [`Shared`](crate::Shared).
+    fn has_left(&self) -> bool {
+        false
+    }
 
     /// What it wants.
     fn turn(&mut self) -> Turn

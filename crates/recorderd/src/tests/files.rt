@@ -2,8 +2,15 @@
 
 use super::Full;
 use crate::command::command;
+use file_commands::Progress;
 use std::fs;
+use std::fs::File;
+use std::net::{Net, TcpListener, TcpStream};
+use std::rt::Files;
+use std::sync::Wait;
 use std::test::Fail;
+use std::thread::Threads;
+use std::time::Clock;
 
 /// A drill of one red pixel, in one block.
 const RED_PIXEL: &str =
@@ -34,7 +41,15 @@ const TIMES_THAT_FALL: [u8; 45] =
     *b"ORFBREC1\0\x01\0\x01\0\x04\0\x01xO\0\0\0\x14\0\x02\0\0\0\0\x05\0\0\0\x01\x02\0\0\0\0\x04\0\0\0\x01\x02C";
 
 // The exit status, and behind it what is printed on both outputs.
-fn said(rt: &HostRuntime, line: &str, script: &str) -> Result<String, Fail> {
+fn said<
+    R: Files<File = File>
+        + Net<Stream = TcpStream, Listener = TcpListener>
+        + Threads
+        + Wait
+        + Clock
+        + Sync
+        + AllocGlobal,
+>(rt: &R, line: &str, script: &str) -> Result<String, Fail> {
     let alloc = rt.alloc();
     let mut words = Vec::new(alloc);
     for word in line.split_whitespace() {
@@ -42,7 +57,14 @@ fn said(rt: &HostRuntime, line: &str, script: &str) -> Result<String, Fail> {
     }
     let mut out = Vec::new(alloc);
     let mut err = Vec::new(alloc);
-    let status = command(rt, &words, script.as_bytes(), &mut out, &mut err);
+    let status = command(
+        rt,
+        &words,
+        Progress::silent(),
+        script.as_bytes(),
+        &mut out,
+        &mut err,
+    );
     let out = String::from_utf8(out).ok().ok_or("output")?;
     let err = String::from_utf8(err).ok().ok_or("error output")?;
     Ok(format!(in alloc; "{status} {out}{err}")?)
@@ -56,7 +78,15 @@ fn without(rt: &HostRuntime, paths: &[&str]) {
 }
 
 // Whether a command without input says this.
-fn is_said(rt: &HostRuntime, line: &str, answer: &str) -> Result<bool, Fail> {
+fn is_said<
+    R: Files<File = File>
+        + Net<Stream = TcpStream, Listener = TcpListener>
+        + Threads
+        + Wait
+        + Clock
+        + Sync
+        + AllocGlobal,
+>(rt: &R, line: &str, answer: &str) -> Result<bool, Fail> {
     let line = format!(in rt.alloc(); "recorderd {line}")?;
     Ok(said(rt, &line, "")?.as_str() == answer)
 }
@@ -262,7 +292,14 @@ fn an_output_that_is_full(rt: HostRuntime) -> Result<(), Fail> {
     let mut err = Vec::new(alloc);
     for (room, status) in [(0, 1), (40, 1), (41, 0)] {
         let mut out = Full { room };
-        let ended = command(&rt, &words, b"".as_slice(), &mut out, &mut err);
+        let ended = command(
+            &rt,
+            &words,
+            Progress::silent(),
+            b"".as_slice(),
+            &mut out,
+            &mut err,
+        );
         assert!(rt; ended == status && err.is_empty(), "with room for {room}");
     }
     without(&rt, &files);

@@ -1,0 +1,107 @@
+//! Why `serve` is refused, and which of several reasons is told.
+
+ghost use Rattle.host_session.specs.declared.fault.HostFault.{HostFault};
+ghost use Rattle.std.specs.Prelude.{◌≡◌, None, Some, IfErr, OnOk, OnErr, true, false};
+
+use flusher_core::HostRefusal;
+use gated_journal::CreateFault;
+use host_session::HostFault;
+use key_index::IndexFault;
+use shared_book::FlusherEnd;
+use std::fmt;
+
+/// Why `serve` is refused. Its text is the part that refused it, and the number there.
+#[derive(Clone, Copy, Debug, PartialEq, Eq)]
+pub enum Refusal {
+    /// The recording's file can't be opened or made, or another recorder has it.
+    File,
+    /// The recording isn't opened.
+    Recording(IndexFault),
+    /// The recording isn't made.
+    Create(CreateFault),
+    /// The device failed while messages were written.
+    Device,
+    /// The host sent a fault, or is of another size.
+    Host(HostFault),
+    /// The recording takes no more messages, or memory ran out.
+    Book(HostRefusal),
+    /// A socket failed.
+    Net,
+}
+
+impl fmt::Display for Refusal {
+    fn fmt<W: fmt::Write>(&self, f: &mut fmt::Formatter<W>) -> fmt::Result {
+        match self {
+            Refusal::File => write!(f, "file 1"),
+            Refusal::Recording(fault) => {
+                let refusal = file_commands::Refusal::Recording(*fault);
+                write!(f, "{refusal}")
+            }
+            Refusal::Create(fault) => {
+                let number = fault.number();
+                write!(f, "journal {number}")
+            }
+            Refusal::Device => write!(f, "journal 3"),
+            Refusal::Host(fault) => {
+                let number = fault.number();
+                write!(f, "host {number}")
+            }
+            Refusal::Book(refusal) => {
+                let number = refusal.number();
+                write!(f, "book {number}")
+            }
+            Refusal::Net => write!(f, "net 1"),
+        }
+    }
+}
+
+/// How a host's stream ended.
+#[derive(Clone, Copy, Debug, PartialEq, Eq)]
+pub enum HostEnd {
+    /// At its end, or in the middle of a message, which is dropped.
+    Closed,
+    /// By a failure of its socket.
+    Socket,
+    /// By a fault.
+    Fault(HostFault),
+}
+
+/// How each part of a recorder ended.
+#[derive(Clone, Copy, Debug, PartialEq, Eq)]
+pub struct Ends {
+    /// The flusher.
+    pub flusher: Result<(), FlusherEnd>,
+    /// The worker that hands the host's messages in.
+    pub worker: Result<(), HostRefusal>,
+    /// The host's stream.
+    pub host: HostEnd,
+    /// Whether each viewer's connection was taken.
+    pub is_listener_sound: bool,
+}
+
+/// The one reason that is told: the flusher's, else the worker's, else the host's or its socket's,
+/// else the listener's; none where all went well.
+pub fn first_refusal(ends: Ends) -> Option<Refusal>
+    ensures flusher { OnErr ends.flusher (result ≡ Some Refusal.Device) }
+    ensures worker { OnOk ends.flusher (IfErr ends.worker (λ refusal. result ≡ Some (Refusal.Book refusal))) }
+    ensures fault { OnOk ends.flusher (OnOk ends.worker ((fault : HostFault)
+        → ends.host ≡ HostEnd.Fault fault → result ≡ Some (Refusal.Host fault))) }
+    ensures socket { OnOk ends.flusher (OnOk ends.worker (ends.host ≡ HostEnd.Socket → result ≡ Some Refusal.Net)) }
+    ensures listener { OnOk ends.flusher (OnOk ends.worker (ends.host ≡ HostEnd.Closed
+        → ends.is_listener_sound ≡ false → result ≡ Some Refusal.Net)) }
+    ensures done { OnOk ends.flusher (OnOk ends.worker (ends.host ≡ HostEnd.Closed
+        → ends.is_listener_sound ≡ true → result ≡ None)) }
+{
+    if ends.flusher.is_err() {
+        return Some(Refusal::Device);
+    }
+    if let Err(refusal) = ends.worker {
+        return Some(Refusal::Book(refusal));
+    }
+    match ends.host {
+        HostEnd::Socket => Some(Refusal::Net),
+        HostEnd::Fault(fault) => Some(Refusal::Host(fault)),
+        HostEnd::Closed if ends.is_listener_sound => None,
+        HostEnd::Closed => Some(Refusal::Net),
+    }
+}
