@@ -12,27 +12,18 @@ use std::net::{Net, TcpListener, TcpStream};
 use std::rt::Files;
 use std::sync::Wait;
 use std::test::Fail;
-use std::thread::{Threads, join};
+use std::thread::Threads;
 use std::time::Clock;
 use std::{fs, io};
 
-// Serves a recording beside what the host and the viewers do: whether it is done, and what is
-// printed.
-fn served<
-    R: Files<File = File>
-        + Net<Stream = TcpStream, Listener = TcpListener>
-        + Threads
-        + Wait
-        + Clock
-        + Sync
-        + AllocGlobal,
-    F: FnOnce() -> Result<(), Fail> + Send + Drop,
->(rt: &R, plan: Plan<'_>, listener: TcpListener, peers: F) -> Result<String, Fail> {
-    let (printed, played) = join(rt, move || print(rt, plan, listener), peers);
+// What is printed, once what the host and the viewers did is done.
+fn told(both: (io::Result<String>, Result<(), Fail>)) -> Result<String, Fail> {
+    let (printed, played) = both;
     played?;
     Ok(printed?)
 }
 
+// Serves a recording: whether it is done, and what is printed.
 fn print<
     R: Files<File = File>
         + Net<Stream = TcpStream, Listener = TcpListener>

@@ -3,13 +3,14 @@
 use super::peers::{
     ALL, BLACK, CHANGES, GREEN, RED, deaf_host, listener, silent_viewer, small_host, viewer,
 };
-use super::{checked, served};
+use super::{checked, print, told};
 use crate::Plan;
 use crate::tests::peers::{Peer, Place};
 use broadcast::Start;
 use std::fs;
 use std::net::{Net, TcpListener, TcpStream};
 use std::test::Fail;
+use std::thread::join;
 
 /// How a host of the test ends.
 #[derive(Clone, Copy)]
@@ -79,9 +80,11 @@ fn a_host_ends(rt: HostRuntime) -> Result<(), Fail> {
             viewers: 1,
             from: Start::Live,
         };
-        let said = served(rt, plan, viewers, move || {
-            host_ends(rt, hosts, place, ending)
-        })?;
+        let said = told(join(
+            rt,
+            move || print(rt, plan, viewers),
+            move || { host_ends(rt, hosts, place, ending) },
+        ))?;
         assert!(rt; said.as_str() == line, "{said}");
         assert!(rt; checked(rt, file)?.as_str() == "recording 1 1 messages 1 blocks 1\n");
     }
@@ -127,7 +130,11 @@ fn a_recording_is_served_alone(rt: HostRuntime) -> Result<(), Fail> {
             viewers: 1,
             from,
         };
-        let said = served(rt, plan, viewers, move || alone(rt, place, from))?;
+        let said = told(join(
+            rt,
+            move || print(rt, plan, viewers),
+            move || alone(rt, place, from),
+        ))?;
         assert!(rt; said.as_str() == "true serving\ncommitted 1\n", "{said}");
     }
     assert!(rt; checked(rt, file)?.as_str() == "recording 1 1 messages 1 blocks 1\n");
@@ -151,13 +158,13 @@ fn what_can_t_be_served_makes_no_file(rt: HostRuntime) -> Result<(), Fail> {
         from: Start::Live,
     };
     let alone = Plan { host: None, ..plan };
-    let said = served(rt, plan, viewers, move || Ok(()))?;
+    let said = told(join(rt, move || print(rt, plan, viewers), move || Ok(())))?;
     assert!(rt;
         said.as_str() == "false recorderd: serve refused net 1\n",
         "{said}"
     );
     let (viewers, _) = listener(rt)?;
-    let said = served(rt, alone, viewers, move || Ok(()))?;
+    let said = told(join(rt, move || print(rt, alone, viewers), move || Ok(())))?;
     assert!(rt;
         said.as_str() == "false recorderd: serve refused file 1\n",
         "{said}"
@@ -165,7 +172,7 @@ fn what_can_t_be_served_makes_no_file(rt: HostRuntime) -> Result<(), Fail> {
     assert!(rt; fs::metadata(rt, file).is_err());
     fs::write(rt, file, b"".as_slice())?;
     let (viewers, _) = listener(rt)?;
-    let said = served(rt, alone, viewers, move || Ok(()))?;
+    let said = told(join(rt, move || print(rt, alone, viewers), move || Ok(())))?;
     assert!(rt;
         said.as_str() == "false recorderd: serve refused journal 1\n",
         "{said}"

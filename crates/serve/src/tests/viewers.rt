@@ -3,13 +3,14 @@
 use super::peers::{
     ALL, BLACK, CHANGES, GREEN, RED, large_host, listener, silent_viewer, small_host, viewer,
 };
-use super::{checked, served};
+use super::{checked, print, told};
 use crate::Plan;
 use crate::tests::peers::Place;
 use broadcast::Start;
 use std::fs;
 use std::net::{Net, TcpListener, TcpStream};
 use std::test::Fail;
+use std::thread::join;
 
 // Two viewers, who see the black screen, and then the host's update.
 fn two_watch<R: Net<Stream = TcpStream, Listener = TcpListener> + AllocGlobal>(
@@ -44,7 +45,11 @@ fn two_viewers_get_a_host_s_update(rt: HostRuntime) -> Result<(), Fail> {
         from: Start::Live,
     };
     let _ = fs::remove_file(rt, plan.file);
-    let said = served(rt, plan, viewers, move || two_watch(rt, hosts, place))?;
+    let said = told(join(
+        rt,
+        move || print(rt, plan, viewers),
+        move || two_watch(rt, hosts, place),
+    ))?;
     assert!(rt; said.as_str() == "true serving\ncommitted 1\n", "{said}");
     assert!(rt; checked(rt, plan.file)?.as_str() == "recording 1 1 messages 1 blocks 1\n");
     Ok(())
@@ -94,7 +99,11 @@ fn a_viewer_s_fault_ends_it_alone(rt: HostRuntime) -> Result<(), Fail> {
         from: Start::At(0),
     };
     let _ = fs::remove_file(rt, plan.file);
-    let said = served(rt, plan, viewers, move || strangers_come(rt, hosts, place))?;
+    let said = told(join(
+        rt,
+        move || print(rt, plan, viewers),
+        move || strangers_come(rt, hosts, place),
+    ))?;
     assert!(rt; said.as_str() == "true serving\ncommitted 2\n", "{said}");
     assert!(rt; checked(rt, plan.file)?.as_str() == "recording 1 1 messages 2 blocks 2\n");
     Ok(())
@@ -144,7 +153,11 @@ fn a_viewer_that_sleeps_holds_up_nobody(rt: HostRuntime) -> Result<(), Fail> {
         from: Start::Live,
     };
     let _ = fs::remove_file(rt, plan.file);
-    let said = served(rt, plan, viewers, move || one_sleeps(rt, hosts, place))?;
+    let said = told(join(
+        rt,
+        move || print(rt, plan, viewers),
+        move || one_sleeps(rt, hosts, place),
+    ))?;
     assert!(rt; said.as_str() == "true serving\ncommitted 2\n", "{said}");
     assert!(rt; checked(rt, plan.file)?.as_str() == "recording 2048 1024 messages 2 blocks 2\n");
     Ok(())
