@@ -13,3 +13,6 @@ mod viewer;
 pub use clock::{Stopwatch, time_after};
 pub use refusal::{Ends, HostEnd, Refusal, first_refusal};
 pub use serving::{Plan, serve, serve_on};
+
+#[cfg(test)]
+mod tests;

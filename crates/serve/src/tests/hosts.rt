@@ -1,0 +1,182 @@
+//! How a host ends, and a recording without one.
+
+use super::peers::{
+    ALL, BLACK, CHANGES, GREEN, RED, deaf_host, listener, silent_viewer, small_host, viewer,
+};
+use super::{checked, print, told};
+use crate::Plan;
+use crate::tests::peers::{Peer, Place};
+use broadcast::Start;
+use std::fs;
+use std::net::{Net, TcpListener, TcpStream};
+use std::test::Fail;
+use std::thread::join;
+
+/// How a host of the test ends.
+#[derive(Clone, Copy)]
+enum Ending {
+    /// Within a message.
+    Torn,
+    /// With bytes unread, so that the system resets the connection.
+    Reset,
+    /// By a type of message that there isn't.
+    Fault,
+}
+
+// A viewer is shown an update, and the host ends.
+fn host_ends<R: Net<Stream = TcpStream, Listener = TcpListener> + AllocGlobal>(
+    rt: &R,
+    hosts: TcpListener,
+    place: Place,
+    ending: Ending,
+) -> Result<(), Fail> {
+    let alloc = rt.alloc();
+    let host: Peer = match ending {
+        Ending::Reset => deaf_host(alloc, &hosts)?,
+        _ => small_host(alloc, &hosts)?,
+    };
+    let one = viewer(rt, place)?;
+    one.talk(alloc, &ALL, &BLACK)?;
+    host.say(&RED)?;
+    one.talk(alloc, &CHANGES, &RED)?;
+    match ending {
+        Ending::Reset => {}
+        Ending::Torn => {
+            host.hear(alloc, &CHANGES)?;
+            host.say(&GREEN[..19])?;
+        }
+        Ending::Fault => {
+            host.hear(alloc, &CHANGES)?;
+            host.say(&[9])?;
+            host.ends()?;
+        }
+    }
+    Ok(())
+}
+
+#[test]
+fn a_host_ends(rt: HostRuntime) -> Result<(), Fail> {
+    let rt = &rt;
+    let file = "ended";
+    let _ = fs::remove_file(rt, file);
+    for (ending, line) in [
+        (Ending::Torn, "true serving\ncommitted 1\n"),
+        (
+            Ending::Reset,
+            "false serving\nrecorderd: serve refused net 1\n",
+        ),
+        (
+            Ending::Fault,
+            "false serving\nrecorderd: serve refused host 1\n",
+        ),
+    ] {
+        let (hosts, host) = listener(rt)?;
+        let (viewers, place) = listener(rt)?;
+        let address = host.address(rt.alloc())?;
+        let plan = Plan {
+            file,
+            host: Some(address.as_str()),
+            key_interval: 4,
+            viewers: 1,
+            from: Start::Live,
+        };
+        let said = told(join(
+            rt,
+            move || print(rt, plan, viewers),
+            move || { host_ends(rt, hosts, place, ending) },
+        ))?;
+        assert!(rt; said.as_str() == line, "{said}");
+        assert!(rt; checked(rt, file)?.as_str() == "recording 1 1 messages 1 blocks 1\n");
+    }
+    Ok(())
+}
+
+/// A recording of one place with one message, an update of a red pixel.
+const RECORDING: [u8; 54] =
+    *b"ORFBREC1\0\x01\0\x01\0\x04\0\x01xO\0\0\0\x1d\0\x01\0\0\0\0\0\0\0\0\x14\0\0\0\x01\0\0\0\0\0\x01\0\x01\0\0\0\0\0\0\xff\0C";
+
+// What a viewer sees of a recording that is served alone: behind the update, its black start, or a
+// reason.
+fn alone<R: Net<Stream = TcpStream, Listener = TcpListener> + AllocGlobal>(
+    rt: &R,
+    place: Place,
+    from: Start,
+) -> Result<(), Fail> {
+    let alloc = rt.alloc();
+    if from == Start::At(2) {
+        let refused = silent_viewer(rt, place)?;
+        refused.hear(alloc, b"RFB 003.008\n")?;
+        refused.talk(
+            alloc,
+            b"RFB 003.008\n",
+            b"\0\0\0\0\x20the recording has fewer messages",
+        )?;
+        return refused.ends();
+    }
+    viewer(rt, place)?.talk(alloc, &ALL, &RED)
+}
+
+#[test]
+fn a_recording_is_served_alone(rt: HostRuntime) -> Result<(), Fail> {
+    let rt = &rt;
+    let file = "alone";
+    fs::write(rt, file, RECORDING.as_slice())?;
+    for from in [Start::Live, Start::At(0), Start::At(1), Start::At(2)] {
+        let (viewers, place) = listener(rt)?;
+        let plan = Plan {
+            file,
+            host: None,
+            key_interval: 4,
+            viewers: 1,
+            from,
+        };
+        let said = told(join(
+            rt,
+            move || print(rt, plan, viewers),
+            move || alone(rt, place, from),
+        ))?;
+        assert!(rt; said.as_str() == "true serving\ncommitted 1\n", "{said}");
+    }
+    assert!(rt; checked(rt, file)?.as_str() == "recording 1 1 messages 1 blocks 1\n");
+    Ok(())
+}
+
+#[test]
+fn what_can_t_be_served_makes_no_file(rt: HostRuntime) -> Result<(), Fail> {
+    let rt = &rt;
+    let file = "refused";
+    let _ = fs::remove_file(rt, file);
+    let (viewers, _) = listener(rt)?;
+    let (hosts, host) = listener(rt)?;
+    drop(hosts);
+    let address = host.address(rt.alloc())?;
+    let plan = Plan {
+        file,
+        host: Some(address.as_str()),
+        key_interval: 4,
+        viewers: 1,
+        from: Start::Live,
+    };
+    let alone = Plan { host: None, ..plan };
+    let said = told(join(rt, move || print(rt, plan, viewers), move || Ok(())))?;
+    assert!(rt;
+        said.as_str() == "false recorderd: serve refused net 1\n",
+        "{said}"
+    );
+    let (viewers, _) = listener(rt)?;
+    let said = told(join(rt, move || print(rt, alone, viewers), move || Ok(())))?;
+    assert!(rt;
+        said.as_str() == "false recorderd: serve refused file 1\n",
+        "{said}"
+    );
+    assert!(rt; fs::metadata(rt, file).is_err());
+    fs::write(rt, file, b"".as_slice())?;
+    let (viewers, _) = listener(rt)?;
+    let said = told(join(rt, move || print(rt, alone, viewers), move || Ok(())))?;
+    assert!(rt;
+        said.as_str() == "false recorderd: serve refused journal 1\n",
+        "{said}"
+    );
+    fs::remove_file(rt, file)?;
+    Ok(())
+}

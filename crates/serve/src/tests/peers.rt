@@ -1,0 +1,156 @@
+//! Both ends of the wire that a test plays. Bytes are worked by hand.
+
+use std::alloc::{AllocError, Global};
+use std::io::{Read, Write};
+use std::net::{Net, TcpListener, TcpStream};
+use std::test::Fail;
+use std::time::Duration;
+
+/// The version that both sides say.
+const VERSION: [u8; 12] = *b"RFB 003.008\n";
+
+/// A host's ServerInit: 1 by 1, a format that is read over, and the name `x`.
+const SMALL: [u8; 25] = *b"\0\x01\0\x01\x20\x18\0\x01\0\xff\0\xff\0\xff\x10\x08\0\0\0\0\0\0\0\x01x";
+
+/// The same of 2,048 by 1,024.
+const LARGE: [u8; 25] = *b"\x08\0\x04\0\x20\x18\0\x01\0\xff\0\xff\0\xff\x10\x08\0\0\0\0\0\0\0\x01x";
+
+/// An update of one place at the corner, in Raw: black, red and green.
+pub const BLACK: [u8; 20] = *b"\0\0\0\x01\0\0\0\0\0\x01\0\x01\0\0\0\0\0\0\0\0";
+
+pub const RED: [u8; 20] = *b"\0\0\0\x01\0\0\0\0\0\x01\0\x01\0\0\0\0\0\0\xff\0";
+
+pub const GREEN: [u8; 20] = *b"\0\0\0\x01\0\0\0\0\0\x01\0\x01\0\0\0\0\0\xff\0\0";
+
+/// Requests of the one place: all of it, and what changes there.
+pub const ALL: [u8; 10] = *b"\x03\0\0\0\0\0\0\x01\0\x01";
+
+pub const CHANGES: [u8; 10] = *b"\x03\x01\0\0\0\0\0\x01\0\x01";
+
+/// A port of this machine.
+#[derive(Clone, Copy)]
+pub struct Place {
+    port: u16,
+}
+
+impl Place {
+    pub fn address(self, alloc: Global) -> Result<String, AllocError> {
+        let port = self.port;
+        format!(in alloc; "127.0.0.1:{port}")
+    }
+}
+
+/// A listener on a port that was free.
+pub fn listener<R: Net<Stream = TcpStream, Listener = TcpListener> + AllocGlobal>(
+    rt: &R,
+) -> Result<(TcpListener, Place), Fail> {
+    let listener = TcpListener::bind(rt, "127.0.0.1:0")?;
+    let port = listener.local_addr()?.port();
+    Ok((listener, Place { port }))
+}
+
+/// A host or a viewer.
+#[derive(Drop)]
+pub struct Peer {
+    stream: TcpStream,
+}
+
+impl Peer {
+    fn over(stream: TcpStream) -> Result<Peer, Fail> {
+        stream.set_read_timeout(Some(Duration::from_secs(20)))?;
+        Ok(Peer { stream })
+    }
+
+    pub fn say(&self, bytes: &[u8]) -> Result<(), Fail> {
+        (&mut &self.stream).write_all(bytes)?;
+        Ok(())
+    }
+
+    /// Reads so many bytes as these, which are just these.
+    pub fn hear(&self, alloc: Global, bytes: &[u8]) -> Result<(), Fail> {
+        let mut came = Vec::new(alloc);
+        came.resize(bytes.len(), 0)?;
+        (&mut &self.stream).read_exact(&mut came)?;
+        if came.as_slice() != bytes {
+            return Err("other bytes came".into());
+        }
+        Ok(())
+    }
+
+    /// Reads over so many bytes.
+    pub fn skip(&self, alloc: Global, count: usize) -> Result<(), Fail> {
+        let mut came = Vec::new(alloc);
+        came.resize(count, 0)?;
+        (&mut &self.stream).read_exact(&mut came)?;
+        Ok(())
+    }
+
+    /// Says something, and reads these bytes.
+    pub fn talk(&self, alloc: Global, said: &[u8], heard: &[u8]) -> Result<(), Fail> {
+        self.say(said)?;
+        self.hear(alloc, heard)
+    }
+
+    /// Nothing more comes.
+    pub fn ends(&self) -> Result<(), Fail> {
+        let mut byte = [0u8; 1];
+        match (&mut &self.stream).read(&mut byte) {
+            Ok(0) => Ok(()),
+            _ => Err("more came".into()),
+        }
+    }
+}
+
+// The host that connects here, behind its handshake. What it is then asked for isn't read.
+fn host(alloc: Global, listener: &TcpListener, init: &[u8]) -> Result<Peer, Fail> {
+    let (stream, _) = listener.accept()?;
+    let host = Peer::over(stream)?;
+    host.talk(alloc, &VERSION, &VERSION)?;
+    host.talk(alloc, &[1, 1], &[1])?;
+    host.talk(alloc, &[0, 0, 0, 0], &[1])?;
+    host.say(init)?;
+    Ok(host)
+}
+
+/// A host of one place, which doesn't read what it is asked for.
+pub fn deaf_host(alloc: Global, listener: &TcpListener) -> Result<Peer, Fail> {
+    host(alloc, listener, &SMALL)
+}
+
+/// A host of one place.
+pub fn small_host(alloc: Global, listener: &TcpListener) -> Result<Peer, Fail> {
+    let host = host(alloc, listener, &SMALL)?;
+    host.skip(alloc, 50)?;
+    Ok(host)
+}
+
+/// A host of 2,048 by 1,024 places.
+pub fn large_host(alloc: Global, listener: &TcpListener) -> Result<Peer, Fail> {
+    let host = host(alloc, listener, &LARGE)?;
+    host.skip(alloc, 50)?;
+    Ok(host)
+}
+
+/// A viewer that has said nothing.
+pub fn silent_viewer<R: Net<Stream = TcpStream, Listener = TcpListener> + AllocGlobal>(
+    rt: &R,
+    place: Place,
+) -> Result<Peer, Fail> {
+    let address = place.address(rt.alloc())?;
+    Peer::over(TcpStream::connect(rt, address.as_str())?)
+}
+
+/// A viewer behind its handshake.
+pub fn viewer<R: Net<Stream = TcpStream, Listener = TcpListener> + AllocGlobal>(
+    rt: &R,
+    place: Place,
+) -> Result<Peer, Fail> {
+    let alloc = rt.alloc();
+    let viewer = silent_viewer(rt, place)?;
+    viewer.hear(alloc, &VERSION)?;
+    viewer.talk(alloc, &VERSION, &[1, 1])?;
+    viewer.talk(alloc, &[1], &[0, 0, 0, 0])?;
+    viewer.say(&[1])?;
+    viewer.skip(alloc, 25)?;
+    Ok(viewer)
+}

@@ -1,0 +1,164 @@
+//! Viewers of a host.
+
+use super::peers::{
+    ALL, BLACK, CHANGES, GREEN, RED, large_host, listener, silent_viewer, small_host, viewer,
+};
+use super::{checked, print, told};
+use crate::Plan;
+use crate::tests::peers::Place;
+use broadcast::Start;
+use std::fs;
+use std::net::{Net, TcpListener, TcpStream};
+use std::test::Fail;
+use std::thread::join;
+
+// Two viewers, who see the black screen, and then the host's update.
+fn two_watch<R: Net<Stream = TcpStream, Listener = TcpListener> + AllocGlobal>(
+    rt: &R,
+    hosts: TcpListener,
+    place: Place,
+) -> Result<(), Fail> {
+    let alloc = rt.alloc();
+    let host = small_host(alloc, &hosts)?;
+    let one = viewer(rt, place)?;
+    let other = viewer(rt, place)?;
+    one.talk(alloc, &ALL, &BLACK)?;
+    other.talk(alloc, &ALL, &BLACK)?;
+    one.say(&CHANGES)?;
+    other.say(&CHANGES)?;
+    host.talk(alloc, &RED, &CHANGES)?;
+    one.hear(alloc, &RED)?;
+    other.hear(alloc, &RED)
+}
+
+#[test]
+fn two_viewers_get_a_host_s_update(rt: HostRuntime) -> Result<(), Fail> {
+    let rt = &rt;
+    let (hosts, host) = listener(rt)?;
+    let (viewers, place) = listener(rt)?;
+    let address = host.address(rt.alloc())?;
+    let plan = Plan {
+        file: "watched",
+        host: Some(address.as_str()),
+        key_interval: 4,
+        viewers: 2,
+        from: Start::Live,
+    };
+    let _ = fs::remove_file(rt, plan.file);
+    let said = told(join(
+        rt,
+        move || print(rt, plan, viewers),
+        move || two_watch(rt, hosts, place),
+    ))?;
+    assert!(rt; said.as_str() == "true serving\ncommitted 1\n", "{said}");
+    assert!(rt; checked(rt, plan.file)?.as_str() == "recording 1 1 messages 1 blocks 1\n");
+    Ok(())
+}
+
+// One viewer says nothing, one is of another version, one leaves within a message, and one begins
+// behind what there is; the last one sees all.
+fn strangers_come<R: Net<Stream = TcpStream, Listener = TcpListener> + AllocGlobal>(
+    rt: &R,
+    hosts: TcpListener,
+    place: Place,
+) -> Result<(), Fail> {
+    let alloc = rt.alloc();
+    let host = small_host(alloc, &hosts)?;
+    let silent = silent_viewer(rt, place)?;
+    let old = silent_viewer(rt, place)?;
+    old.hear(alloc, b"RFB 003.008\n")?;
+    old.talk(alloc, b"RFB 003.003\n", b"\0\0\0\0\x10only RFB 003.008")?;
+    old.ends()?;
+    let torn = viewer(rt, place)?;
+    torn.say(&ALL[..5])?;
+    drop(torn);
+    let wild = viewer(rt, place)?;
+    wild.say(&[9])?;
+    wild.ends()?;
+    let last = viewer(rt, place)?;
+    last.talk(alloc, &ALL, &BLACK)?;
+    host.talk(alloc, &RED, &CHANGES)?;
+    last.talk(alloc, &CHANGES, &RED)?;
+    host.talk(alloc, &GREEN, &CHANGES)?;
+    last.talk(alloc, &CHANGES, &GREEN)?;
+    drop(silent);
+    Ok(())
+}
+
+#[test]
+fn a_viewer_s_fault_ends_it_alone(rt: HostRuntime) -> Result<(), Fail> {
+    let rt = &rt;
+    let (hosts, host) = listener(rt)?;
+    let (viewers, place) = listener(rt)?;
+    let address = host.address(rt.alloc())?;
+    let plan = Plan {
+        file: "strangers",
+        host: Some(address.as_str()),
+        key_interval: 4,
+        viewers: 5,
+        from: Start::At(0),
+    };
+    let _ = fs::remove_file(rt, plan.file);
+    let said = told(join(
+        rt,
+        move || print(rt, plan, viewers),
+        move || strangers_come(rt, hosts, place),
+    ))?;
+    assert!(rt; said.as_str() == "true serving\ncommitted 2\n", "{said}");
+    assert!(rt; checked(rt, plan.file)?.as_str() == "recording 1 1 messages 2 blocks 2\n");
+    Ok(())
+}
+
+// A request for all of the large screen, whose answer is more than sockets hold.
+const WHOLE: [u8; 10] = *b"\x03\0\0\0\0\0\x08\0\x04\0";
+
+// How many bytes that answer has.
+const LENGTH: usize = 16 + 4 * 2048 * 1024;
+
+// What the host asks after each update of the large screen.
+const MORE: [u8; 10] = *b"\x03\x01\0\0\0\0\x08\0\x04\0";
+
+// A viewer doesn't read its answer while the other is shown two updates. Then it reads the answer,
+// and is shown the newest place.
+fn one_sleeps<R: Net<Stream = TcpStream, Listener = TcpListener> + AllocGlobal>(
+    rt: &R,
+    hosts: TcpListener,
+    place: Place,
+) -> Result<(), Fail> {
+    let alloc = rt.alloc();
+    let host = large_host(alloc, &hosts)?;
+    let asleep = viewer(rt, place)?;
+    let awake = viewer(rt, place)?;
+    asleep.say(&WHOLE)?;
+    awake.talk(alloc, &ALL, &BLACK)?;
+    host.talk(alloc, &RED, &MORE)?;
+    awake.talk(alloc, &CHANGES, &RED)?;
+    host.talk(alloc, &GREEN, &MORE)?;
+    awake.talk(alloc, &CHANGES, &GREEN)?;
+    asleep.skip(alloc, LENGTH)?;
+    asleep.talk(alloc, &ALL, &GREEN)
+}
+
+#[test]
+fn a_viewer_that_sleeps_holds_up_nobody(rt: HostRuntime) -> Result<(), Fail> {
+    let rt = &rt;
+    let (hosts, host) = listener(rt)?;
+    let (viewers, place) = listener(rt)?;
+    let address = host.address(rt.alloc())?;
+    let plan = Plan {
+        file: "asleep",
+        host: Some(address.as_str()),
+        key_interval: 4,
+        viewers: 2,
+        from: Start::Live,
+    };
+    let _ = fs::remove_file(rt, plan.file);
+    let said = told(join(
+        rt,
+        move || print(rt, plan, viewers),
+        move || one_sleeps(rt, hosts, place),
+    ))?;
+    assert!(rt; said.as_str() == "true serving\ncommitted 2\n", "{said}");
+    assert!(rt; checked(rt, plan.file)?.as_str() == "recording 2048 1024 messages 2 blocks 2\n");
+    Ok(())
+}
