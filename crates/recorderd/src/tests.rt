@@ -43,6 +43,14 @@ fn words_that_are_no_command_line(rt: HostRuntime) -> Result<(), Fail> {
         "export r -1 1 o",
         "export r +1 1 o",
         "export r 0 18446744073709551616 o",
+        "serve --file r",
+        "serve --listen 127.0.0.1:0",
+        "serve --file r --listen a b",
+        "serve --file r --listen a --viewers 0",
+        "serve --file r --listen a --viewers 65",
+        "serve --file r --listen a --key 0",
+        "serve --file r --listen a --key 4097",
+        "serve --file r --listen a --from then",
     ] {
         let mut words = Vec::new(alloc);
         words.push("recorderd".to_string(alloc)?)?;

@@ -178,6 +178,18 @@ fn nothing_is_lost(rt: HostRuntime) -> Result<(), Fail> {
             "export no_such_file 0 1 o",
             "1 recorderd: export refused file 1\n",
         ),
+        (
+            "serve --file no_such_file --listen 127.0.0.1:0",
+            "1 recorderd: serve refused file 1\n",
+        ),
+        (
+            "serve --file mine --listen nowhere --viewers 64 --from 0",
+            "1 recorderd: serve refused net 1\n",
+        ),
+        (
+            "serve --file no_such_file --listen 127.0.0.1:0 --host nowhere --key 4096",
+            "1 recorderd: serve refused net 1\n",
+        ),
     ] {
         assert!(rt; is_said(&rt, line, answer)?, "{line}");
     }
