@@ -21,18 +21,13 @@ const REFUSED: u8 = 1;
 const BAD_WORDS: u8 = 2;
 
 // Runs a drill whose recording is kept in a new file, which is made first.
-fn drill_to_file<
-    R: Files<File = File>
-        + Net<Stream = TcpStream, Listener = TcpListener>
-        + Threads
-        + Wait
-        + Clock
-        + Sync
-        + AllocGlobal,
-    I: Read + Drop,
-    O: Write,
-    E: Write,
->(rt: &R, path: &str, input: I, out: &mut O, err: &mut E) -> io::Result<bool> {
+fn drill_to_file<R: Files<File = File> + AllocGlobal, I: Read + Drop, O: Write, E: Write>(
+    rt: &R,
+    path: &str,
+    input: I,
+    out: &mut O,
+    err: &mut E,
+) -> io::Result<bool> {
     let mut disk = match create_new(rt, path) {
         Ok(disk) => disk,
         Err(refusal) => {
