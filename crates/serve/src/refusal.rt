@@ -6,7 +6,7 @@ ghost use Rattle.std.specs.Prelude.{◌≡◌, None, Some, IfErr, OnOk, OnErr, t
 use flusher_core::HostRefusal;
 use gated_journal::CreateFault;
 use host_session::HostFault;
-use key_index::IndexFault;
+use key_index::{IndexFault, Numbered};
 use shared_book::FlusherEnd;
 use std::fmt;
 
@@ -34,8 +34,8 @@ impl fmt::Display for Refusal {
         match self {
             Refusal::File => write!(f, "file 1"),
             Refusal::Recording(fault) => {
-                let refusal = file_commands::Refusal::Recording(*fault);
-                write!(f, "{refusal}")
+                let fault = Numbered(*fault);
+                write!(f, "{fault}")
             }
             Refusal::Create(fault) => {
                 let number = fault.number();
