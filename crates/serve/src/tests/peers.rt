@@ -77,6 +77,21 @@ impl Peer {
         Ok(())
     }
 
+    /// Reads updates as long as this one until it comes, and asks again behind each other one: a few
+    /// times at most.
+    pub fn hear_at_last(&self, alloc: Global, update: &[u8], ask: &[u8]) -> Result<(), Fail> {
+        let mut came = Vec::new(alloc);
+        came.resize(update.len(), 0)?;
+        for _ in 0..3 {
+            (&mut &self.stream).read_exact(&mut came)?;
+            if came.as_slice() == update {
+                return Ok(());
+            }
+            self.say(ask)?;
+        }
+        Err("the update didn't come".into())
+    }
+
     /// Reads over so many bytes.
     pub fn skip(&self, alloc: Global, count: usize) -> Result<(), Fail> {
         let mut came = Vec::new(alloc);

@@ -119,7 +119,7 @@ const LENGTH: usize = 16 + 4 * 2048 * 1024;
 const MORE: [u8; 10] = *b"\x03\x01\0\0\0\0\x08\0\x04\0";
 
 // A viewer doesn't read its answer while the other is shown two updates. Then it reads the answer,
-// and is shown the newest place.
+// and is shown the newest place at last.
 fn one_sleeps<R: Net<Stream = TcpStream, Listener = TcpListener> + AllocGlobal>(
     rt: &R,
     hosts: TcpListener,
@@ -136,7 +136,9 @@ fn one_sleeps<R: Net<Stream = TcpStream, Listener = TcpListener> + AllocGlobal>(
     host.talk(alloc, &GREEN, &MORE)?;
     awake.talk(alloc, &CHANGES, &GREEN)?;
     asleep.skip(alloc, LENGTH)?;
-    asleep.talk(alloc, &ALL, &GREEN)
+    // Its seat may take what it missed only behind this request.
+    asleep.say(&ALL)?;
+    asleep.hear_at_last(alloc, &GREEN, &CHANGES)
 }
 
 #[test]
