@@ -6,3 +6,4 @@ pub mod Same
 pub mod Updates
 pub mod RowsRead
 pub mod Keys
+pub mod Whole

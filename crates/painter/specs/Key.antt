@@ -1,5 +1,5 @@
 -- A key screen: an update that paints a whole screen, whatever stood there before.
-use Rattle.std.specs.Prelude.{◌≡◌, ◌⊎◌, ℕ, List, [], ◌∷◌}
+use Rattle.std.specs.Prelude.{◌≡◌, ◌⊎◌, ℕ, [], ◌∷◌}
 use Rattle.pixel_format.specs.Canvas.{Picture, Agree}
 use Rattle.client_wire.specs.declared.message.Area.{Area}
 use Rattle.rect_data.specs.declared.encoding.Encoding.TheVariants.{Raw, Hextile}

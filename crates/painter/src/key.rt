@@ -1,14 +1,28 @@
 //! Key screens: a screen as one message.
 
-ghost use Rattle.std.specs.Prelude.{◌≡◌, ◌+◌, ◌*◌, ◌≤◌, ◌^◌, length, IfOk};
-ghost use Rattle.painter.specs.Framebuffer.{color_at};
-ghost use Rattle.painter.specs.Key.{IsKey};
+ghost use Rattle.std.specs.Prelude.{◌≡◌, ◌↔◌, ◌+◌, ◌*◌, ◌≤◌, ◌^◌, length, IfOk, IsTrue};
+ghost use Rattle.painter.specs.Framebuffer.{SameSize, color_at};
+ghost use Rattle.painter.specs.Key.{IsKey, IsWhole};
 
 use crate::screen::Screen;
 use pixel_format::{NoMemory, PixelFormat};
 use rect_codec::{Encoding, write_update};
-use rfb_wire::{Area, HostMessage};
+use rfb_wire::{Area, Encoding as WireEncoding, HostMessage, Rectangle};
 use std::alloc::{AllocError, Global};
+
+// Whether the rectangle is one of all places of a screen of this size, in an encoding that doesn't
+// look at what stood there.
+fn is_whole(width: u16, height: u16, rectangle: Rectangle) -> bool
+    ensures { IsTrue result ↔ IsWhole width height rectangle }
+{
+    let area = rectangle.area;
+    let of_all_places = area.x == 0 && area.y == 0 && area.w == width && area.h == height;
+    of_all_places
+        && matches!(
+            rectangle.encoding,
+            WireEncoding::Raw | WireEncoding::Hextile
+        )
+}
 
 impl Screen {
     /// An update that paints the screen over whatever stood there (RFC 6143, section 7.6.1): one Raw
@@ -35,5 +49,24 @@ impl Screen {
             Ok(message) => Ok(message),
             Err(_) => Err(AllocError),
         }
+    }
+
+    /// Whether the message, of this screen's size, is a key screen that paints this screen: an
+    /// update of one Raw or Hextile rectangle over the whole screen which paints, over whatever
+    /// stands there, what this screen has. `other`, a screen of this size, is painted over.
+    pub fn is_key(&self, message: &HostMessage, other: &mut Screen) -> bool
+        requires width { message.now.width ≡ self.now.width }
+        requires height { message.now.height ≡ self.now.height }
+        requires size { SameSize self.now other.old }
+        ensures size { SameSize self.now other.new }
+        ensures is_key { IsTrue result ↔ IsKey self.now.width self.now.height (color_at self.now) message.now }
+    {
+        let (width, height) = self.size();
+        let rectangles = message.rectangles();
+        if rectangles.len() != 1 || !is_whole(width, height, rectangles[0]) {
+            return false;
+        }
+        other.paint(message);
+        other.same(self)
     }
 }
