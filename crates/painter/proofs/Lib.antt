@@ -1,3 +1,4 @@
+pub mod Numbers
 pub mod Places
 pub mod Order
 pub mod Rows

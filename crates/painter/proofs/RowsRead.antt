@@ -1,5 +1,5 @@
 -- Reading an area row by row.
-use Rattle.std.proofs.Common.{◌≡◌, ℕ, ◌+◌, ◌-◌, ◌*◌, ◌<◌, ◌≤◌, List, [], ◌++◌, length, take, drop, inl, inr, sym, ap, ◌∙◌, arith, rules, subst}
+use Rattle.std.proofs.Common.{◌≡◌, ℕ, ◌+◌, ◌-◌, ◌*◌, ◌<◌, ◌≤◌, List, [], ◌++◌, length, take, drop, get_or, inl, inr, sym, ap, ◌∙◌, arith, rules, subst}
 use Rattle.std.proofs.lemmas.Bool.{cases_lt}
 use Rattle.std.proofs.lemmas.List.{places, length-take, length-drop, length-append, take_at, drop-drop, drop_all, append-nil, get_or_default}
 use Rattle.std.proofs.lemmas.Nat.{mul-add-lt}
@@ -11,12 +11,14 @@ use Rattle.pixel_format.specs.Canvas.{black, nth, rows_of}
 use Rattle.client_wire.specs.declared.message.Area.{Area}
 use Rattle.painter.specs.declared.pixel.Pixel.{Pixel}
 use Rattle.painter.specs.Framebuffer.{Framebuffer, color_at, AppendsColors}
-use Rattle.painter.specs.Pixels.{color_of, pixel_color_at, color_in}
+use Rattle.painter.specs.Pixels.{black_pixel, color_of, pixel_color_at, color_in}
 use Rattle.painter.proofs.Places.{below_part, in_part}
 
 -- a place of a part of the pixels
 pixel_of_part : (pixels : List Pixel) (start n k : ℕ) → k < n → pixel_color_at (take n (drop start pixels)) k ≡ pixel_color_at pixels (start + k)
-pixel_of_part pixels start n k lt = ap color_of (search (rules, places))
+pixel_of_part pixels start n k lt =
+    let here : get_or (take n (drop start pixels)) k black_pixel ≡ get_or pixels (start + k) black_pixel = search (rules, places) in
+    ap color_of here
 
 -- a row that was read: the colours of a part of the pixels, in as many places of the colours
 pub record ReadsRow (pixels : List Pixel) (colors line : List Color) (width w left top row : ℕ) : Type 0 where

@@ -1,23 +1,34 @@
 -- Two screens of one size that agree at each place have the same pixels.
-use Rattle.std.proofs.Common.{◌≡◌, ℕ, zero, suc, ◌+◌, ◌*◌, ◌/◌, ◌%◌, ◌<◌, Bool, true, false, ◌&&◌, List, length, get_or, Decides, refl, sym, subst, ap, ◌∙◌, arith}
+use Rattle.std.proofs.Common.{◌≡◌, ℕ, zero, suc, ◌+◌, ◌*◌, ◌/◌, ◌%◌, ◌<◌, List, length, get_or, Decides, sym, subst, ap, ◌∙◌, arith}
 use Rattle.std.specs.Prelude.{nat_eq, ◌↔◌}
 use Rattle.std.proofs.lemmas.Bool.{eq-eqb, eqb-true}
 use Rattle.std.proofs.lemmas.List.{ext_get_or}
 use Rattle.std.proofs.Math.Nat.{mod-lt, mod-add-div, div-lt_iff_lt-mul}
+use Rattle.std.proofs.Props.{props}
 use Rattle.pixel_format.specs.declared.Color.{Color}
 use Rattle.painter.specs.declared.pixel.Pixel.{Pixel}
 use Rattle.painter.specs.Framebuffer.{Framebuffer, color_at, Has, IsSame}
 use Rattle.painter.specs.Pixels.{black_pixel, color_of, pixel_color_at}
 use Rattle.painter.proofs.Screens.{screen_of, color_is}
 
--- a pixel is known by its colour
+made : (n : ℕ) → n < 16777216 → Pixel
+made n short = record { number = n; short = short }
+
+-- a pixel is known by its number
+same_number : (p q : Pixel) → p.number ≡ q.number → p ≡ q
+unfolding made
+same_number p q e =
+    let P : ℕ → Type 0 = λ n. (short : n < 16777216) → made p.number p.short ≡ made n short in
+    let prop : IsProp (p.number < 16777216) = hlevel props in
+    subst P e (λ short. ap (made p.number) (prop p.short short)) q.short
+
+-- and by its colour
 pixel_of : (p q : Pixel) → color_of p ≡ color_of q → p ≡ q
 pixel_of p q e =
-    let r : p.r ≡ q.r = ap (λ (c : Color). c.r) e in
-    let g : p.g ≡ q.g = ap (λ (c : Color). c.g) e in
-    let b : p.b ≡ q.b = ap (λ (c : Color). c.b) e in
-    let made : ℕ → ℕ → ℕ → Pixel = λ x y z. record { r = x; g = y; b = z } in
-    ap (λ x. made x p.g p.b) r ∙ ap (λ y. made q.r y p.b) g ∙ ap (made q.r q.g) b
+    let r : p.number / 65536 % 256 ≡ q.number / 65536 % 256 = ap (λ (c : Color). c.r) e in
+    let g : p.number / 256 % 256 ≡ q.number / 256 % 256 = ap (λ (c : Color). c.g) e in
+    let b : p.number / 1 % 256 ≡ q.number / 1 % 256 = ap (λ (c : Color). c.b) e in
+    same_number p q (omega (arith, p.short, q.short))
 
 positive : (i height width : ℕ) → i < height * width → 0 < width
 positive i height zero less = absurd (omega arith)
@@ -38,24 +49,8 @@ same_pixels width height ps qs long also same =
     ap (pixel_color_at ps) (sym at) ∙ sym (color_is ps (i / width * width + i % width)) ∙ here ∙ color_is qs (i / width * width + i % width) ∙ ap (pixel_color_at qs) at in
     pixel_of (get_or ps i black_pixel) (get_or qs i black_pixel) colors)
 
-both : (a b : Bool) → (a && b) ≡ true → (a ≡ true) × (b ≡ true)
-both true b e = (refl, e)
-both false b e = absurd (cc)
-
-together : (a b : Bool) → a ≡ true → b ≡ true → (a && b) ≡ true
-together true b e f = f
-together false b e f = absurd (cc)
-
-pub same_by_channels : (p q : Pixel) → Decides (nat_eq p.r q.r && (nat_eq p.g q.g && nat_eq p.b q.b)) (p ≡ q)
-same_by_channels p q = (
-  λ e.
-      let one = both (nat_eq p.r q.r) (nat_eq p.g q.g && nat_eq p.b q.b) e in
-      let two = both (nat_eq p.g q.g) (nat_eq p.b q.b) one.1 in
-      let made : ℕ → ℕ → ℕ → Pixel = λ x y z. record { r = x; g = y; b = z } in
-      ap (λ x. made x p.g p.b) (eqb-true p.r q.r one.0) ∙ ap (λ y. made q.r y p.b) (eqb-true p.g q.g two.0) ∙ ap (made q.r q.g) (eqb-true p.b q.b two.1),
-  λ e. together (nat_eq p.r q.r) (nat_eq p.g q.g && nat_eq p.b q.b) (eq-eqb p.r q.r (ap (λ (k : Pixel). k.r) e))
-      (together (nat_eq p.g q.g) (nat_eq p.b q.b) (eq-eqb p.g q.g (ap (λ (k : Pixel). k.g) e)) (eq-eqb p.b q.b (ap (λ (k : Pixel). k.b) e))),
-)
+pub same_by_number : (p q : Pixel) → Decides (nat_eq p.number q.number) (p ≡ q)
+same_by_number p q = (λ e. same_number p q (eqb-true p.number q.number e), λ e. eq-eqb p.number q.number (ap (λ (k : Pixel). k.number) e))
 
 -- what equal pixels say of screens, by their views
 pub screens_same : (a b : Framebuffer) (width height : ℕ) (ps qs : List Pixel) → screen_of width height ps ≡ a → screen_of width height qs ≡ b

@@ -42,11 +42,13 @@ color_is [] k = refl
 color_is (p ∷ pixels) zero = refl
 color_is (p ∷ pixels) (suc k) = color_is pixels k
 
-pub is_black : (width height : ℕ) (pixels : List Pixel) → pixels ≡ replicate (width * height) black_pixel → Has (screen_of width height pixels) black
-is_black width height pixels all x y across down =
+pub is_black : (width height : ℕ) (pixels : List Pixel) (p : Pixel) → color_of p ≡ color_of black_pixel → pixels ≡ replicate (width * height) p → Has (screen_of width height pixels) black
+is_black width height pixels p dark all x y across down =
+    let here : get_or (replicate (width * height) p) (y * width + x) black_pixel ≡ p =
+    get_or-replicate (width * height) (y * width + x) p black_pixel (omega (arith, mul-add-lt y width x height down across)) in
     color_is pixels (y * width + x)
     ∙ ap (λ (ps : List Pixel). pixel_color_at ps (y * width + x)) all
-    ∙ ap color_of (get_or-replicate (width * height) (y * width + x) black_pixel black_pixel (omega (arith, mul-add-lt y width x height down across)))
+    ∙ ap color_of here ∙ dark
 
 pub shows_none : (screen : Framebuffer) → Has screen black → Shows screen []
 shows_none screen h x y across down = h x y across down ∙ sym (ap (λ (p : Picture). p x y) (no_messages black))

@@ -5,7 +5,8 @@ ghost use Rattle.pixel_format.specs.Pixel.{IsScreenColor};
 ghost use Rattle.pixel_format.specs.Canvas.{nth};
 ghost use Rattle.painter.specs.Pixels.{color_in, pixel_color_at};
 
-use crate::pixel::{Pixel, color_of_pixel};
+use crate::pixel::Pixel;
+use crate::row::color_of_pixel;
 use pixel_format::Color;
 use rfb_wire::Area;
 

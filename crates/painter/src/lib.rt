@@ -6,6 +6,7 @@ mod key;
 mod laws;
 mod pixel;
 mod rectangle;
+mod row;
 mod screen;
 
 pub use laws::written_update_paints;

@@ -6,7 +6,8 @@ ghost use Rattle.painter.specs.Pixels.{color_in, color_of};
 ghost use Rattle.pixel_format.specs.Format.{host_format};
 ghost use Rattle.rect_codec.specs.Picture.{is_in, raw_picture, copied_picture};
 
-use crate::pixel::{Pixel, fill_row, paint_row};
+use crate::pixel::Pixel;
+use crate::row::{fill_row, paint_row};
 use rfb_wire::Area;
 
 /// Paints a Raw rectangle (RFC 6143, section 7.7.1), row by row.

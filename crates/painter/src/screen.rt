@@ -10,15 +10,16 @@ ghost use Rattle.pixel_format.specs.Format.{host_format};
 ghost use Rattle.rect_data.specs.Data.{AreData};
 
 use crate::colors::read_area;
-use crate::pixel::{BLACK, Pixel, color_of_pixel, pixel_of_color};
+use crate::pixel::{BLACK, Pixel};
 use crate::rectangle::{copy_area, fill_area, paint_raw};
+use crate::row::{color_of_pixel, pixel_of_color};
 use pixel_format::{Canvas, Color, NoMemory, PixelFormat};
 use rect_data::source_at;
 use rfb_wire::{Area, Encoding, HostMessage};
 use std::alloc::Global;
 use std::marker::Model;
 
-/// A screen: a colour for each of its places. It takes three bytes a place.
+/// A screen: a colour for each of its places. It takes four bytes a place.
 #[derive(Drop)]
 pub struct Screen {
     width: u16,

@@ -1,6 +1,6 @@
 use Rattle.std.proofs.Common.{◌≡◌, ◌*◌, Decides, length, sym, ap, ◌∙◌, eqb-true}
 use Rattle.std.proofs.lemmas.Slice.Eq.{slice_eq-Decides}
-use Rattle.painter.proofs.Same.{same_by_channels, screens_same}
+use Rattle.painter.proofs.Same.{same_by_number, screens_same}
 use Rattle.painter.proofs.Screens.{screen_of}
 use Rattle.painter.proofs.screen.Screen.same.Goals as goal
 use Rattle.painter.proofs.screen.Screen.same.Goals.{then-self-other, else-self-other}
@@ -13,7 +13,7 @@ returns-then-self-other-2 c =
       | then-self-other w ↦ (sym w.if-self-other.true, sym (eqb-true s.height o.height (sym w.value-is ∙ c.if-self-other-2.true)))
       | else-self-other w ↦ absurd (w.if-self-other.false (eqb-true s.width o.width (sym w.value-is ∙ c.if-self-other-2.true)))
     ] in
-    let d : Decides c.eq.result (s.pixels.items ≡ o.pixels.items) = slice_eq-Decides same_by_channels s.pixels.items o.pixels.items c.eq.result c.eq.ensures in
+    let d : Decides c.eq.result (s.pixels.items ≡ o.pixels.items) = slice_eq-Decides same_by_number s.pixels.items o.pixels.items c.eq.result c.eq.ensures in
     let long : length o.pixels.items ≡ s.height * s.width =
     sym o.pixels.ok.0 ∙ c.other.invariant ∙ ap (λ k. k * o.width) sizes.1 ∙ ap (λ k. s.height * k) sizes.0 in
     let view : screen_of s.width s.height o.pixels.items ≡ c.args.other.now =
