@@ -1,22 +1,21 @@
 -- Painting subrectangles, and pixels, of a tile.
-use Rattle.std.proofs.Common.{◌≡◌, ℕ, zero, suc, ◌+◌, ◌-◌, ◌*◌, ◌/◌, ◌%◌, ◌<◌, ◌≤◌, inl, inr, Bool, true, false, cond, List, [], ◌∷◌, ◌++◌, length, take, drop, get_or, refl, sym, ap, ◌∙◌, subst, arith, append_assoc, suc-mul, zero-mul}
-use Rattle.std.specs.Prelude.{reverse, unwrap_or, nat_lt, ◌&&◌, None}
-use Rattle.std.proofs.Math.Nat.{mod-lt, div-lt_iff_lt-mul, div-add-mod, mul_comm}
-use Rattle.std.proofs.lemmas.Nat.{div-mul-add, mod-mul-add, mul-add-lt}
-use Rattle.std.proofs.lemmas.Bool.{cases_Bool, cases_eq, cases_lt, lt-ltb, le-ltb}
+use Rattle.std.proofs.Common.{◌≡◌, ℕ, zero, suc, ◌+◌, ◌-◌, ◌*◌, ◌<◌, ◌≤◌, inl, inr, Bool, cond, List, [], ◌∷◌, ◌++◌, length, take, drop, get_or, refl, sym, ap, ◌∙◌, subst, arith, append_assoc, suc-mul, zero-mul}
+use Rattle.std.specs.Prelude.{reverse, unwrap_or, None}
+use Rattle.std.proofs.lemmas.Bool.{cases_Bool}
 use Rattle.std.proofs.lemmas.List.{reverse-append, append-nil, drop-drop}
 use Rattle.pixel_format.specs.declared.Color.{Color}
 use Rattle.pixel_format.specs.Format.{Format, pixel_bytes}
 use Rattle.pixel_format.specs.Pixel.{pixel_color}
-use Rattle.pixel_format.specs.Canvas.{Picture, covers, filled, Agree, black}
+use Rattle.pixel_format.specs.Canvas.{Picture, covers, filled, laid_over, pixel_in, pixel_rows, Agree, black}
 use Rattle.pixel_format.specs.Reading.{Got, ◌>>=◌, field, guard}
 use Rattle.pixel_format.proofs.Readings.{bind_got, guard_got, field_got}
-use Rattle.pixel_format.proofs.Covering.{IsIn, in_is, is_in, not_in, shifted, part_outside}
+use Rattle.pixel_format.proofs.PixelsLaid.{within_area}
+use Rattle.pixel_format.proofs.Covering.{in_is, shifted, part_outside}
 use Rattle.hextile.specs.declared.fields.Subrectangle.{Subrectangle}
 use Rattle.hextile.specs.Grammar.{Raw, Refused, pixel_if, colors_of, subrectangle_bytes, subrectangle_of, is_inside, subrectangle_at, subrectangles_at}
 use Rattle.hextile.specs.Data.{LiesWithin}
-use Rattle.hextile.specs.Picture.{first_covering, tile_picture, laid_over}
-use Rattle.hextile.specs.Painting.{pixel_at, pixel_rows, parts_over, AreWithin, PartsPainted}
+use Rattle.hextile.specs.Picture.{first_covering, tile_picture}
+use Rattle.hextile.specs.Painting.{parts_over, AreWithin, PartsPainted}
 use Rattle.hextile.proofs.FieldsRead.{within_is}
 
 -- ---- subrectangles
@@ -134,83 +133,8 @@ parts_laid x y w h background foreground (s ∷ others) old column row within =
 
 -- ---- pixels
 
--- the first pixels are painted
-abbrev pub pixels_upto : Format → ℕ → ℕ → ℕ → ℕ → List ℕ → ℕ → Picture → Picture
-pixels_upto f x y w h pixels k old column row =
-    cond (covers x y w h column row && nat_lt ((row - y) * w + (column - x)) k) (pixel_rows f w pixels (column - x) (row - y)) (old column row)
-
-within_area : (w h column row : ℕ) → column < w → row < h → row * w + column < w * h
-within_area w h column row across down = mul-add-lt row w column h down across
-
-div-mul-mod : (k w : ℕ) → k / w * w + k % w ≡ k
-div-mul-mod k w = omega (arith, div-add-mod k w, mul_comm (k / w) w)
-
--- a place of the tile, by the index of its pixel
-one_place : (x y w h k column row : ℕ) → IsIn x y w h column row → 0 < w → (row - y) * w + (column - x) ≡ k
-    → covers (x + k % w) (y + k / w) 1 1 column row ≡ true
-one_place x y w h k column row is some same =
-    let l = is.left in
-    let r = is.right in
-    let t = is.top in
-    let less : column - x < w = omega arith in
-    let across : k % w ≡ column - x = ap (λ n. n % w) (sym same) ∙ mod-mul-add (row - y) w (column - x) less in
-    let down : k / w ≡ row - y = ap (λ n. n / w) (sym same) ∙ div-mul-add (row - y) w (column - x) less in
-    is_in (x + k % w) (y + k / w) 1 1 column row (record { left = omega arith; right = omega arith; top = omega arith; bottom = omega arith })
-
-other_place : (x y w k column row : ℕ) → 0 < w → ((row - y) * w + (column - x) ≡ k → ⊥) → covers (x + k % w) (y + k / w) 1 1 column row ≡ false
-other_place x y w k column row some other =
-    not_in (x + k % w) (y + k / w) 1 1 column row (λ is.
-    let l = is.left in
-    let r = is.right in
-    let t = is.top in
-    let o = is.bottom in
-    let across : column - x ≡ k % w = omega arith in
-    let down : row - y ≡ k / w = omega arith in
-    let whole : k / w * w + k % w ≡ k = div-mul-mod k w in
-    other (rw (across, down) whole))
-
-pub pixels_go : (f : Format) (x y w h k : ℕ) (pixels : List ℕ) (color : Color) (old between : Picture) (column row : ℕ) → k < w * h → 0 < w
-    → color ≡ pixel_at f pixels k → between column row ≡ pixels_upto f x y w h pixels k old column row
-    → filled (x + k % w) (y + k / w) 1 1 color between column row ≡ pixels_upto f x y w h pixels (k + 1) old column row
-pixels_go f x y w h k pixels color old between column row less some color_is before =
-    let index = (row - y) * w + (column - x) in
-    elim (cases_Bool (covers x y w h column row)) [
-      | inl here ↦ elim (cases_eq index k) [
-        | inl same ↦
-            let in_it = one_place x y w h k column row (in_is x y w h column row here) some same in
-            let next : nat_lt index (k + 1) ≡ true = lt-ltb index (k + 1) (omega (arith, same)) in
-            rw (in_it, here, next) (color_is ∙ ap (λ n. pixel_at f pixels n) (sym same))
-        | inr other ↦
-            let off = other_place x y w k column row some other in
-            let next : nat_lt index (k + 1) ≡ nat_lt index k = elim (cases_lt index k) [
-              | inl below ↦ rw (lt-ltb index k below, lt-ltb index (k + 1) (omega (arith, below))) refl
-              | inr above ↦ rw (le-ltb index k above, le-ltb index (k + 1) (omega (arith, above, other))) refl
-            ] in
-            rw (off, next) before
-      ]
-      | inr away ↦
-          let across : k % w + 1 ≤ w = let m = mod-lt k some in omega (arith, m) in
-          let down : k / w + 1 ≤ h = let m = (div-lt_iff_lt-mul {x = k} {y = h} some).1 (rw (mul_comm h w) less) in omega (arith, m) in
-          let off = part_outside x y w h (k % w) (k / w) 1 1 column row across down away in
-          rw off (before ∙ rw away refl)
-    ]
-
-pub some_wide : (w h k : ℕ) → k < w * h → 0 < w
-some_wide zero h k less = absurd (omega (arith, zero-mul h))
-some_wide (suc w) h k less = omega arith
-
-pub pixels_end : (f : Format) (x y w h : ℕ) (pixels : List ℕ) (old : Picture) (column row : ℕ)
-    → pixels_upto f x y w h pixels (w * h) old column row ≡ laid_over x y w h (pixel_rows f w pixels) old column row
-pixels_end f x y w h pixels old column row = elim (cases_Bool (covers x y w h column row)) [
-  | inl here ↦
-      let is = in_is x y w h column row here in
-      let all : nat_lt ((row - y) * w + (column - x)) (w * h) ≡ true = lt-ltb _ _ (within_area w h (column - x) (row - y) (omega (arith, is.left, is.right)) (omega (arith, is.top, is.bottom))) in
-      rw (here, all) refl
-  | inr away ↦ rw away refl
-]
-
 -- the colours of pixels
-pub colors_at : (f : Format) (n : ℕ) (bytes : List ℕ) (k : ℕ) → k < n → get_or (colors_of f n bytes) k black ≡ pixel_at f bytes k
+pub colors_at : (f : Format) (n : ℕ) (bytes : List ℕ) (k : ℕ) → k < n → get_or (colors_of f n bytes) k black ≡ pixel_in f bytes k
 unfolding colors_of
 colors_at f zero bytes k less = absurd (omega arith)
 colors_at f (suc n) bytes zero less = ap (λ m. pixel_color f (take (pixel_bytes f) (drop m bytes))) (sym (zero-mul (pixel_bytes f)))
@@ -231,14 +155,6 @@ raw_laid f x y w h background foreground pixels old column row = elim (cases_Boo
       rw here (sym (colors_at f (w * h) pixels ((row - y) * w + (column - x)) less))
   | inr away ↦ rw away refl
 ]
-
--- a pixel, as the code takes it
-pub pixel_taken : (f : Format) (n k : ℕ) (pixels : List ℕ) → n ≡ pixel_bytes f
-    → pixel_color f (take (k * n + n - k * n) (drop (k * n) pixels)) ≡ pixel_at f pixels k
-pixel_taken f n k pixels is =
-    let size : k * n + n - k * n ≡ n = omega arith in
-    ap (λ m. pixel_color f (take m (drop (k * n) pixels))) size
-    ∙ ap (λ m. pixel_color f (take m (drop (k * m) pixels))) is
 
 -- the next of the subrectangles that are left, as the code takes it
 pub record PartTaken (f : Format) (colored : Bool) (w h : ℕ) (rest : List ℕ) (part : Subrectangle) : Type 0 where

@@ -4,7 +4,7 @@ use Rattle.std.specs.Prelude.{reverse, unwrap_or, slice_index}
 use Rattle.std.proofs.lemmas.List.{get_or-take, take_rest}
 use Rattle.pixel_format.specs.declared.Color.{Color}
 use Rattle.pixel_format.specs.Format.{Format, pixel_bytes}
-use Rattle.pixel_format.specs.Canvas.{Picture, covers, filled, Agree}
+use Rattle.pixel_format.specs.Canvas.{Picture, covers, filled, Agree, laid_over, pixel_rows}
 use Rattle.pixel_format.specs.Reading.{Got, ◌>>=◌, field, guard}
 use Rattle.pixel_format.proofs.Readings.{bind_got, guard_got, field_got}
 use Rattle.hextile.specs.declared.fields.Subrectangle.{Subrectangle}
@@ -12,8 +12,8 @@ use Rattle.hextile.specs.declared.fields.Mask.{Mask}
 use Rattle.hextile.specs.declared.fields.Named.{Named}
 use Rattle.hextile.specs.declared.painting.TileColors.{TileColors}
 use Rattle.hextile.specs.Grammar.{Tile, Raw, Parts, Refused, mask_of, is_allowed, colors_of, head_bytes, background_in, foreground_in, count_in, subrectangles_at, raw_at, parts_at, body_at, tile_at}
-use Rattle.hextile.specs.Picture.{tile_picture, laid_over}
-use Rattle.hextile.specs.Painting.{carried, PartsPainted, pixel_rows, parts_over}
+use Rattle.hextile.specs.Picture.{tile_picture}
+use Rattle.hextile.specs.Painting.{carried, PartsPainted, parts_over}
 use Rattle.hextile.proofs.PaintedParts.{parts_laid, raw_laid}
 
 pub record TileTaken (f : Format) (w h : ℕ) (bytes : List ℕ) (t : Tile) (rest : List ℕ) : Type 0 where

@@ -4,7 +4,7 @@ use Rattle.std.specs.Prelude.{unwrap_or, nat_lt, ◌&&◌, None, Some}
 use Rattle.std.proofs.lemmas.Bool.{cases_Bool, cases_eq, cases_lt, lt-ltb, le-ltb, eq-eqb, ne_eqb}
 use Rattle.std.proofs.lemmas.List.{append-nil}
 use Rattle.pixel_format.specs.Format.{Format}
-use Rattle.pixel_format.specs.Canvas.{Picture, covers, Agree, black}
+use Rattle.pixel_format.specs.Canvas.{Picture, covers, Agree, black, laid_over}
 use Rattle.pixel_format.specs.Reading.{Got, ◌>>=◌}
 use Rattle.pixel_format.proofs.Readings.{bind_got}
 use Rattle.pixel_format.proofs.Covering.{in_is, shifted, part_outside}
@@ -13,7 +13,7 @@ use Rattle.hextile.specs.declared.painting.TileColors.{TileColors}
 use Rattle.hextile.specs.Tiles.{tile_count, tile_number, tile_left, tile_top, tile_width, tile_height}
 use Rattle.hextile.specs.Grammar.{Tile, Raw, Parts, none_named, named_with, tile_at, tiles_at, data_at}
 use Rattle.hextile.specs.Data.{background_of, foreground_of, IsData, onto}
-use Rattle.hextile.specs.Picture.{tile_picture, latest_picture, upto, tiles_picture, laid_over, painted_over}
+use Rattle.hextile.specs.Picture.{tile_picture, latest_picture, upto, tiles_picture, painted_over}
 use Rattle.hextile.specs.Painting.{carried}
 use Rattle.hextile.proofs.Tiling.{in_its_tile, not_in_other, number_within, tile_across, tile_down}
 use Rattle.hextile.proofs.TilesRead.{data_again}

@@ -1,8 +1,7 @@
 -- How a rectangle is painted tile by tile.
-use Rattle.std.specs.Prelude.{◌≡◌, ℕ, ◌+◌, ◌*◌, Bool, List, [], ◌∷◌, take, drop, unwrap_or, reverse, if◌then◌else◌}
+use Rattle.std.specs.Prelude.{◌≡◌, ℕ, ◌+◌, Bool, List, [], ◌∷◌, unwrap_or, reverse, if◌then◌else◌}
 use Rattle.pixel_format.specs.declared.Color.{Color}
-use Rattle.pixel_format.specs.Format.{Format, pixel_bytes}
-use Rattle.pixel_format.specs.Pixel.{pixel_color}
+use Rattle.pixel_format.specs.Format.{Format}
 use Rattle.pixel_format.specs.Canvas.{Picture, covers, Agree}
 use Rattle.pixel_format.specs.Reading.{Got}
 use Rattle.hextile.specs.declared.fields.Mask.{Mask}
@@ -39,14 +38,6 @@ pub record BeginsWithParts (f : Format) (colored : Bool) (w h count : ℕ) (byte
   pub parts : List Subrectangle
   pub rest : List ℕ
   pub is : subrectangles_at f colored w h count bytes ≡ Got parts rest
-
--- the colour of the pixel of this index
-abbrev pub pixel_at : Format → List ℕ → ℕ → Color
-pixel_at f bytes k = pixel_color f (take (pixel_bytes f) (drop (k * pixel_bytes f) bytes))
-
--- the picture that pixels by rows are, for rows of w places
-abbrev pub pixel_rows : Format → ℕ → List ℕ → Picture
-pixel_rows f w bytes column row = pixel_at f bytes (row * w + column)
 
 -- subrectangles of a tile whose upper left corner is (x, y), over a picture; the latest stands
 -- first

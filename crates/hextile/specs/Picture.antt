@@ -1,8 +1,8 @@
 -- The picture of a Hextile rectangle (RFC 6143, section 7.7.4). Places count from the rectangle's
 -- corner, and in a tile from the tile's.
-use Rattle.std.specs.Prelude.{ℕ, ◌+◌, ◌-◌, ◌*◌, ◌%◌, Bool, List, [], ◌∷◌, length, reverse, slice_index_or, unwrap_or, nat_eq, if◌then◌else◌}
+use Rattle.std.specs.Prelude.{ℕ, ◌+◌, ◌*◌, ◌%◌, Bool, List, [], ◌∷◌, length, reverse, slice_index_or, unwrap_or, nat_eq, if◌then◌else◌}
 use Rattle.pixel_format.specs.declared.Color.{Color}
-use Rattle.pixel_format.specs.Canvas.{Picture, covers, black}
+use Rattle.pixel_format.specs.Canvas.{Picture, covers, laid_over, black}
 use Rattle.hextile.specs.declared.fields.Subrectangle.{Subrectangle}
 use Rattle.hextile.specs.Grammar.{Tile, Raw, Parts}
 use Rattle.hextile.specs.Tiles.{tile_number, tile_width}
@@ -44,10 +44,6 @@ tiles_picture w latest column row =
 
 abbrev pub picture_of : ℕ → List Tile → Picture
 picture_of w tiles = tiles_picture w (onto tiles [])
-
--- a picture of w by h whose upper left corner is (x, y), over one that was there before
-abbrev pub laid_over : ℕ → ℕ → ℕ → ℕ → Picture → Picture → Picture
-laid_over x y w h picture before column row = if covers x y w h column row then picture (column - x) (row - y) else before column row
 
 abbrev pub painted_over : ℕ → ℕ → ℕ → ℕ → List Tile → Picture → Picture
 painted_over x y w h tiles before = laid_over x y w h (picture_of w tiles) before

@@ -3,14 +3,14 @@
 ghost use Rattle.std.specs.Prelude.{◌≡◌, ℕ, List, ◌<◌, ◌≤◌, ◌+◌, ◌*◌, ◌^◌, length, reverse, unwrap_or};
 ghost use Rattle.pixel_format.specs.Format.{pixel_bytes};
 ghost use Rattle.pixel_format.specs.Pixel.{pixel_color};
-ghost use Rattle.pixel_format.specs.Canvas.{Agree};
+ghost use Rattle.pixel_format.specs.Canvas.{laid_over, pixel_rows, Agree};
 ghost use Rattle.pixel_format.specs.Reading.{Got};
 ghost use Rattle.hextile.specs.declared.fields.Subrectangle.{Subrectangle};
 ghost use Rattle.hextile.specs.declared.fields.Named.{Named};
 ghost use Rattle.hextile.specs.Grammar.{Tile, pixel_if, color_if, head_bytes, subrectangles_at, tile_at};
 ghost use Rattle.hextile.specs.Data.{IsData, AreData};
-ghost use Rattle.hextile.specs.Picture.{tile_picture, laid_over, painted_over};
-ghost use Rattle.hextile.specs.Painting.{named_in_head, carried, BeginsWithTile, BeginsWithParts, PartsPainted, pixel_rows};
+ghost use Rattle.hextile.specs.Picture.{tile_picture, painted_over};
+ghost use Rattle.hextile.specs.Painting.{named_in_head, carried, BeginsWithTile, BeginsWithParts, PartsPainted};
 
 use crate::fields::{Mask, pixel_size, read_count, read_mask, read_subrectangle};
 use crate::position::{TileArea, count_tiles, tile_area};
@@ -71,8 +71,12 @@ fn paint_pixels<C: Canvas>(format: &PixelFormat, area: TileArea, pixels: &[u8], 
     ensures painted { Agree (C.width canvas.old) (C.height canvas.old) (C.picture canvas.new)
         (laid_over area.x area.y area.w area.h (pixel_rows format.now area.w pixels.now) (C.picture canvas.old)) }
 {
-    let size = format.bytes();
     let (w, h) = (area.w as u16, area.h as u16);
+    if format.is_host() {
+        canvas.host_pixels(area.x, area.y, w, h, pixels);
+        return;
+    }
+    let size = format.bytes();
     for k in 0..w * h {
         let start = k as usize * size;
         let color = format.pixel(&pixels[start..start + size]);

@@ -1,5 +1,5 @@
 -- A screen and its pixels.
-use Rattle.std.proofs.Common.{◌≡◌, ℕ, zero, suc, ◌+◌, ◌*◌, ◌/◌, ◌%◌, ◌^◌, ◌<◌, ◌≤◌, List, [], ◌∷◌, ◌++◌, length, take, cond, get_or, map, replicate, refl, sym, ap, ◌∙◌, arith}
+use Rattle.std.proofs.Common.{◌≡◌, ℕ, zero, suc, ◌+◌, ◌-◌, ◌*◌, ◌/◌, ◌%◌, ◌^◌, ◌<◌, ◌≤◌, List, [], ◌∷◌, ◌++◌, length, take, cond, get_or, map, replicate, refl, sym, ap, ◌∙◌, arith}
 use Rattle.std.specs.Prelude.{All, slice_range}
 use Rattle.std.proofs.lemmas.List.{append-nil}
 use Rattle.std.proofs.lemmas.List.Elements.{recursion_from_All, All-get_or}
@@ -8,7 +8,7 @@ use Rattle.pixel_format.specs.declared.Color.{Color}
 use Rattle.pixel_format.specs.Format.{Channel, host_format}
 use Rattle.pixel_format.specs.Pixel.{pixel_number, channel_value, pixel_color, IsScreenColor}
 use Rattle.pixel_format.specs.Reading.{Reading, Got}
-use Rattle.pixel_format.specs.Canvas.{Picture, filled, Agree}
+use Rattle.pixel_format.specs.Canvas.{Picture, filled, laid_over, pixel_rows, Agree}
 use Rattle.client_wire.specs.declared.message.Area.{Area}
 use Rattle.rre.specs.Grammar as rre
 use Rattle.rre.specs.Data as rre_data
@@ -27,7 +27,7 @@ use Rattle.std.proofs.lemmas.Nat.{mul-add-lt}
 use Rattle.rfb_wire.specs.Host.{Host, IsPlaced}
 use Rattle.painter.specs.declared.pixel.Pixel.{Pixel}
 use Rattle.painter.specs.Framebuffer.{Framebuffer, color_at, Has, Shows}
-use Rattle.rect_codec.specs.Picture.{is_in, rre_shown, hextile_shown, shown_at, painted_data}
+use Rattle.rect_codec.specs.Picture.{is_in, raw_picture, rre_shown, hextile_shown, shown_at, painted_data}
 use Rattle.painter.specs.Picture.{black, painted_rectangle, painted_rectangles, painted_message, painted}
 use Rattle.painter.specs.Pixels.{black_pixel, color_of, pixel_color_at, color_in}
 use Rattle.painter.proofs.Order.{no_rectangle, last_painted, agree_data, agree_rectangles, one_message_more, no_messages}
@@ -69,6 +69,15 @@ has_filled width height old new area p color is done x y across down =
     color_is new (y * width + x) ∙ done x y across
     ∙ ap (λ (c : Color). cond (is_in area x y) c (color_in old width x y)) is
     ∙ ap (cond (is_in area x y) color) (sym (color_is old (y * width + x)))
+
+-- and so does giving it the colours of pixels
+pub has_pixels : (width height : ℕ) (old new : List Pixel) (area : Area) (bytes : List ℕ)
+    → ((x y : ℕ) → x < width → color_in new width x y ≡ cond (is_in area x y) (raw_picture host_format area bytes x y) (color_in old width x y))
+    → Agree width height (color_at (screen_of width height new)) (laid_over area.x area.y area.w area.h (pixel_rows host_format area.w bytes) (color_at (screen_of width height old)))
+unfolding raw_picture
+has_pixels width height old new area bytes done x y across down =
+    color_is new (y * width + x) ∙ done x y across
+    ∙ ap (cond (is_in area x y) (pixel_rows host_format area.w bytes (x - area.x) (y - area.y))) (sym (color_is old (y * width + x)))
 
 -- what is copied lies within the screen
 pub source_within : (width height : ℕ) (area source : Area) (bytes : List ℕ) → source ≡ source_of area bytes → IsSource width height area bytes

@@ -176,4 +176,8 @@ impl Canvas for Screen {
             pixel_of_color(color),
         );
     }
+
+    fn host_pixels(&mut self, x: u16, y: u16, w: u16, h: u16, bytes: &[u8]) {
+        paint_raw(&mut self.pixels, self.width, Area { x, y, w, h }, bytes);
+    }
 }

@@ -2,3 +2,4 @@ pub mod Readings
 pub mod Lanes
 pub mod Valid
 pub mod Covering
+pub mod PixelsLaid

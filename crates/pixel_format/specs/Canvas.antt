@@ -1,6 +1,8 @@
 -- Pictures, and the areas of which they are painted.
-use Rattle.std.specs.Prelude.{◌≡◌, ℕ, ◌+◌, ◌*◌, ◌<◌, ◌&&◌, nat_le, nat_lt, Bool, List, slice_index_or, if◌then◌else◌}
+use Rattle.std.specs.Prelude.{◌≡◌, ℕ, ◌+◌, ◌-◌, ◌*◌, ◌<◌, ◌&&◌, nat_le, nat_lt, Bool, List, take, drop, slice_index_or, if◌then◌else◌}
 use Rattle.pixel_format.specs.declared.Color.{Color}
+use Rattle.pixel_format.specs.Format.{Format, pixel_bytes}
+use Rattle.pixel_format.specs.Pixel.{pixel_color}
 
 -- a picture: the colour at each place, from its column and its row, counted from the left and the
 -- top
@@ -14,6 +16,10 @@ covers x y w h column row = (nat_le x column && nat_lt column (x + w)) && (nat_l
 -- a picture with one colour in that area, and as it was elsewhere
 abbrev pub filled : ℕ → ℕ → ℕ → ℕ → Color → Picture → Picture
 filled x y w h color before column row = if covers x y w h column row then color else before column row
+
+-- a picture of w by h whose upper left corner is (x, y), over one that was there before
+abbrev pub laid_over : ℕ → ℕ → ℕ → ℕ → Picture → Picture → Picture
+laid_over x y w h picture before column row = if covers x y w h column row then picture (column - x) (row - y) else before column row
 
 -- two pictures agree at the places of a canvas of this size
 abbrev pub Agree : ℕ → ℕ → Picture → Picture → Type 0
@@ -29,3 +35,11 @@ nth colors i = slice_index_or colors i black
 -- the picture that colours by rows are, for rows of w places
 abbrev pub rows_of : List Color → ℕ → Picture
 rows_of colors w column row = nth colors (row * w + column)
+
+-- the colour of the pixel of this index, where pixels stand one behind the other
+abbrev pub pixel_in : Format → List ℕ → ℕ → Color
+pixel_in f bytes k = pixel_color f (take (pixel_bytes f) (drop (k * pixel_bytes f) bytes))
+
+-- the picture that pixels by rows are, for rows of w places
+abbrev pub pixel_rows : Format → ℕ → List ℕ → Picture
+pixel_rows f w bytes column row = pixel_in f bytes (row * w + column)

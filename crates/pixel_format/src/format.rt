@@ -1,6 +1,6 @@
 //! A pixel format (RFC 6143, section 7.4): its bytes, its pixels and their colours.
 
-ghost use Rattle.std.specs.Prelude.{◌≡◌, ℕ, ◌/◌, ◌%◌, ◌+◌, ◌*◌, ◌^◌, ◌<◌, ◌≤◌, ◌⊎◌, ◌||◌, ◌&&◌, nat_eq, nat_lt, bit_and, [], ◌∷◌, length, Ok};
+ghost use Rattle.std.specs.Prelude.{◌≡◌, ℕ, ◌/◌, ◌%◌, ◌+◌, ◌*◌, ◌^◌, ◌<◌, ◌≤◌, ◌⊎◌, ◌||◌, ◌&&◌, nat_eq, nat_lt, bit_and, [], ◌∷◌, length, Ok, IsTrue, ◌↔◌};
 ghost use Rattle.pixel_format.specs.Format.{Format, pixel_bytes, host_format};
 ghost use Rattle.pixel_format.specs.Written.{channel_at, format_of, format_at, format_bytes, is_ones};
 ghost use Rattle.pixel_format.specs.Pixel.{pixel_number, channel_value, pixel_color, host_color, IsWithin, color_number, number_bytes, pixel_of, IsScreenColor, converted, converted_channel};
@@ -138,6 +138,17 @@ impl PixelFormat {
             0,
             0,
         ]
+    }
+
+    /// Whether this is the format that the recorder asks a host for.
+    pub fn is_host(&self) -> bool
+        ensures { IsTrue result ↔ (self.now ≡ host_format) }
+    {
+        let red = self.red.max == 255 && self.red.shift == 16;
+        let green = self.green.max == 255 && self.green.shift == 8;
+        let blue = self.blue.max == 255 && self.blue.shift == 0;
+        let size = self.bits == 32 && self.depth == 24 && !self.big_endian;
+        size && red && green && blue
     }
 
     /// How many bytes a pixel takes: 1, 2 or 4.

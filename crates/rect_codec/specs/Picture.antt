@@ -1,9 +1,8 @@
 -- What the data of a rectangle show (RFC 6143, section 7.7), in any pixel format.
 use Rattle.std.specs.Prelude.{ℕ, ◌+◌, ◌-◌, ◌*◌, Bool, List, take, drop, if◌then◌else◌}
 use Rattle.pixel_format.specs.Format.{Format, pixel_bytes}
-use Rattle.pixel_format.specs.Pixel.{pixel_color}
 use Rattle.pixel_format.specs.Reading.{Reading, Got, More, Bad}
-use Rattle.pixel_format.specs.Canvas.{Picture, covers}
+use Rattle.pixel_format.specs.Canvas.{Picture, covers, pixel_rows}
 use Rattle.client_wire.specs.declared.message.Area.{Area}
 use Rattle.rre.specs.Grammar as rre
 use Rattle.rre.specs.Picture as rre_picture
@@ -20,10 +19,6 @@ is_in area x y = covers area.x area.y area.w area.h x y
 -- the pixel of this number, where pixels stand one behind the other
 abbrev pub pixel_at : Format → List ℕ → ℕ → List ℕ
 pixel_at f bytes n = take (pixel_bytes f) (drop (n * pixel_bytes f) bytes)
-
--- the picture that pixels by rows are, for rows of w places
-abbrev pub pixel_rows : Format → ℕ → List ℕ → Picture
-pixel_rows f w bytes column row = pixel_color f (pixel_at f bytes (row * w + column))
 
 -- The picture of a Raw rectangle: the pixels stand by rows, from the top and the left (section
 -- 7.7.1).

@@ -4,7 +4,7 @@ use Rattle.std.specs.Prelude.{◌≡◌, ℕ, ◌+◌, ◌*◌, ◌/◌, ◌%◌
 use Rattle.pixel_format.specs.declared.Color.{Color}
 use Rattle.pixel_format.specs.Format.{Format, pixel_bytes}
 use Rattle.pixel_format.specs.Pixel.{pixel_color, pixel_of}
-use Rattle.pixel_format.specs.Canvas.{Agree, nth, rows_of}
+use Rattle.pixel_format.specs.Canvas.{Agree, nth, rows_of, pixel_rows}
 use Rattle.client_wire.specs.declared.message.Area.{Area}
 use Rattle.client_wire.specs.Number.{u32_bytes}
 use Rattle.rre.specs.Encoded as rre
@@ -12,7 +12,7 @@ use Rattle.hextile.specs.Encoded as hextile
 use Rattle.rect_codec.specs.declared.encoding.Encoding.{Encoding}
 use Rattle.rect_codec.specs.declared.encoding.Encoding.TheVariants as encodings
 use Rattle.rect_codec.specs.Encoding.{number_of}
-use Rattle.rect_codec.specs.Picture.{pixel_at, pixel_rows}
+use Rattle.rect_codec.specs.Picture.{pixel_at}
 
 -- the pixel of a colour, as it is written
 pub record IsPixelOf (f : Format) (color : Color) (bytes : List ℕ) : Type 0 where

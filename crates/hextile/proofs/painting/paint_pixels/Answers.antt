@@ -1,5 +1,5 @@
 use Rattle.std.proofs.Common.{◌≡◌, ◌∙◌, ◌*◌, ◌<◌, ◌≤◌, ap, arith}
-use Rattle.hextile.proofs.PaintedParts.{pixels_upto, pixels_go, pixels_end, some_wide, pixel_taken}
+use Rattle.pixel_format.proofs.PixelsLaid.{pixels_upto, pixels_go, pixels_end, some_wide, pixel_taken}
 use Rattle.hextile.proofs.painting.paint_pixels.Goals as goal
 
 pub loop-k-preserved : goal.loop-k-preserved

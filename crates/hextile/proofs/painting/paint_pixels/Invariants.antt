@@ -1,5 +1,5 @@
 use Rattle.std.proofs.Common.{◌≡◌, ℕ, ◌<◌}
-use Rattle.hextile.proofs.PaintedParts.{pixels_upto}
+use Rattle.pixel_format.proofs.PixelsLaid.{pixels_upto}
 use Rattle.hextile.proofs.painting.paint_pixels.Given as goal
 
 -- the first pixels are painted
