@@ -1,6 +1,7 @@
-//! The baselines that `tools/measure/measure` counts beside the encoders: plain Rust, with no proof
-//! and no care for other pixel formats than four bytes a place, lowest first. RRE and Hextile choose
-//! as libvncserver does. Prints how many bytes the update has.
+//! The baselines that `tools/measure/measure` counts beside the encoders and `Screen::paint`: plain
+//! Rust, with no proof and no care for other pixel formats than four bytes a place, lowest first. RRE
+//! and Hextile choose as libvncserver does; a screen is a number for each place. Prints how many bytes
+//! the update has.
 
 const WIDTH: usize = 1920;
 const HEIGHT: usize = 1080;
@@ -242,6 +243,80 @@ fn append_hextile(pixels: &[u32], out: &mut Vec<u8>) {
     }
 }
 
+fn pixel_at(bytes: &[u8]) -> u32 {
+    u32::from_le_bytes(bytes[..4].try_into().unwrap()) & 0xff_ffff
+}
+
+fn paint_row(bytes: &[u8], row: &mut [u32]) {
+    for (place, pixel) in row.iter_mut().zip(bytes.chunks_exact(4)) {
+        *place = pixel_at(pixel);
+    }
+}
+
+fn paint_raw(bytes: &[u8], screen: &mut [u32]) {
+    for (row, pixels) in screen.chunks_mut(WIDTH).zip(bytes.chunks(4 * WIDTH)) {
+        paint_row(pixels, row);
+    }
+}
+
+fn fill(screen: &mut [u32], x: usize, y: usize, w: usize, h: usize, color: u32) {
+    for row in y..y + h {
+        screen[row * WIDTH + x..row * WIDTH + x + w].fill(color);
+    }
+}
+
+fn paint_rre(bytes: &[u8], screen: &mut [u32]) {
+    screen.fill(pixel_at(&bytes[4..]));
+    for part in bytes[8..].chunks_exact(12) {
+        let number = |at: usize| usize::from(part[at]) * 256 + usize::from(part[at + 1]);
+        fill(screen, number(4), number(6), number(8), number(10), pixel_at(part));
+    }
+}
+
+// Paints a tile, and answers the bytes behind it.
+fn paint_tile<'a>(mut bytes: &'a [u8], x: usize, y: usize, w: usize, h: usize, colors: &mut [u32; 2], screen: &mut [u32]) -> &'a [u8] {
+    let mask = bytes[0];
+    bytes = &bytes[1..];
+    if mask & 1 != 0 {
+        for row in 0..h {
+            let start = (y + row) * WIDTH + x;
+            paint_row(&bytes[row * w * 4..(row + 1) * w * 4], &mut screen[start..start + w]);
+        }
+        return &bytes[w * h * 4..];
+    }
+    for (bit, color) in [2, 4].into_iter().zip(colors.iter_mut()) {
+        if mask & bit != 0 {
+            *color = pixel_at(bytes);
+            bytes = &bytes[4..];
+        }
+    }
+    fill(screen, x, y, w, h, colors[0]);
+    if mask & 8 != 0 {
+        let count = bytes[0];
+        bytes = &bytes[1..];
+        for _ in 0..count {
+            let mut color = colors[1];
+            if mask & 16 != 0 {
+                color = pixel_at(bytes);
+                bytes = &bytes[4..];
+            }
+            let (at, size) = (usize::from(bytes[0]), usize::from(bytes[1]));
+            bytes = &bytes[2..];
+            fill(screen, x + at / 16, y + at % 16, size / 16 + 1, size % 16 + 1, color);
+        }
+    }
+    bytes
+}
+
+fn paint_hextile(mut bytes: &[u8], screen: &mut [u32]) {
+    let mut colors = [0; 2];
+    for y in (0..HEIGHT).step_by(16) {
+        for x in (0..WIDTH).step_by(16) {
+            bytes = paint_tile(bytes, x, y, 16.min(WIDTH - x), 16.min(HEIGHT - y), &mut colors, screen);
+        }
+    }
+}
+
 fn main() {
     let words: Vec<String> = std::env::args().collect();
     let (work, picture) = (words[1].as_str(), words[2].as_str());
@@ -256,14 +331,26 @@ fn main() {
     let mut out = vec![0; HEAD];
     match work {
         "raw" => append_raw(&colors, &mut out),
-        "copied" => append_rows(&rows, &mut out),
-        "rre" => {
+        "copied" | "ready_raw" | "paint_raw" => append_rows(&rows, &mut out),
+        "rre" | "ready_rre" | "paint_rre" => {
             if !append_rre(&mut pixels, &mut out) {
                 append_rows(&rows, &mut out);
             }
         }
-        "hextile" => append_hextile(&pixels, &mut out),
+        "hextile" | "ready_hextile" | "paint_hextile" => append_hextile(&pixels, &mut out),
+        "ready_copy" | "paint_copy" => out.resize(20, 0),
         _ => out.clear(),
     }
     println!("{}", out.len());
+    if work.contains('_') {
+        let mut screen = vec![0; WIDTH * HEIGHT];
+        match work {
+            "paint_raw" => paint_raw(&out[HEAD..], &mut screen),
+            "paint_rre" => paint_rre(&out[HEAD..], &mut screen),
+            "paint_hextile" => paint_hextile(&out[HEAD..], &mut screen),
+            "paint_copy" => screen.copy_within(WIDTH.., 0),
+            _ => {}
+        }
+        println!("{:?}", screen.last());
+    }
 }
