@@ -16,6 +16,10 @@ fn put_pixels(format: &PixelFormat, colors: &[Color], pixels: &mut [u8])
     requires within { All (IsWithin format.now) colors.now }
     ensures { (k : ℕ) → k < length colors.now → IsPixelOf format.now (nth colors.now k) (pixel_at format.now pixels.new k) }
 {
+    if format.is_host() {
+        put_of_size(&PixelFormat::host(), 4, colors, pixels);
+        return;
+    }
     match format.bytes() {
         1 => put_of_size(format, 1, colors, pixels),
         2 => put_of_size(format, 2, colors, pixels),
