@@ -1,2 +1,3 @@
 pub mod PixelsPut
 pub mod Drawing
+pub mod PixelsJoined

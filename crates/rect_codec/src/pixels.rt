@@ -10,6 +10,9 @@ ghost use Rattle.rect_codec.specs.Written.{IsPixelOf, ArePixels};
 
 use pixel_format::{Color, NoMemory, PixelFormat};
 
+// How many pixels are appended at once.
+const AT_ONCE: usize = 256;
+
 // Writes the pixels of colours, one behind the other.
 fn put_pixels(format: &PixelFormat, colors: &[Color], pixels: &mut [u8])
     requires size { length pixels.old ≡ length colors.now * pixel_bytes format.now }
@@ -41,6 +44,19 @@ fn put_of_size(format: &PixelFormat, size: usize, colors: &[Color], pixels: &mut
     }
 }
 
+// Appends the pixels of so few colours that the room for them, which is cleared first, is near.
+fn append_some(format: &PixelFormat, colors: &[Color], out: &mut Vec<u8>) -> Result<(), NoMemory>
+    requires few { length colors.now < 2 ^ 32 }
+    requires within { All (IsWithin format.now) colors.now }
+    ensures ok { OnOk result (Appends (ArePixels format.now colors.now) out.old.items out.new.items) }
+    ensures err { OnErr result (out.new.items ≡ out.old.items) }
+{
+    let start = out.len();
+    out.resize(start + colors.len() * format.bytes(), 0)?;
+    put_pixels(format, colors, &mut out[start..]);
+    Ok(())
+}
+
 /// Appends the pixels of colours, one behind the other (RFC 6143, section 7.7.1). Want of memory
 /// leaves `out` as it was.
 pub(crate) fn append_pixels(
@@ -54,7 +70,15 @@ pub(crate) fn append_pixels(
     ensures err { OnErr result (out.new.items ≡ out.old.items) }
 {
     let start = out.len();
-    out.resize(start + colors.len() * format.bytes(), 0)?;
-    put_pixels(format, colors, &mut out[start..]);
+    out.reserve(colors.len() * format.bytes())?;
+    let mut rest = colors;
+    while !rest.is_empty() {
+        let (some, behind) = rest.split_at(rest.len().min(AT_ONCE));
+        if let Err(fault) = append_some(format, some, out) {
+            out.truncate(start);
+            return Err(fault);
+        }
+        rest = behind;
+    }
     Ok(())
 }

@@ -1,10 +1,15 @@
-use Rattle.std.proofs.Common.{ℕ, ◌*◌, length, ap}
-use Rattle.rect_codec.proofs.PixelsPut.{pixels_appended}
+use Rattle.rect_codec.proofs.PixelsJoined.{begins, goes_on, part_within}
 use Rattle.rect_codec.proofs.pixels.append_pixels.Goals as goal
 
-pub returns-clause-ok : goal.returns-clause-ok
-returns-clause-ok c =
-    pixels_appended c.args.format.now c.args.colors.now c.args.out.now.items c.resize.new.self.items c.deref_mut.result.now c.put_pixels.new.pixels
-    c.args.out.now.len c.len-start.result (length c.args.colors.now * c.bytes.result) c.resize.new.self.len
-    c.args.out.now.ok.0 c.len-start.ensures (ap (λ (n : ℕ). length c.args.colors.now * n) c.bytes.ensures.value) c.in_ok-resize.ensures.len
-    c.in_ok-resize.ensures.items c.deref_mut.ensures.value c.put_pixels.auto.pixels c.put_pixels.ensures
+pub loop-rest-init : goal.loop-rest-init
+loop-rest-init c = rw c.reserve.ensures.items (begins c.args.format.now c.args.colors.now c.args.out.now.items)
+
+pub append_some-requires-clause-within : goal.append_some-requires-clause-within
+append_some-requires-clause-within c =
+    part_within c.args.format.now c.args.colors.now c.loop-rest.rest.now c.split_at.result.0.now c.split_at.result.1.now c.args.out.now.items c.loop-rest.out.items
+    c.split_at.ensures.by_index.0 c.requires.within c.loop-rest.invariant
+
+pub loop-rest-preserved : goal.loop-rest-preserved
+loop-rest-preserved c =
+    goes_on c.args.format.now c.args.colors.now c.loop-rest.rest.now c.split_at.result.0.now c.split_at.result.1.now c.args.out.now.items c.loop-rest.out.items c.append_some.new.out.items
+    c.split_at.ensures.by_index.0 c.loop-rest.invariant c.in_default.ensures.ok
