@@ -41,10 +41,26 @@ impl Default for Part {
     }
 }
 
+// Each channel is compared, whatever the others are, so that many colours are compared at once.
 pub(crate) fn same(one: Color, other: Color) -> bool
     ensures { IsTrue result ↔ (one ≡ other) }
 {
-    one.r == other.r && one.g == other.g && one.b == other.b
+    (one.r == other.r) & (one.g == other.g) & (one.b == other.b)
+}
+
+// How many places are looked at together.
+const AT_ONCE: usize = 8;
+
+// Whether all of so many places have the colour. It looks at each, and stops at none.
+fn are_all(colors: &[Color], color: Color) -> bool
+    requires { length colors.now ≡ 8 }
+    ensures { IsTrue result → (k : ℕ) → k < length colors.now → nth colors.now k ≡ color }
+{
+    let mut all = true;
+    for one in colors {
+        all &= same(*one, color);
+    }
+    all
 }
 
 /// The colours of a tile's places, by rows, from those of a rectangle whose rows have w places.
@@ -109,12 +125,14 @@ fn first_run(colors: &[Color]) -> usize
     ensures same { (k : ℕ) → k < result → nth colors.now k ≡ nth colors.now 0 }
 {
     let first = colors[0];
-    for k in 1..colors.len() {
-        if !same(colors[k], first) {
-            return k;
-        }
+    let mut end = 0;
+    'many: while colors.len() - end >= AT_ONCE && are_all(&colors[end..end + AT_ONCE], first) {
+        end += AT_ONCE;
     }
-    colors.len()
+    'one: while end < colors.len() && same(colors[end], first) {
+        end += 1;
+    }
+    end
 }
 
 // How many places from an index on, at most so many, have the colour.

@@ -1,6 +1,6 @@
 -- The data of an RRE rectangle (RFC 6143, section 7.7.3), read from the front of a list of bytes.
 -- Each field is judged once it is whole.
-use Rattle.std.specs.Prelude.{ℕ, zero, suc, ◌+◌, ◌*◌, List, [], ◌∷◌, take, drop, slice_index, Bool, ◌&&◌, nat_le}
+use Rattle.std.specs.Prelude.{ℕ, zero, suc, ◌+◌, List, [], ◌∷◌, take, drop, Bool, ◌&&◌, nat_le}
 use Rattle.pixel_format.specs.declared.Color.{Color}
 use Rattle.pixel_format.specs.Format.{Format, pixel_bytes}
 use Rattle.pixel_format.specs.Pixel.{pixel_color}

@@ -10,10 +10,26 @@ use pixel_format::{Color, NoMemory};
 use std::alloc::Global;
 use std::collections::BTreeMap;
 
+// Each channel is compared, whatever the others are, so that many colours are compared at once.
 fn same(one: Color, other: Color) -> bool
     ensures { IsTrue result ↔ (one ≡ other) }
 {
-    one.r == other.r && one.g == other.g && one.b == other.b
+    (one.r == other.r) & (one.g == other.g) & (one.b == other.b)
+}
+
+// How many places are looked at together.
+const AT_ONCE: usize = 8;
+
+// Whether all of so many places have the colour. It looks at each, and stops at none.
+fn are_all(colors: &[Color], color: Color) -> bool
+    requires { length colors.now ≡ 8 }
+    ensures { IsTrue result → (k : ℕ) → k < length colors.now → nth colors.now k ≡ color }
+{
+    let mut all = true;
+    for one in colors {
+        all &= same(*one, color);
+    }
+    all
 }
 
 // The most colours that are counted. With more, the others are mostly no shorter to write in RRE.
@@ -43,7 +59,10 @@ fn end_of_color(colors: &[Color], start: usize, color: Color) -> usize
     ensures same { (k : ℕ) → start ≤ k → k < result → nth colors.now k ≡ color }
 {
     let mut end = start;
-    while end < colors.len() && same(colors[end], color) {
+    'many: while colors.len() - end >= AT_ONCE && are_all(&colors[end..end + AT_ONCE], color) {
+        end += AT_ONCE;
+    }
+    'one: while end < colors.len() && same(colors[end], color) {
         end += 1;
     }
     end

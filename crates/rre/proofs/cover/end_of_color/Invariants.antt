@@ -1,13 +1,22 @@
-use Rattle.std.proofs.Common.{◌≡◌, ℕ, ◌-◌, ◌<◌, ◌≤◌, length}
+use Rattle.std.proofs.Common.{◌≡◌, ℕ, ◌-◌, ◌<◌, ◌≤◌, List, length}
+use Rattle.pixel_format.specs.declared.Color.{Color}
 use Rattle.pixel_format.specs.Canvas.{nth}
 use Rattle.rre.proofs.cover.end_of_color.Given as goal
 
-abbrev pub invariant-loop-end : goal.invariant-loop-end
-invariant-loop-end l = record {
-  reached : l.start ≤ l.end;
-  within : l.end ≤ length l.colors;
-  same : (k : ℕ) → l.start ≤ k → k < l.end → nth l.colors k ≡ l.color;
-}
+-- the places from a start to an end have a colour
+pub record OneColor (colors : List Color) (start end : ℕ) (color : Color) : Type 0 where
+  pub reached : start ≤ end
+  pub within : end ≤ length colors
+  pub same : (k : ℕ) → start ≤ k → k < end → nth colors k ≡ color
 
-abbrev pub decreases-loop-end : goal.decreases-loop-end
-decreases-loop-end l = length l.colors - l.end
+abbrev pub invariant-many : goal.invariant-many
+invariant-many l = OneColor l.colors l.start l.end l.color
+
+abbrev pub decreases-many : goal.decreases-many
+decreases-many l = length l.colors - l.end
+
+abbrev pub invariant-one : goal.invariant-one
+invariant-one l = OneColor l.colors l.start l.end l.color
+
+abbrev pub decreases-one : goal.decreases-one
+decreases-one l = length l.colors - l.end
