@@ -1,5 +1,6 @@
 //! What no clause says: recordings worked by hand, and that steps pass where they may.
 
+mod adding;
 mod books;
 mod desks;
 mod disks;

@@ -7,7 +7,7 @@ use Rattle.std.specs.Option.{unwrap_or}
 use Rattle.std.specs.Io.KnownBytes.{Appends}
 use Rattle.std.proofs.lemmas.List.{length-take, drop_all}
 use Rattle.disk.specs.Failures.{HasCause}
-use Rattle.key_index.specs.declared.entry.Stamped.{Stamped}
+use Rattle.keyed_entries.specs.declared.entry.Stamped.{Stamped}
 use Rattle.fbs_export.specs.Export.{block_text, messages_text, messages_from, first_time, between}
 use Rattle.fbs_export.specs.Written.{WroteFront}
 use Rattle.fbs_export.proofs.Writes.{front_of_first, front_of_second}

@@ -13,8 +13,8 @@ use Rattle.rfb_wire.specs.Host.{host_of}
 use Rattle.rfb_wire.specs.declared.message.Rectangle.{Rectangle}
 use Rattle.rfb_wire.proofs.Whole.{message-empty}
 use Rattle.gated_journal.specs.Recording.{Head, IsHead}
-use Rattle.key_index.specs.Entry.{IsStampedFor}
-use Rattle.key_index.specs.declared.entry.Stamped.{Stamped}
+use Rattle.keyed_entries.specs.Entry.{IsStampedFor}
+use Rattle.keyed_entries.specs.declared.entry.Stamped.{Stamped}
 use Rattle.fbs_export.specs.Blocks.{Block, Laid, block_at, data_of, times_of, is_start}
 use Rattle.fbs_export.specs.Summary.{Said, Tells, IsSummary}
 use Rattle.fbs_export.specs.Export.{start, block_text, opening_text, messages_text, less_first, row_text, rows_text}

@@ -1,11 +1,12 @@
 -- The text of a screen that shows a picture is the picture's.
 use Rattle.std.proofs.Common.{◌≡◌, ◌<◌, ◌≤◌, ◌+◌, ℕ, zero, suc, List, ◌++◌, take, refl, ap, ◌∙◌, arith, append_assoc}
 use Rattle.gated_journal.specs.Recording.{Head}
-use Rattle.key_index.specs.declared.entry.Stamped.{Stamped}
+use Rattle.keyed_entries.specs.declared.entry.Stamped.{Stamped}
 use Rattle.painter.specs.Framebuffer.{Framebuffer, Has, color_at}
 use Rattle.painter.specs.Picture.{painted}
 use Rattle.pixel_format.specs.Canvas.{Picture}
-use Rattle.replay.specs.Screens.{hosts_of, IsScreenAt}
+use Rattle.keyed_entries.specs.Entry.{hosts_of}
+use Rattle.replay.specs.Screens.{IsScreenAt}
 use Rattle.rfb_wire.specs.Written.{raw_update_bytes}
 use Rattle.fbs_export.specs.Export.{start, block_text, opening_text, screen_text, front_text, export_text, messages_from, row_text, rows_text}
 

@@ -12,7 +12,7 @@ use Rattle.rfb_wire.specs.Host.{Host}
 use Rattle.rfb_wire.specs.Stream.{given}
 use Rattle.rfb_wire.proofs.Local.{message_local}
 use Rattle.rfb_wire.proofs.Whole.{message-empty}
-use Rattle.key_index.specs.declared.entry.Stamped.{Stamped}
+use Rattle.keyed_entries.specs.declared.entry.Stamped.{Stamped}
 use Rattle.fbs_export.specs.Summary.{at_time, stamped}
 
 -- what is left of two lists

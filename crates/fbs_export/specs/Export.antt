@@ -10,9 +10,9 @@ use Rattle.pixel_format.specs.Written.{format_bytes}
 use Rattle.client_wire.specs.Number.{u32_bytes}
 use Rattle.rfb_wire.specs.Written.{two_bytes, raw_update_bytes, raw_rectangle}
 use Rattle.gated_journal.specs.Recording.{Head}
-use Rattle.key_index.specs.declared.entry.Stamped.{Stamped}
+use Rattle.keyed_entries.specs.declared.entry.Stamped.{Stamped}
 use Rattle.painter.specs.Picture.{painted}
-use Rattle.replay.specs.Screens.{hosts_of}
+use Rattle.keyed_entries.specs.Entry.{hosts_of}
 use Rattle.fbs_export.specs.Blocks.{padding_length}
 use Rattle.fbs_export.specs.Opening.{version}
 

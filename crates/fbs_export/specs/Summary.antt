@@ -6,7 +6,7 @@ use Rattle.client_wire.specs.declared.fault.WireFault.{WireFault}
 use Rattle.rfb_wire.specs.Grammar.{message_at, message_limit, Message}
 use Rattle.rfb_wire.specs.Host.{Host}
 use Rattle.rfb_wire.specs.Stream.{given}
-use Rattle.key_index.specs.declared.entry.Stamped.{Stamped}
+use Rattle.keyed_entries.specs.declared.entry.Stamped.{Stamped}
 use Rattle.fbs_export.specs.declared.fault.FbsFault.{FbsFault}
 use Rattle.fbs_export.specs.declared.fault.FbsFault.TheVariants as faults
 use Rattle.fbs_export.specs.Blocks.{Block, Laid, data_of, times_of, stream_of, is_start}

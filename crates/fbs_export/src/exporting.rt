@@ -3,7 +3,7 @@
 ghost use Rattle.std.specs.Prelude.{Some, ◌≡◌, ◌≢◌, ◌↔◌, ◌⊎◌, ◌+◌, ◌-◌, ◌<◌, ◌≤◌, ◌^◌, ◌++◌, ℕ, List, Ok, Err, IfOk, OnOk, IfErr, IsErrOf, length};
 ghost use Rattle.std.specs.Io.KnownBytes.{Appends, Keeps};
 ghost use Rattle.disk.specs.Failures.{HasCause};
-ghost use Rattle.key_index.specs.Entry.{messages_in};
+ghost use Rattle.keyed_entries.specs.Entry.{messages_in};
 ghost use Rattle.key_index.specs.Indexed.{start_in};
 ghost use Rattle.std.specs.List.{slice_get};
 ghost use Rattle.replay.specs.Screens.{IsScreenAt};

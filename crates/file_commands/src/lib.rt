@@ -18,4 +18,4 @@ pub use folder::sync_folder;
 pub use keeping::{create_new, keep};
 pub use listing::list;
 pub use progress::Progress;
-pub use refusal::{Refusal, refuse};
+pub use refusal::{Refusal, fault_of_read, refuse};

@@ -10,16 +10,17 @@ use std::io;
 use std::io::{BufWriter, Write};
 use std::rt::Files;
 
-// A line a block: its number, its first message, how many it has, whether it has a key screen
-// (none is written yet), and the time of its first message.
+// A line a block: its number, its first message, how many it has, whether it has a key screen, and
+// the time of its first message.
 fn write_blocks<O: Write>(index: &mut Indexed<FileDisk>, out: &mut O) -> Result<(), Ended> {
     for block in 0..index.blocks() {
         let first = index.start(block);
         let count = index.count(block);
+        let key = if index.has_key(block) { "yes" } else { "no" };
         let time = index.read_from(first, 1)?[0].time;
         writeln!(
             out,
-            "block {block} first {first} messages {count} key no time {time}"
+            "block {block} first {first} messages {count} key {key} time {time}"
         )?;
     }
     Ok(())

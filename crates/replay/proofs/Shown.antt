@@ -1,24 +1,14 @@
 -- What a screen shows after more messages, and which message is the next.
-use Rattle.std.proofs.Common.{◌≡◌, ◌<◌, ◌≤◌, ℕ, zero, suc, ◌+◌, ◌-◌, List, [], ◌∷◌, ◌++◌, length, take, drop, min, Some, refl, sym, subst, ◌∙◌, ap, arith, length-append}
+use Rattle.std.proofs.Common.{◌≡◌, ℕ, zero, suc, ◌+◌, List, [], ◌∷◌, ◌++◌, length, take, drop, Some, refl, sym, subst, ◌∙◌, ap, arith, length-append}
 use Rattle.std.specs.List.{slice_get}
-use Rattle.std.proofs.lemmas.List.{append_assoc, map-append, take_min}
+use Rattle.std.proofs.lemmas.List.{map-append}
 use Rattle.gated_journal.specs.Recording.{Head}
 use Rattle.rfb_wire.specs.Host.{Host}
 use Rattle.painter.specs.Framebuffer.{Framebuffer, SameSize, Shows}
-use Rattle.key_index.specs.declared.entry.Stamped.{Stamped}
-use Rattle.key_index.specs.Entry.{messages_in}
-use Rattle.key_index.proofs.Indexes.{take_next}
-use Rattle.key_index.proofs.Files.{messages_with}
-use Rattle.replay.specs.Screens.{message_of, hosts_of, IsScreenAt}
-
--- one message more is painted
-pub shown_more : (screen : Framebuffer) (before : List Host) (all : List Stamped) (n : ℕ) (s : Stamped) → slice_get all n ≡ Some s
-    → Shows screen ((before ++ hosts_of (take n all)) ++ s.message ∷ []) → Shows screen (before ++ hosts_of (take (n + 1) all))
-shown_more screen before all n s here shows =
-    let one : n + 1 ≡ suc n = omega arith in
-    let more : hosts_of (take (n + 1) all) ≡ hosts_of (take n all) ++ s.message ∷ [] =
-    ap (λ k. hosts_of (take k all)) one ∙ ap hosts_of (take_next all n s here) ∙ map-append message_of (take n all) (s ∷ []) in
-    subst (λ hosts. Shows screen hosts) (append_assoc before (hosts_of (take n all)) (s.message ∷ []) ∙ ap (λ t. before ++ t) (sym more)) shows
+use Rattle.keyed_entries.specs.declared.entry.Stamped.{Stamped}
+use Rattle.keyed_entries.specs.Entry.{message_of, hosts_of}
+use Rattle.keyed_entries.proofs.Painting.{shown_more}
+use Rattle.replay.specs.Screens.{IsScreenAt}
 
 take_none : {X : Type 0} (n : ℕ) → take {A = X} n [] ≡ []
 take_none {X} zero = refl

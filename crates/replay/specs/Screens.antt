@@ -1,16 +1,9 @@
 -- The screens of a recording.
-use Rattle.std.specs.Prelude.{◌≡◌, ℕ, List, map, take}
+use Rattle.std.specs.Prelude.{◌≡◌, ℕ, List, take}
 use Rattle.gated_journal.specs.Recording.{Head}
-use Rattle.rfb_wire.specs.Host.{Host}
 use Rattle.painter.specs.Framebuffer.{Framebuffer, Shows}
-use Rattle.key_index.specs.declared.entry.Stamped.{Stamped}
-
-abbrev pub message_of : Stamped → Host
-message_of s = s.message
-
--- what the host sent, without the times
-abbrev pub hosts_of : List Stamped → List Host
-hosts_of ms = map message_of ms
+use Rattle.keyed_entries.specs.declared.entry.Stamped.{Stamped}
+use Rattle.keyed_entries.specs.Entry.{hosts_of}
 
 -- a screen of the recording's size that shows what the first n of these messages paint from black
 pub record IsScreenAt (head : Head) (messages : List Stamped) (n : ℕ) (screen : Framebuffer) : Type 0 where

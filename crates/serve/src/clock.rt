@@ -1,8 +1,9 @@
 //! The times of messages.
 
-ghost use Rattle.std.specs.Prelude.{◌≡◌, ◌≤◌, ◌<◌, ◌+◌, ◌-◌, ◌^◌};
+ghost use Rattle.std.specs.Prelude.{◌≡◌, ◌≤◌, ◌<◌, ◌+◌, ◌-◌, ◌^◌, ℕ, IfOk};
 
 use std::io;
+use std::marker::Model;
 use std::time::{Clock, Instant};
 
 /// The time of a message that comes so many milliseconds after the start of a recorder which goes
@@ -16,7 +17,8 @@ pub fn time_after(base: u32, milliseconds: u64) -> u32
     u32::try_from(time).unwrap_or(u32::MAX)
 }
 
-/// Tells the times of messages, in milliseconds from the recording's last time on.
+/// Tells the times of messages, in milliseconds from the recording's last time on. Contracts see the
+/// time that was told last.
 #[derive(Drop)]
 pub struct Stopwatch {
     base: u32,
@@ -24,9 +26,17 @@ pub struct Stopwatch {
     last: u32,
 }
 
+impl Model for Stopwatch {
+    ghost Value = { ℕ };
+
+    ghost view = { λ s. s.last };
+}
+
 impl Stopwatch {
     /// One that starts now, at this time.
-    pub fn start<R: Clock>(rt: &R, base: u32) -> io::Result<Stopwatch> {
+    pub fn start<R: Clock>(rt: &R, base: u32) -> io::Result<Stopwatch>
+        ensures { IfOk result (λ s. s ≡ base) }
+    {
         Ok(Stopwatch {
             base,
             started: Instant::now(rt)?,
@@ -37,7 +47,8 @@ impl Stopwatch {
     /// The time now, never below one that was told before. Where the clock can't be read, it is the
     /// one that was told last.
     pub fn now<R: Clock>(&mut self, rt: &R) -> u32
-        ensures { self.old.last ≤ result }
+        ensures later { self.old ≤ result }
+        ensures told { self.new ≡ result }
     {
         let Ok(elapsed) = self.started.elapsed(rt) else {
             return self.last;

@@ -1,9 +1,9 @@
 //! The recording's file: opened where it has bytes, or made.
 
 use crate::refusal::Refusal;
-use file_commands::{FileDisk, sync_folder};
+use file_commands::{FileDisk, fault_of_read, sync_folder};
 use flusher_core::Book;
-use gated_journal::{CreateFault, Header};
+use gated_journal::Header;
 use std::alloc::Global;
 use std::fs::{File, OpenOptions};
 use std::io;
@@ -99,6 +99,6 @@ pub fn last_time(book: &mut Book<FileDisk>) -> Result<u32, Refusal> {
     };
     match book.slice(last, 1, false) {
         Ok(slice) => Ok(slice.messages.last().map_or(0, |stamped| stamped.time)),
-        Err(_) => Err(Refusal::Create(CreateFault::NoMemory)),
+        Err(fault) => Err(Refusal::Recording(fault_of_read(fault))),
     }
 }

@@ -10,7 +10,7 @@ use Rattle.client_wire.specs.declared.message.ClientMessage.{ClientMessage}
 use Rattle.rect_codec.specs.Picture.{is_in}
 use Rattle.rect_codec.specs.declared.encoding.Encoding.{Encoding}
 use Rattle.gated_journal.specs.Recording.{Head}
-use Rattle.key_index.specs.declared.entry.Stamped.{Stamped}
+use Rattle.keyed_entries.specs.declared.entry.Stamped.{Stamped}
 use Rattle.painter.proofs.Places.{in_is, is_in_true}
 use Rattle.viewer_session.specs.Places.{PlaceSet, holds, IsSmallest}
 use Rattle.viewer_session.specs.declared.view.View.{View}

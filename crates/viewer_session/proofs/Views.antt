@@ -9,8 +9,8 @@ use Rattle.rfb_wire.specs.Host.{Host}
 use Rattle.rect_codec.specs.Picture.{is_in, painted_data}
 use Rattle.painter.specs.Framebuffer.{Framebuffer, color_at, Has, Shows}
 use Rattle.painter.specs.Picture.{painted_rectangle, painted_rectangles}
-use Rattle.key_index.specs.declared.entry.Stamped.{Stamped}
-use Rattle.replay.specs.Screens.{hosts_of}
+use Rattle.keyed_entries.specs.declared.entry.Stamped.{Stamped}
+use Rattle.keyed_entries.specs.Entry.{hosts_of}
 use Rattle.gated_journal.specs.Recording.{Head}
 use Rattle.replay.specs.Screens.{IsScreenAt}
 use Rattle.painter.specs.Framebuffer as screens

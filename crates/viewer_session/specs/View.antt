@@ -17,8 +17,8 @@ use Rattle.rect_codec.specs.Update.{Drawn, update_at, all_painted}
 use Rattle.rfb_wire.specs.declared.message.Rectangle.{Rectangle}
 use Rattle.painter.specs.Framebuffer.{Framebuffer, color_at}
 use Rattle.gated_journal.specs.Recording.{Head}
-use Rattle.key_index.specs.declared.entry.Stamped.{Stamped}
-use Rattle.key_index.specs.Entry.{IsStampedFor}
+use Rattle.keyed_entries.specs.declared.entry.Stamped.{Stamped}
+use Rattle.keyed_entries.specs.Entry.{IsStampedFor}
 use Rattle.replay.specs.Screens.{IsScreenAt}
 use Rattle.flusher_core.specs.declared.slice.Slice.{Slice}
 use Rattle.viewer_session.specs.Places.{holds, IsSmallest, IsSmallestOf}

@@ -5,7 +5,7 @@ ghost use Rattle.pixel_format.specs.Canvas.{Picture};
 ghost use Rattle.pixel_format.specs.Format.{host_format};
 ghost use Rattle.pixel_format.specs.Appending.{Appends};
 ghost use Rattle.gated_journal.specs.Recording.{Head};
-ghost use Rattle.key_index.specs.declared.entry.Stamped.{Stamped};
+ghost use Rattle.keyed_entries.specs.declared.entry.Stamped.{Stamped};
 ghost use Rattle.broadcast.specs.Headline.{Stands};
 ghost use Rattle.client_wire.specs.declared.message.ClientMessage.{ClientMessage};
 ghost use Rattle.viewer_session.specs.View.{IsRight, IsNext, AreStale, stale_at, is_stale_after, is_there, IsDue, Answers, IsOne};

@@ -13,6 +13,7 @@ fn faults_of_an_opening_are_printed(rt: HostRuntime) -> Result<(), Fail> {
     for (fault, words) in [
         (IndexFault::BadEntry(7), "open refused index 1 block 7"),
         (IndexFault::BadMessage(0), "open refused index 2 block 0"),
+        (IndexFault::KeyDiffers(2), "open refused index 3 block 2"),
         (IndexFault::TimesFall(3), "open refused index 4 block 3"),
         (IndexFault::NoMemory, "open refused index 5"),
         (

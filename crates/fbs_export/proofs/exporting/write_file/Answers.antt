@@ -1,9 +1,9 @@
 use Rattle.std.proofs.Common.{ℕ, List, sym, subst}
 use Rattle.std.specs.Io.KnownBytes.{Appends}
 use Rattle.std.proofs.KnownBytes.{Appends-trans}
-use Rattle.key_index.specs.Entry.{messages_in}
+use Rattle.keyed_entries.specs.Entry.{messages_in}
 use Rattle.key_index.specs.Indexed.{start_in}
-use Rattle.key_index.specs.declared.entry.Stamped.{Stamped}
+use Rattle.keyed_entries.specs.declared.entry.Stamped.{Stamped}
 use Rattle.painter.specs.Framebuffer.{color_at}
 use Rattle.replay.specs.Screens.{IsScreenAt}
 use Rattle.fbs_export.specs.Export.{front_text, messages_from}

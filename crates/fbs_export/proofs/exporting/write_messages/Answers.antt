@@ -1,8 +1,8 @@
 use Rattle.std.proofs.Common.{◌≡◌, ◌<◌, ◌-◌, ℕ, suc, List, ◌∷◌, take, drop, sym, ap, ◌∙◌, subst, arith, Some}
 use Rattle.std.specs.List.{slice_get}
 use Rattle.std.proofs.KnownBytes.{Appends-trans}
-use Rattle.key_index.specs.Entry.{messages_in}
-use Rattle.key_index.specs.declared.entry.Stamped.{Stamped}
+use Rattle.keyed_entries.specs.Entry.{messages_in}
+use Rattle.keyed_entries.specs.declared.entry.Stamped.{Stamped}
 use Rattle.replay.specs.Screens.{IsScreenAt}
 use Rattle.fbs_export.specs.Export.{first_time, between}
 use Rattle.fbs_export.proofs.Left.{SoFar, next_left, base_is, starts_here, front_within, one_more_so_far}

@@ -1,5 +1,5 @@
 use Rattle.std.proofs.Common.{◌≡◌, ◌≤◌, ◌-◌}
-use Rattle.key_index.specs.Entry.{messages_in}
+use Rattle.keyed_entries.specs.Entry.{messages_in}
 use Rattle.replay.specs.Screens.{IsScreenAt}
 use Rattle.fbs_export.proofs.Left.{SoFar, IsBase}
 use Rattle.fbs_export.proofs.exporting.write_messages.Given as goal

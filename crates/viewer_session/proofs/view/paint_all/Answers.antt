@@ -3,8 +3,8 @@ use Rattle.std.specs.Prelude.{◌||◌, false}
 use Rattle.rfb_wire.specs.declared.message.Rectangle.{Rectangle}
 use Rattle.rfb_wire.specs.Host.{Host}
 use Rattle.painter.specs.Framebuffer.{color_at, Shows}
-use Rattle.key_index.specs.declared.entry.Stamped.{Stamped}
-use Rattle.replay.specs.Screens.{hosts_of}
+use Rattle.keyed_entries.specs.declared.entry.Stamped.{Stamped}
+use Rattle.keyed_entries.specs.Entry.{hosts_of}
 use Rattle.viewer_session.specs.Places.{holds}
 use Rattle.viewer_session.specs.View.{is_touched, is_touched_by}
 use Rattle.viewer_session.proofs.Views.{neither, untouched, by_more, marks_more, hosts_more}

@@ -3,7 +3,7 @@ use Rattle.std.specs.Prelude.{◌||◌}
 use Rattle.rfb_wire.specs.Host.{Host}
 use Rattle.painter.specs.Framebuffer.{color_at, Shows}
 use Rattle.painter.specs.Framebuffer as screens
-use Rattle.replay.specs.Screens.{hosts_of}
+use Rattle.keyed_entries.specs.Entry.{hosts_of}
 use Rattle.viewer_session.specs.Places.{holds, AreJust, SameSize}
 use Rattle.viewer_session.specs.View.{is_touched_by}
 use Rattle.viewer_session.proofs.view.paint_all.Given as goal

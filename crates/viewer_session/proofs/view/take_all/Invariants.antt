@@ -2,7 +2,7 @@ use Rattle.std.proofs.Common.{◌≡◌, ◌++◌, List}
 use Rattle.std.specs.Vec.Iter.{into_iter_items}
 use Rattle.pixel_format.specs.Canvas.{Picture}
 use Rattle.gated_journal.specs.Recording.{Head}
-use Rattle.key_index.specs.declared.entry.Stamped.{Stamped}
+use Rattle.keyed_entries.specs.declared.entry.Stamped.{Stamped}
 use Rattle.viewer_session.specs.View.{IsRight, IsSound, AreTaken}
 use Rattle.viewer_session.proofs.view.take_all.Given as goal
 

@@ -2,7 +2,7 @@ use Rattle.std.proofs.Common.{◌≡◌, ℕ, List, ◌++◌, length}
 use Rattle.std.specs.Prelude.{None}
 use Rattle.pixel_format.specs.Canvas.{Picture}
 use Rattle.gated_journal.specs.Recording.{Head}
-use Rattle.key_index.specs.declared.entry.Stamped.{Stamped}
+use Rattle.keyed_entries.specs.declared.entry.Stamped.{Stamped}
 use Rattle.client_wire.specs.declared.message.ClientMessage.{ClientMessage}
 use Rattle.viewer_session.specs.View.{IsRight}
 use Rattle.viewer_session.specs.Session.{IsAfter, Fed}

@@ -1,7 +1,7 @@
 use Rattle.std.proofs.Common.{◌≡◌, ℕ, ◌<◌, ◌∙◌, List, ap, sym, subst}
 use Rattle.painter.specs.Framebuffer.{Framebuffer}
 use Rattle.broadcast.specs.Headline.{StartStands}
-use Rattle.key_index.specs.declared.entry.Stamped.{Stamped}
+use Rattle.keyed_entries.specs.declared.entry.Stamped.{Stamped}
 use Rattle.replay.specs.Screens.{IsScreenAt}
 use Rattle.viewer_session.specs.declared.view.View.{View}
 use Rattle.viewer_session.proofs.Views.{Paints, Converts, right_on}
