@@ -40,6 +40,18 @@ const RECORDING_BEGUN: [u8; 18] = *b"ORFBREC1\0\x01\0\x01\0\x04\0\x01xC";
 const TIMES_THAT_FALL: [u8; 45] =
     *b"ORFBREC1\0\x01\0\x01\0\x04\0\x01xO\0\0\0\x14\0\x02\0\0\0\0\x05\0\0\0\x01\x02\0\0\0\0\x04\0\0\0\x01\x02C";
 
+/// A drill of three messages in two blocks, of which the second has a key screen: red, green and
+/// blue; then twice the first two places copied one to the right.
+const WITH_A_KEY: &str =
+    "new 3 1 2 r\nhost 5 0000 0001 0000 0000 0003 0001 00000000 0000ff00 00ff0000 ff000000\nhost 7 0000 0001 0001 0000 0002 0001 00000001 0000 0000\ntake\nbody\ngate\nhost 9 0000 0001 0001 0000 0002 0001 00000001 0000 0000\ntake\nbody\ngate\nopen\npixel 2 1 0\npixel 2 2 0\npixel 3 2 0\n";
+
+/// The recording that it makes, and what it answers.
+const KEYED: [u8; 164] =
+    *b"ORFBREC1\x00\x03\x00\x01\x00\x02\x00\x01rO\x00\x00\x00\x42\x00\x02\x00\x00\x00\x00\x05\x00\x00\x00\x1c\x00\x00\x00\x01\x00\x00\x00\x00\x00\x03\x00\x01\x00\x00\x00\x00\x00\x00\xff\x00\x00\xff\x00\x00\xff\x00\x00\x00\x00\x00\x00\x00\x07\x00\x00\x00\x14\x00\x00\x00\x01\x00\x01\x00\x00\x00\x02\x00\x01\x00\x00\x00\x01\x00\x00\x00\x00O\x00\x00\x00\x42\x00\x02\x01\x00\x00\x00\x07\x00\x00\x00\x1c\x00\x00\x00\x01\x00\x00\x00\x00\x00\x03\x00\x01\x00\x00\x00\x00\x00\x00\xff\x00\x00\x00\xff\x00\x00\xff\x00\x00\x00\x00\x00\x00\x09\x00\x00\x00\x14\x00\x00\x00\x01\x00\x01\x00\x00\x00\x02\x00\x01\x00\x00\x00\x01\x00\x00\x00\x00C";
+
+const KEYED_ANSWERS: &str =
+    "0 recording 3 1 2\naccepted 0\naccepted 1\ntaken 0 2\nwritten\ncommitted 2\naccepted 2\ntaken 2 1\nwritten\ncommitted 3\nopened 3\nff0000\n00ff00\nff0000\n";
+
 // The exit status, and behind it what is printed on both outputs.
 fn said<
     R: Files<File = File>
@@ -285,6 +297,38 @@ fn damaged_recordings(rt: HostRuntime) -> Result<(), Fail> {
             let answer = format!(in alloc; "1 recorderd: {command} refused {fault}\n")?;
             assert!(rt; is_said(&rt, &line, &answer)?, "{line}: {fault}");
         }
+    }
+    without(&rt, &files);
+    Ok(())
+}
+
+// The key screen's second place made green; no key due there; and one due, as before, with an
+// interval of 1.
+#[test]
+fn key_screens_are_listed_and_judged(rt: HostRuntime) -> Result<(), Fail> {
+    let files = ["keyed"];
+    without(&rt, &files);
+    let alloc = rt.alloc();
+    let kept = said(&rt, "recorderd drill --keep keyed", WITH_A_KEY)?;
+    assert!(rt; kept.as_str() == KEYED_ANSWERS, "{kept}");
+    assert!(rt; holds(&rt, "keyed", &KEYED)?);
+    let blocks =
+        "0 block 0 first 0 messages 2 key no time 5\nblock 1 first 2 messages 1 key yes time 9\n";
+    assert!(rt; is_said(&rt, "list keyed", blocks)?);
+    let mut green = KEYED.to_vec(alloc)?;
+    green[127] = 255;
+    green[128] = 0;
+    let mut longer = KEYED.to_vec(alloc)?;
+    longer[13] = 3;
+    let mut shorter = KEYED.to_vec(alloc)?;
+    shorter[13] = 1;
+    for (file, answer) in [
+        (&green, "1 recorderd: check refused index 3 block 1\n"),
+        (&longer, "1 recorderd: check refused index 3 block 1\n"),
+        (&shorter, "0 recording 3 1 messages 3 blocks 2\n"),
+    ] {
+        fs::write(&rt, "keyed", file.as_slice())?;
+        assert!(rt; is_said(&rt, "check keyed", answer)?, "{answer}");
     }
     without(&rt, &files);
     Ok(())
