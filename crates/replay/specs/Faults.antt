@@ -1,14 +1,12 @@
--- The numbers that programs print, and why a message isn't read.
-use Rattle.std.specs.Prelude.{ℕ}
+-- The faults by the numbers that programs print, from 1 on, and why a message isn't read.
+use Rattle.std.specs.Prelude.{List, [], ◌∷◌}
 use Rattle.gated_journal.specs.declared.faults.ReadFault.{ReadFault}
 use Rattle.gated_journal.specs.declared.faults.ReadFault.TheVariants as read
 use Rattle.replay.specs.declared.fault.ReplayFault.{ReplayFault}
 use Rattle.replay.specs.declared.fault.ReplayFault.TheVariants as replay
 
-abbrev pub replay_number : ReplayFault → ℕ
-replay_number replay.NotCommitted = 1
-replay_number replay.Device = 2
-replay_number replay.NoMemory = 3
+abbrev pub replay_faults : List ReplayFault
+replay_faults = replay.NotCommitted ∷ replay.Device ∷ replay.NoMemory ∷ []
 
 -- why a replay stops where a message isn't read
 abbrev pub fault_of_read : ReadFault → ReplayFault

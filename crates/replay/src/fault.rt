@@ -1,7 +1,7 @@
 //! Why no screen is answered, with the numbers that programs print.
 
-ghost use Rattle.std.specs.Prelude.{◌≡◌};
-ghost use Rattle.replay.specs.Faults.{replay_number, fault_of_read};
+ghost use Rattle.std.specs.Prelude.{◌≡◌, ◌-◌, ◌<◌, Some, slice_get};
+ghost use Rattle.replay.specs.Faults.{replay_faults, fault_of_read};
 ghost use Rattle.replay.specs.declared.fault.ReplayFault.TheVariants.{NoMemory as ReplayNoMemory};
 
 use gated_journal::ReadFault;
@@ -13,7 +13,7 @@ use thiserror::Error;
 pub enum ReplayFault {
     /// Fewer messages, or fewer blocks, are committed.
     #[error("not committed")]
-    NotCommitted,
+    NotCommitted = 1,
     /// The device failed in this call.
     #[error("the device failed")]
     Device,
@@ -25,13 +25,10 @@ pub enum ReplayFault {
 impl ReplayFault {
     /// The number that programs print.
     pub fn number(self) -> u64
-        ensures { result ≡ replay_number self }
+        ensures value { slice_get replay_faults (result - 1) ≡ Some self }
+        ensures some { 0 < result }
     {
-        match self {
-            ReplayFault::NotCommitted => 1,
-            ReplayFault::Device => 2,
-            ReplayFault::NoMemory => 3,
-        }
+        self as u64
     }
 }
 
