@@ -1,5 +1,5 @@
--- The numbers that programs print.
-use Rattle.std.specs.Prelude.{ℕ}
+-- The refusals in the order of the numbers that programs print, from 1 on.
+use Rattle.std.specs.Prelude.{List, [], ◌∷◌}
 use Rattle.gated_journal.specs.declared.faults.ReadFault.{ReadFault}
 use Rattle.gated_journal.specs.declared.faults.ReadFault.TheVariants as read
 use Rattle.broadcast.specs.declared.refusal.JoinRefusal.{JoinRefusal}
@@ -11,21 +11,17 @@ use Rattle.broadcast.specs.declared.refusal.SeekRefusal.TheVariants as seeking
 use Rattle.broadcast.specs.declared.refusal.LeaveRefusal.{LeaveRefusal}
 use Rattle.broadcast.specs.declared.refusal.LeaveRefusal.TheVariants as leaving
 
-abbrev pub join_number : JoinRefusal → ℕ
-join_number joining.NoSeat = 1
-join_number joining.NotCommitted = 2
+abbrev pub join_refusals : List JoinRefusal
+join_refusals = joining.NoSeat ∷ joining.NotCommitted ∷ []
 
-abbrev pub next_number : NextRefusal → ℕ
-next_number next.NoMemory = 1
-next_number next.Device = 2
-next_number next.NotSeated = 3
+abbrev pub next_refusals : List NextRefusal
+next_refusals = next.NoMemory ∷ next.Device ∷ next.NotSeated ∷ []
 
-abbrev pub seek_number : SeekRefusal → ℕ
-seek_number seeking.NotCommitted = 1
-seek_number seeking.NotSeated = 2
+abbrev pub seek_refusals : List SeekRefusal
+seek_refusals = seeking.NotCommitted ∷ seeking.NotSeated ∷ []
 
-abbrev pub leave_number : LeaveRefusal → ℕ
-leave_number leaving.NotSeated = 1
+abbrev pub leave_refusals : List LeaveRefusal
+leave_refusals = leaving.NotSeated ∷ []
 
 -- why a seat gets no slice, by why the slice isn't made
 abbrev pub next_refusal : ReadFault → NextRefusal

@@ -1,7 +1,7 @@
 //! Why a step of a seat is refused, with the numbers that programs print.
 
-ghost use Rattle.std.specs.Prelude.{◌≡◌};
-ghost use Rattle.broadcast.specs.Refusals.{join_number, next_number, seek_number, leave_number, next_refusal};
+ghost use Rattle.std.specs.Prelude.{◌≡◌, ◌-◌, ◌<◌, Some, slice_get};
+ghost use Rattle.broadcast.specs.Refusals.{join_refusals, next_refusals, seek_refusals, leave_refusals, next_refusal};
 
 use gated_journal::ReadFault;
 use thiserror::Error;
@@ -11,7 +11,7 @@ use thiserror::Error;
 pub enum JoinRefusal {
     /// All 64 seats are taken.
     #[error("no seat is free")]
-    NoSeat,
+    NoSeat = 1,
     /// Fewer messages are committed.
     #[error("not committed")]
     NotCommitted,
@@ -22,7 +22,7 @@ pub enum JoinRefusal {
 pub enum NextRefusal {
     /// Want of memory.
     #[error("out of memory")]
-    NoMemory,
+    NoMemory = 1,
     /// The device failed in this step.
     #[error("the device failed")]
     Device,
@@ -36,7 +36,7 @@ pub enum NextRefusal {
 pub enum SeekRefusal {
     /// Fewer messages are committed.
     #[error("not committed")]
-    NotCommitted,
+    NotCommitted = 1,
     /// The seat isn't what the desk keeps.
     #[error("not seated")]
     NotSeated,
@@ -47,54 +47,46 @@ pub enum SeekRefusal {
 pub enum LeaveRefusal {
     /// The seat isn't what the desk keeps.
     #[error("not seated")]
-    NotSeated,
+    NotSeated = 1,
 }
 
 impl JoinRefusal {
     /// The number that programs print.
     pub fn number(self) -> u64
-        ensures { result ≡ join_number self }
+        ensures value { slice_get join_refusals (result - 1) ≡ Some self }
+        ensures some { 0 < result }
     {
-        match self {
-            JoinRefusal::NoSeat => 1,
-            JoinRefusal::NotCommitted => 2,
-        }
+        self as u64
     }
 }
 
 impl NextRefusal {
     /// The number that programs print.
     pub fn number(self) -> u64
-        ensures { result ≡ next_number self }
+        ensures value { slice_get next_refusals (result - 1) ≡ Some self }
+        ensures some { 0 < result }
     {
-        match self {
-            NextRefusal::NoMemory => 1,
-            NextRefusal::Device => 2,
-            NextRefusal::NotSeated => 3,
-        }
+        self as u64
     }
 }
 
 impl SeekRefusal {
     /// The number that programs print.
     pub fn number(self) -> u64
-        ensures { result ≡ seek_number self }
+        ensures value { slice_get seek_refusals (result - 1) ≡ Some self }
+        ensures some { 0 < result }
     {
-        match self {
-            SeekRefusal::NotCommitted => 1,
-            SeekRefusal::NotSeated => 2,
-        }
+        self as u64
     }
 }
 
 impl LeaveRefusal {
     /// The number that programs print.
     pub fn number(self) -> u64
-        ensures { result ≡ leave_number self }
+        ensures value { slice_get leave_refusals (result - 1) ≡ Some self }
+        ensures some { 0 < result }
     {
-        match self {
-            LeaveRefusal::NotSeated => 1,
-        }
+        self as u64
     }
 }
 
