@@ -1,5 +1,5 @@
 -- The numbers that programs print, and what ends an export that has begun.
-use Rattle.std.specs.Prelude.{ℕ}
+use Rattle.std.specs.Prelude.{ℕ, List, [], ◌∷◌}
 use Rattle.fbs_export.specs.declared.fault.FbsFault.{FbsFault}
 use Rattle.fbs_export.specs.declared.fault.FbsFault.TheVariants as fbs
 use Rattle.fbs_export.specs.declared.fault.ExportFault.{ExportFault}
@@ -18,12 +18,8 @@ fbs_number (fbs.Message f) = 7
 fbs_number fbs.NoMemory = 8
 fbs_number fbs.Read = 9
 
-abbrev pub export_number : ExportFault → ℕ
-export_number export.NoBlock = 1
-export_number export.BadEnd = 2
-export_number export.Device = 3
-export_number export.NoMemory = 4
-export_number export.Write = 5
+abbrev pub export_faults : List ExportFault
+export_faults = export.NoBlock ∷ export.BadEnd ∷ export.Device ∷ export.NoMemory ∷ export.Write ∷ []
 
 -- the fault that is answered
 abbrev pub fault_of : Stop → ExportFault

@@ -1,7 +1,7 @@
 //! Why nothing is exported, or nothing read, with the numbers that programs print.
 
-ghost use Rattle.std.specs.Prelude.{◌≡◌};
-ghost use Rattle.fbs_export.specs.Faults.{export_number, fault_of, fbs_number};
+ghost use Rattle.std.specs.Prelude.{◌≡◌, ◌-◌, ◌<◌, Some, slice_get};
+ghost use Rattle.fbs_export.specs.Faults.{export_faults, fault_of, fbs_number};
 ghost use Rattle.fbs_export.specs.declared.fault.FbsFault.TheVariants.{NoMemory as FbsNoMemory};
 ghost use Rattle.fbs_export.specs.declared.fault.Stop.TheVariants.{NoMemory as StopNoMemory, Write as StopWrite};
 
@@ -74,7 +74,7 @@ impl From<AllocError> for FbsFault {
 pub enum ExportFault {
     /// The recording has fewer blocks.
     #[error("no such block")]
-    NoBlock,
+    NoBlock = 1,
     /// The end lies before the block's start, or behind the last message.
     #[error("no such end")]
     BadEnd,
@@ -92,15 +92,10 @@ pub enum ExportFault {
 impl ExportFault {
     /// The number that programs print.
     pub fn number(self) -> u8
-        ensures { result ≡ export_number self }
+        ensures value { slice_get export_faults (result - 1) ≡ Some self }
+        ensures some { 0 < result }
     {
-        match self {
-            ExportFault::NoBlock => 1,
-            ExportFault::BadEnd => 2,
-            ExportFault::Device => 3,
-            ExportFault::NoMemory => 4,
-            ExportFault::Write => 5,
-        }
+        self as u8
     }
 }
 
