@@ -1,11 +1,11 @@
 -- What words say is what they are read as.
-use Rattle.std.proofs.Common.{◌≡◌, ◌≢◌, ℕ, ◌^◌, ◌<◌, true, false, eqb, List, [], ◌∷◌, ◌++◌, length, Some, Ok, refl, sym, ap, ◌∙◌, inl, inr, arith}
+use Rattle.std.proofs.Common.{◌≡◌, ◌≢◌, ℕ, ◌^◌, ◌<◌, true, false, eqb, List, [], ◌∷◌, ◌++◌, length, Option, Some, Ok, refl, sym, ap, ◌∙◌, inl, inr, arith}
 use Rattle.std.specs.Char.{is_ascii_digit, IsAsciiDigit}
 use Rattle.std.specs.List.{AllByRecursion, concat, list_all, list_any}
 use Rattle.std.proofs.lemmas.Bool.{lt-ltb, ne_eqb, or_from}
 use Rattle.std.proofs.lemmas.Bool.Decides.{nat_tests}
 use Rattle.drill_script.specs.Grammar.{Command, NewCommand, HostCommand, TakeCommand, BodyCommand, GateCommand, OpenCommand, PixelCommand, FailCommand, StopCommand, JoinCommand, NextCommand, SeekCommand, LeaveCommand, decimal, IsNumber, IsName, IsHex, IsFill, IsStart, Says}
-use Rattle.drill_script.specs.Reading.{number_of, number_at, name_at, joined_at, hex_at, kind_by, new_at, host_at, pixel_at, fill_of, fill_at, fail_at, stop_at, start_of, start_at, join_at, next_at, seek_at, leave_at, command_at}
+use Rattle.drill_script.specs.Reading.{number_of, number_at, name_at, joined_at, hex_at, kind_by, new_at, host_at, pixel_at, fill_of, start_of, read_at, one_at, two_at, command_at}
 use Rattle.std.specs.Prelude.{codes}
 use Rattle.std.specs.Str.{bytes_eq}
 use Rattle.std.proofs.lemmas.Bool.{cases_Bool}
@@ -31,10 +31,14 @@ number_written limit (c ∷ cs) n h =
     let fits : decimal (c ∷ cs) < limit = omega arith in
     rw (digits_pass (c ∷ cs) h.digits, lt-ltb (decimal (c ∷ cs)) limit fits, value) refl
 
+word_again : {A : Type 0} (Is : List ℕ → A → Type 0) (reads : List ℕ → Option A) → ((word : List ℕ) (it : A) → Is word it → reads word ≡ Some it)
+    → (word : List ℕ) (it : A) (rest : List (List ℕ)) → word ≢ [] → Is word it → read_at reads (word ∷ rest) ≡ Some (it, rest)
+unfolding read_at
+word_again Is reads written [] it rest some is = absurd (some refl)
+word_again Is reads written (c ∷ cs) it rest some is = rw (written (c ∷ cs) it is) refl
+
 number_again : (limit : ℕ) (word : List ℕ) (n : ℕ) (rest : List (List ℕ)) → IsNumber limit word n → number_at limit (word ∷ rest) ≡ Some (n, rest)
-unfolding number_at
-number_again limit [] n rest h = absurd (h.some refl)
-number_again limit (c ∷ cs) n rest h = rw (number_written limit (c ∷ cs) n h) refl
+number_again limit word n rest h = word_again (IsNumber limit) (number_of limit) (number_written limit) word n rest h.some h
 
 newline_free : (word : List ℕ) → IsName word → list_any (λ byte. eqb byte 10) word ≡ false
 newline_free [] h = refl
@@ -89,19 +93,6 @@ fill_named word fills.Now is = rw is refl
 fill_named word (fills.Byte byte) is =
     rw (other_name word (codes "held") byte (λ e. absurd cc) is, other_name word (codes "now") byte (λ e. absurd cc) is, is) refl
 
-fill_again : (word : List ℕ) (fill : Fill) (rest : List (List ℕ)) → word ≢ [] → IsFill word fill → fill_at (word ∷ rest) ≡ Some (fill, rest)
-unfolding fill_at
-fill_again [] fill rest some is = absurd (some refl)
-fill_again (c ∷ cs) fill rest some is = rw (fill_named (c ∷ cs) fill is) refl
-
-fail_again : (n : List ℕ) (calls : ℕ) → IsNumber (2 ^ 64) n calls → fail_at (n ∷ []) ≡ Some (FailCommand calls, [])
-unfolding fail_at
-fail_again n calls a = rw (number_again (2 ^ 64) n calls [] a) refl
-
-stop_again : (n f : List ℕ) (calls : ℕ) (fill : Fill) → IsNumber (2 ^ 64) n calls → f ≢ [] → IsFill f fill → stop_at (n ∷ f ∷ []) ≡ Some (StopCommand calls fill, [])
-unfolding stop_at
-stop_again n f calls fill a some b = rw (number_again (2 ^ 64) n calls (f ∷ []) a, fill_again f fill [] some b) refl
-
 -- `live` is no number
 not_live : (word : List ℕ) (count : ℕ) → IsNumber (2 ^ 64) word count → bytes_eq word (codes "live") ≡ false
 not_live word count h = elim (cases_Bool (bytes_eq word (codes "live"))) [
@@ -114,26 +105,18 @@ unfolding start_of
 start_named word starts.Live is = rw is refl
 start_named word (starts.At count) is = rw (not_live word count is, number_written (2 ^ 64) word count is) refl
 
-start_again : (word : List ℕ) (start : Start) (rest : List (List ℕ)) → word ≢ [] → IsStart word start → start_at (word ∷ rest) ≡ Some (start, rest)
-unfolding start_at
-start_again [] start rest some is = absurd (some refl)
-start_again (c ∷ cs) start rest some is = rw (start_named (c ∷ cs) start is) refl
+one_again : {A : Type 0} (Is : List ℕ → A → Type 0) (reads : List ℕ → Option A) → ((word : List ℕ) (it : A) → Is word it → reads word ≡ Some it)
+    → (say : A → Command) (word : List ℕ) (it : A) → word ≢ [] → Is word it → one_at reads say (word ∷ []) ≡ Some (say it, [])
+unfolding one_at
+one_again Is reads written say word it some is = rw (word_again Is reads written word it [] some is) refl
 
-join_again : (w : List ℕ) (start : Start) → w ≢ [] → IsStart w start → join_at (w ∷ []) ≡ Some (JoinCommand start, [])
-unfolding join_at
-join_again w start some is = rw (start_again w start [] some is) refl
-
-next_again : (s l : List ℕ) (seat limit : ℕ) → IsNumber (2 ^ 32) s seat → IsNumber (2 ^ 32) l limit → next_at (s ∷ l ∷ []) ≡ Some (NextCommand seat limit, [])
-unfolding next_at
-next_again s l seat limit a b = rw (number_again (2 ^ 32) s seat (l ∷ []) a, number_again (2 ^ 32) l limit [] b) refl
-
-seek_again : (s n : List ℕ) (seat count : ℕ) → IsNumber (2 ^ 32) s seat → IsNumber (2 ^ 64) n count → seek_at (s ∷ n ∷ []) ≡ Some (SeekCommand seat count, [])
-unfolding seek_at
-seek_again s n seat count a b = rw (number_again (2 ^ 32) s seat (n ∷ []) a, number_again (2 ^ 64) n count [] b) refl
-
-leave_again : (s : List ℕ) (seat : ℕ) → IsNumber (2 ^ 32) s seat → leave_at (s ∷ []) ≡ Some (LeaveCommand seat, [])
-unfolding leave_at
-leave_again s seat a = rw (number_again (2 ^ 32) s seat [] a) refl
+two_again : {A B : Type 0} (Is : List ℕ → A → Type 0) (reads : List ℕ → Option A) → ((word : List ℕ) (it : A) → Is word it → reads word ≡ Some it)
+    → (Also : List ℕ → B → Type 0) (others : List ℕ → Option B) → ((word : List ℕ) (it : B) → Also word it → others word ≡ Some it)
+    → (say : A → B → Command) (word other : List ℕ) (it : A) (also : B) → word ≢ [] → Is word it → other ≢ [] → Also other also
+    → two_at reads others say (word ∷ other ∷ []) ≡ Some (say it also, [])
+unfolding two_at
+two_again Is reads written Also others also_written say word other it also some is also_some also_is =
+    rw (word_again Is reads written word it (other ∷ []) some is, word_again Also others also_written other also [] also_some also_is) refl
 
 -- the words say one command, as which they are read
 pub command_again : (words : List (List ℕ)) (command : Command) → AreSome words → Says words command → command_at words ≡ Some command
@@ -149,13 +132,13 @@ command_again words BodyCommand some says = rw says refl
 command_again words GateCommand some says = rw says refl
 command_again words OpenCommand some says = rw says refl
 command_again words (PixelCommand count x y) some says = rw says.3 (rw (pixel_again says.0 says.1 says.2 count x y says.4 says.5 says.6) refl)
-command_again words (FailCommand calls) some says = rw says.1 (rw (fail_again says.0 calls says.2) refl)
+command_again words (FailCommand calls) some says = rw says.1 (rw (one_again (IsNumber (2 ^ 64)) (number_of (2 ^ 64)) (number_written (2 ^ 64)) (λ calls. FailCommand calls) says.0 calls says.2.some says.2) refl)
 command_again words (StopCommand calls fill) some says =
     let all = rw says.2 at some in
-    rw says.2 (rw (stop_again says.0 says.1 calls fill says.3 all.1.1.0 says.4) refl)
+    rw says.2 (rw (two_again (IsNumber (2 ^ 64)) (number_of (2 ^ 64)) (number_written (2 ^ 64)) IsFill fill_of fill_named (λ calls fill. StopCommand calls fill) says.0 says.1 calls fill says.3.some says.3 all.1.1.0 says.4) refl)
 command_again words (JoinCommand start) some says =
     let all = rw says.1 at some in
-    rw says.1 (rw (join_again says.0 start all.1.0 says.2) refl)
-command_again words (NextCommand seat limit) some says = rw says.2 (rw (next_again says.0 says.1 seat limit says.3 says.4) refl)
-command_again words (SeekCommand seat count) some says = rw says.2 (rw (seek_again says.0 says.1 seat count says.3 says.4) refl)
-command_again words (LeaveCommand seat) some says = rw says.1 (rw (leave_again says.0 seat says.2) refl)
+    rw says.1 (rw (one_again IsStart start_of start_named (λ start. JoinCommand start) says.0 start all.1.0 says.2) refl)
+command_again words (NextCommand seat limit) some says = rw says.2 (rw (two_again (IsNumber (2 ^ 32)) (number_of (2 ^ 32)) (number_written (2 ^ 32)) (IsNumber (2 ^ 32)) (number_of (2 ^ 32)) (number_written (2 ^ 32)) (λ seat limit. NextCommand seat limit) says.0 says.1 seat limit says.3.some says.3 says.4.some says.4) refl)
+command_again words (SeekCommand seat count) some says = rw says.2 (rw (two_again (IsNumber (2 ^ 32)) (number_of (2 ^ 32)) (number_written (2 ^ 32)) (IsNumber (2 ^ 64)) (number_of (2 ^ 64)) (number_written (2 ^ 64)) (λ seat count. SeekCommand seat count) says.0 says.1 seat count says.3.some says.3 says.4.some says.4) refl)
+command_again words (LeaveCommand seat) some says = rw says.1 (rw (one_again (IsNumber (2 ^ 32)) (number_of (2 ^ 32)) (number_written (2 ^ 32)) (λ seat. LeaveCommand seat) says.0 seat says.2.some says.2) refl)

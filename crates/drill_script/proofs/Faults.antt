@@ -1,10 +1,9 @@
 -- What a fault in the rest of a line says of the line.
-use Rattle.std.proofs.Common.{◌≡◌, ℕ, List, Some, Err, refl, sym, ◌∙◌, inl, inr}
+use Rattle.std.proofs.Common.{◌≡◌, ℕ, List, Some, Err, refl, sym, ap, ◌∙◌, inl, inr}
 use Rattle.drill_script.specs.declared.fault.LineFault.{LineFault}
 use Rattle.drill_script.specs.declared.fault.LineFault.TheVariants.{Bad, NoMemory}
 use Rattle.drill_script.specs.declared.words.Kind.{Kind}
-use Rattle.drill_script.specs.declared.words.Kind.TheVariants as kind
-use Rattle.drill_script.specs.Grammar.{command_of, first_word, TakesMemory}
+use Rattle.drill_script.specs.Grammar.{command_of, TakesMemory}
 use Rattle.drill_script.specs.Reading.{parts, ReadsInMemory, GivesLine, KindTakesMemory, word_at, kind_by, rest_at, command_at}
 use Rattle.drill_script.proofs.Parts.{parts_begin}
 use Rattle.drill_script.proofs.Taken.{keyword, kind_named, word_takes}
@@ -16,22 +15,11 @@ unfolding command_at
 rest_fails Bad it first words rest after at named read = rw (at, named, read) refl
 rest_fails NoMemory it first words rest after at named read = tt
 
-kind_takes : (it : Kind) (text : List ℕ) → KindTakesMemory it → first_word text ≡ keyword it → TakesMemory text
-kind_takes kind.New text takes is = inl is
-kind_takes kind.Host text takes is = inr is
-kind_takes kind.Take text takes is = absurd takes
-kind_takes kind.Body text takes is = absurd takes
-kind_takes kind.Gate text takes is = absurd takes
-kind_takes kind.Open text takes is = absurd takes
-kind_takes kind.Pixel text takes is = absurd takes
-kind_takes kind.Fail text takes is = absurd takes
-kind_takes kind.Stop text takes is = absurd takes
-kind_takes kind.Join text takes is = absurd takes
-kind_takes kind.Next text takes is = absurd takes
-kind_takes kind.Seek text takes is = absurd takes
-kind_takes kind.Leave text takes is = absurd takes
-
 -- a line whose kind takes memory
 pub text_takes : (it : Kind) (first text : List ℕ) (rest : List (List ℕ)) → word_at (parts text) ≡ Some (first, rest) → kind_by first ≡ Some it → KindTakesMemory it → TakesMemory text
 text_takes it first text rest at named takes =
-    kind_takes it text takes (sym (parts_begin text first rest (word_takes (parts text) (first, rest) at).0) ∙ kind_named first it named)
+    let begins = sym (parts_begin text first rest (word_takes (parts text) (first, rest) at).0) ∙ kind_named first it named in
+    elim takes [
+      | inl new ↦ inl (begins ∙ ap keyword new)
+      | inr host ↦ inr (begins ∙ ap keyword host)
+    ]

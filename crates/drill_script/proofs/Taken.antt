@@ -17,7 +17,7 @@ use Rattle.hex.specs.declared.error.FromHexError.{FromHexError}
 use Rattle.drill_script.specs.declared.words.Kind.{Kind}
 use Rattle.drill_script.specs.declared.words.Kind.TheVariants as kind
 use Rattle.drill_script.specs.Grammar.{Command, NewCommand, HostCommand, TakeCommand, BodyCommand, GateCommand, OpenCommand, PixelCommand, FailCommand, StopCommand, JoinCommand, NextCommand, SeekCommand, LeaveCommand, decimal, IsNumber, IsName, IsHex, IsFill, IsStart, Says}
-use Rattle.drill_script.specs.Reading.{◌>>=◌, word_at, number_of, number_at, name_at, joined_at, spelled_by, hex_at, kind_by, new_at, host_at, pixel_at, byte_told, fill_of, fill_at, fail_at, stop_at, start_of, start_at, join_at, next_at, seek_at, leave_at, rest_at, ended, command_at}
+use Rattle.drill_script.specs.Reading.{◌>>=◌, word_at, number_of, number_at, name_at, joined_at, spelled_by, hex_at, kind_by, new_at, host_at, pixel_at, byte_told, fill_of, start_of, read_at, one_at, two_at, rest_at, ended, command_at}
 use Rattle.drill_script.proofs.Steps.{bind_some, test_some, test_none, chosen}
 
 -- no word is empty
@@ -51,22 +51,30 @@ number_is limit (c ∷ cs) n e =
     let parts = and_parts (list_all is_ascii_digit (c ∷ cs)) (ltb (decimal (c ∷ cs)) limit) t.0 in
     record { some = λ none. absurd cc; digits = digits_are (c ∷ cs) parts.0; value = t.1; fits = rw (← t.1) (ltb-true _ _ parts.1) }
 
-pub record TakesNumber (limit : ℕ) (words : List (List ℕ)) (x : ℕ × List (List ℕ)) : Type 0 where
+-- the next word, which is a value in the words of the grammar
+pub record TakesWord {A : Type 0} (Is : List ℕ → A → Type 0) (words : List (List ℕ)) (x : A × List (List ℕ)) : Type 0 where
   pub word : List ℕ
   pub first : words ≡ word ∷ x.1
-  pub number : IsNumber limit word x.0
+  pub some : word ≢ []
+  pub it : Is word x.0
 
-pub number_takes : (limit : ℕ) (words : List (List ℕ)) (x : ℕ × List (List ℕ)) → number_at limit words ≡ Some x → TakesNumber limit words x
-unfolding number_at
-number_takes limit words x e =
-    let a = bind_some (word_at words) (λ word. number_of limit word.0 >>= λ n. Some (n, word.1)) x e in
-    let b = bind_some (number_of limit a.0.0) (λ n. Some (n, a.0.1)) x a.2 in
+word_read : {A : Type 0} (Is : List ℕ → A → Type 0) (reads : List ℕ → Option A) → ((word : List ℕ) (it : A) → reads word ≡ Some it → Is word it)
+    → (words : List (List ℕ)) (x : A × List (List ℕ)) → read_at reads words ≡ Some x → TakesWord Is words x
+unfolding read_at
+word_read {A} Is reads sound words x e =
+    let a = bind_some (word_at words) (λ word. reads word.0 >>= λ it. Some (it, word.1)) x e in
+    let b = bind_some (reads a.0.0) (λ it. Some (it, a.0.1)) x a.2 in
     let parts = some_pair_parts b.0 x.0 a.0.1 x.1 b.2 in
+    let w = word_takes words a.0 a.1 in
     record {
       word = a.0.0;
-      first = (word_takes words a.0 a.1).0 ∙ ap (λ (r : List (List ℕ)). a.0.0 ∷ r) parts.1;
-      number = subst (λ (n : ℕ). IsNumber limit a.0.0 n) parts.0 (number_is limit a.0.0 b.0 b.1);
+      first = w.0 ∙ ap (λ (r : List (List ℕ)). a.0.0 ∷ r) parts.1;
+      some = w.1;
+      it = subst (λ (it : A). Is a.0.0 it) parts.0 (sound a.0.0 b.0 b.1);
     }
+
+number_takes : (limit : ℕ) (words : List (List ℕ)) (x : ℕ × List (List ℕ)) → number_at limit words ≡ Some x → TakesWord (IsNumber limit) words x
+number_takes limit words x e = word_read (IsNumber limit) (number_of limit) (number_is limit) words x e
 
 -- ---- names
 
@@ -157,26 +165,6 @@ fill_is word fill e =
     (λ _ other. chosen (IsFill word fill) (bytes_eq word (codes "now")) (Some fills.Now) _ (Some fill) other (name_is word (codes "now") fills.Now fill (λ is. is))
     (λ _ last. byte_is word (decode_sized word 1) fill refl last))
 
-pub record TakesFill (words : List (List ℕ)) (x : Fill × List (List ℕ)) : Type 0 where
-  pub word : List ℕ
-  pub first : words ≡ word ∷ x.1
-  pub some : word ≢ []
-  pub fill : IsFill word x.0
-
-fill_takes : (words : List (List ℕ)) (x : Fill × List (List ℕ)) → fill_at words ≡ Some x → TakesFill words x
-unfolding fill_at
-fill_takes words x e =
-    let a = bind_some (word_at words) (λ word. fill_of word.0 >>= λ fill. Some (fill, word.1)) x e in
-    let b = bind_some (fill_of a.0.0) (λ fill. Some (fill, a.0.1)) x a.2 in
-    let parts = some_pair_parts b.0 x.0 a.0.1 x.1 b.2 in
-    let w = word_takes words a.0 a.1 in
-    record {
-      word = a.0.0;
-      first = w.0 ∙ ap (λ (r : List (List ℕ)). a.0.0 ∷ r) parts.1;
-      some = w.1;
-      fill = subst (λ (f : Fill). IsFill a.0.0 f) parts.0 (fill_is a.0.0 b.0 b.1);
-    }
-
 -- ---- starts
 
 start_is : (word : List ℕ) (start : Start) → start_of word ≡ Some start → IsStart word start
@@ -187,26 +175,6 @@ start_is word start e =
     (λ _ other.
     let a = bind_some (number_of (2 ^ 64) word) (λ count. Some (starts.At count)) start other in
     subst (λ (s : Start). IsStart word s) (same_Some (starts.At a.0) start a.2) (number_is (2 ^ 64) word a.0 a.1))
-
-pub record TakesStart (words : List (List ℕ)) (x : Start × List (List ℕ)) : Type 0 where
-  pub word : List ℕ
-  pub first : words ≡ word ∷ x.1
-  pub some : word ≢ []
-  pub start : IsStart word x.0
-
-start_takes : (words : List (List ℕ)) (x : Start × List (List ℕ)) → start_at words ≡ Some x → TakesStart words x
-unfolding start_at
-start_takes words x e =
-    let a = bind_some (word_at words) (λ word. start_of word.0 >>= λ start. Some (start, word.1)) x e in
-    let b = bind_some (start_of a.0.0) (λ start. Some (start, a.0.1)) x a.2 in
-    let parts = some_pair_parts b.0 x.0 a.0.1 x.1 b.2 in
-    let w = word_takes words a.0 a.1 in
-    record {
-      word = a.0.0;
-      first = w.0 ∙ ap (λ (r : List (List ℕ)). a.0.0 ∷ r) parts.1;
-      some = w.1;
-      start = subst (λ (s : Start). IsStart a.0.0 s) parts.0 (start_is a.0.0 b.0 b.1);
-    }
 
 -- ---- the first word
 
@@ -283,7 +251,7 @@ new_told words x e none =
     let said = some_pair_parts (NewCommand width.0 height.0 key_interval.0 name.0) x.0 name.1 x.1 e_said in
     let all = then_words w.word w.first (then_words h.word h.first (then_words k.word k.first (then_words name.0 n.first (said.1 ∙ none)))) in
     told_at (codes "new") words (w.word ∷ h.word ∷ k.word ∷ name.0 ∷ []) (NewCommand width.0 height.0 key_interval.0 name.0) x.0 all said.0
-    (new_tells w.word h.word k.word name.0 width.0 height.0 key_interval.0 w.number h.number k.number n.some n.name)))))
+    (new_tells w.word h.word k.word name.0 width.0 height.0 key_interval.0 w.it h.it k.it n.some n.name)))))
 
 host_told : (words : List (List ℕ)) (x : Command × List (List ℕ)) → host_at words ≡ Some x → x.1 ≡ [] → Told (codes "host" ∷ words) x.0
 unfolding host_at
@@ -293,7 +261,7 @@ host_told words x e none =
     let t = number_takes (2 ^ 32) words time is_time in
     let hex = hex_takes time.1 bytes is_bytes in
     let said = some_pair_parts (HostCommand time.0 bytes.0) x.0 bytes.1 x.1 e_said in
-    told_at (codes "host") words (t.word ∷ time.1) (HostCommand time.0 bytes.0) x.0 t.first said.0 (host_tells t.word time.1 time.0 bytes.0 t.number hex.hex hex.some)))
+    told_at (codes "host") words (t.word ∷ time.1) (HostCommand time.0 bytes.0) x.0 t.first said.0 (host_tells t.word time.1 time.0 bytes.0 t.it hex.hex hex.some)))
 
 pixel_told : (words : List (List ℕ)) (x : Command × List (List ℕ)) → pixel_at words ≡ Some x → x.1 ≡ [] → Told (codes "pixel" ∷ words) x.0
 unfolding pixel_at
@@ -307,68 +275,33 @@ pixel_told words x e none =
     let said = some_pair_parts (PixelCommand count.0 column.0 row.0) x.0 row.1 x.1 e_said in
     let all = then_words n.word n.first (then_words c.word c.first (then_words r.word r.first (said.1 ∙ none))) in
     told_at (codes "pixel") words (n.word ∷ c.word ∷ r.word ∷ []) (PixelCommand count.0 column.0 row.0) x.0 all said.0
-    (pixel_tells n.word c.word r.word count.0 column.0 row.0 n.number c.number r.number))))
+    (pixel_tells n.word c.word r.word count.0 column.0 row.0 n.it c.it r.it))))
 
-fail_told : (words : List (List ℕ)) (x : Command × List (List ℕ)) → fail_at words ≡ Some x → x.1 ≡ [] → Told (codes "fail" ∷ words) x.0
-unfolding fail_at
-fail_told words x e none =
-    option_and_then_some (λ calls. Some (FailCommand calls.0, calls.1)) (number_at (2 ^ 64) words) x e (λ calls is_calls e_said.
-    let n = number_takes (2 ^ 64) words calls is_calls in
-    let said = some_pair_parts (FailCommand calls.0) x.0 calls.1 x.1 e_said in
-    told_at (codes "fail") words (n.word ∷ []) (FailCommand calls.0) x.0 (then_words n.word n.first (said.1 ∙ none)) said.0
-    ((n.word, refl, n.number), (λ empty. absurd cc, (n.number.some, tt))))
+-- a first word, and one word that says a value, or two
+one_told : {A : Type 0} (Is : List ℕ → A → Type 0) (reads : List ℕ → Option A) → ((word : List ℕ) (it : A) → reads word ≡ Some it → Is word it)
+    → (first : List ℕ) (say : A → Command) (words : List (List ℕ)) (x : Command × List (List ℕ)) → one_at reads say words ≡ Some x → x.1 ≡ [] → first ≢ []
+    → ((n : List ℕ) (a : A) → Is n a → Says (first ∷ n ∷ []) (say a)) → Told (first ∷ words) x.0
+unfolding one_at
+one_told Is reads sound first say words x e none some says =
+    option_and_then_some (λ a. Some (say a.0, a.1)) (read_at reads words) x e (λ a is_a e_said.
+    let n = word_read Is reads sound words a is_a in
+    let said = some_pair_parts (say a.0) x.0 a.1 x.1 e_said in
+    told_at first words (n.word ∷ []) (say a.0) x.0 (then_words n.word n.first (said.1 ∙ none)) said.0
+    (says n.word a.0 n.it, (some, (n.some, tt))))
 
-stop_told : (words : List (List ℕ)) (x : Command × List (List ℕ)) → stop_at words ≡ Some x → x.1 ≡ [] → Told (codes "stop" ∷ words) x.0
-unfolding stop_at
-stop_told words x e none =
-    option_and_then_some (λ calls. fill_at calls.1 >>= λ fill. Some (StopCommand calls.0 fill.0, fill.1)) (number_at (2 ^ 64) words) x e (λ calls is_calls e_fill.
-    option_and_then_some (λ fill. Some (StopCommand calls.0 fill.0, fill.1)) (fill_at calls.1) x e_fill (λ fill is_fill e_said.
-    let n = number_takes (2 ^ 64) words calls is_calls in
-    let f = fill_takes calls.1 fill is_fill in
-    let said = some_pair_parts (StopCommand calls.0 fill.0) x.0 fill.1 x.1 e_said in
-    told_at (codes "stop") words (n.word ∷ f.word ∷ []) (StopCommand calls.0 fill.0) x.0 (then_words n.word n.first (then_words f.word f.first (said.1 ∙ none))) said.0
-    ((n.word, f.word, refl, n.number, f.fill), (λ empty. absurd cc, (n.number.some, (f.some, tt))))))
-
-join_told : (words : List (List ℕ)) (x : Command × List (List ℕ)) → join_at words ≡ Some x → x.1 ≡ [] → Told (codes "join" ∷ words) x.0
-unfolding join_at
-join_told words x e none =
-    option_and_then_some (λ start. Some (JoinCommand start.0, start.1)) (start_at words) x e (λ start is_start e_said.
-    let w = start_takes words start is_start in
-    let said = some_pair_parts (JoinCommand start.0) x.0 start.1 x.1 e_said in
-    told_at (codes "join") words (w.word ∷ []) (JoinCommand start.0) x.0 (then_words w.word w.first (said.1 ∙ none)) said.0
-    ((w.word, refl, w.start), (λ empty. absurd cc, (w.some, tt))))
-
--- a first word, and two numbers
-pair_told : (first : List ℕ) (low high : ℕ) (say : ℕ → ℕ → Command) (words : List (List ℕ)) (x : Command × List (List ℕ))
-    → (number_at low words >>= λ a. number_at high a.1 >>= λ b. Some (say a.0 b.0, b.1)) ≡ Some x → x.1 ≡ [] → first ≢ []
-    → ((n m : List ℕ) (a b : ℕ) → IsNumber low n a → IsNumber high m b → Says (first ∷ n ∷ m ∷ []) (say a b)) → Told (first ∷ words) x.0
-pair_told first low high say words x e none some says =
-    option_and_then_some (λ a. number_at high a.1 >>= λ b. Some (say a.0 b.0, b.1)) (number_at low words) x e (λ a is_a e_b.
-    option_and_then_some (λ b. Some (say a.0 b.0, b.1)) (number_at high a.1) x e_b (λ b is_b e_said.
-    let n = number_takes low words a is_a in
-    let m = number_takes high a.1 b is_b in
+two_told : {A B : Type 0} (Is : List ℕ → A → Type 0) (reads : List ℕ → Option A) → ((word : List ℕ) (it : A) → reads word ≡ Some it → Is word it)
+    → (Also : List ℕ → B → Type 0) (others : List ℕ → Option B) → ((word : List ℕ) (it : B) → others word ≡ Some it → Also word it)
+    → (first : List ℕ) (say : A → B → Command) (words : List (List ℕ)) (x : Command × List (List ℕ)) → two_at reads others say words ≡ Some x → x.1 ≡ [] → first ≢ []
+    → ((n m : List ℕ) (a : A) (b : B) → Is n a → Also m b → Says (first ∷ n ∷ m ∷ []) (say a b)) → Told (first ∷ words) x.0
+unfolding two_at
+two_told Is reads sound Also others also_sound first say words x e none some says =
+    option_and_then_some (λ a. read_at others a.1 >>= λ b. Some (say a.0 b.0, b.1)) (read_at reads words) x e (λ a is_a e_b.
+    option_and_then_some (λ b. Some (say a.0 b.0, b.1)) (read_at others a.1) x e_b (λ b is_b e_said.
+    let n = word_read Is reads sound words a is_a in
+    let m = word_read Also others also_sound a.1 b is_b in
     let said = some_pair_parts (say a.0 b.0) x.0 b.1 x.1 e_said in
     told_at first words (n.word ∷ m.word ∷ []) (say a.0 b.0) x.0 (then_words n.word n.first (then_words m.word m.first (said.1 ∙ none))) said.0
-    (says n.word m.word a.0 b.0 n.number m.number, (some, (n.number.some, (m.number.some, tt))))))
-
-next_told : (words : List (List ℕ)) (x : Command × List (List ℕ)) → next_at words ≡ Some x → x.1 ≡ [] → Told (codes "next" ∷ words) x.0
-unfolding next_at
-next_told words x e none =
-    pair_told (codes "next") (2 ^ 32) (2 ^ 32) (λ seat limit. NextCommand seat limit) words x e none (λ empty. absurd cc) (λ s l seat limit a b. (s, l, refl, a, b))
-
-seek_told : (words : List (List ℕ)) (x : Command × List (List ℕ)) → seek_at words ≡ Some x → x.1 ≡ [] → Told (codes "seek" ∷ words) x.0
-unfolding seek_at
-seek_told words x e none =
-    pair_told (codes "seek") (2 ^ 32) (2 ^ 64) (λ seat count. SeekCommand seat count) words x e none (λ empty. absurd cc) (λ s n seat count a b. (s, n, refl, a, b))
-
-leave_told : (words : List (List ℕ)) (x : Command × List (List ℕ)) → leave_at words ≡ Some x → x.1 ≡ [] → Told (codes "leave" ∷ words) x.0
-unfolding leave_at
-leave_told words x e none =
-    option_and_then_some (λ seat. Some (LeaveCommand seat.0, seat.1)) (number_at (2 ^ 32) words) x e (λ seat is_seat e_said.
-    let s = number_takes (2 ^ 32) words seat is_seat in
-    let said = some_pair_parts (LeaveCommand seat.0) x.0 seat.1 x.1 e_said in
-    told_at (codes "leave") words (s.word ∷ []) (LeaveCommand seat.0) x.0 (then_words s.word s.first (said.1 ∙ none)) said.0
-    ((s.word, refl, s.number), (λ empty. absurd cc, (s.number.some, tt))))
+    (says n.word m.word a.0 b.0 n.it m.it, (some, (n.some, (m.some, tt))))))
 
 bare_told : (word : List ℕ) (said : Command) (words : List (List ℕ)) (x : Command × List (List ℕ)) → word ≢ [] → Says (word ∷ []) said → Some (said, words) ≡ Some x → x.1 ≡ []
     → Told (word ∷ words) x.0
@@ -384,12 +317,18 @@ rest_told kind.Body words x e none = bare_told (codes "body") BodyCommand words 
 rest_told kind.Gate words x e none = bare_told (codes "gate") GateCommand words x (λ empty. absurd cc) refl e none
 rest_told kind.Open words x e none = bare_told (codes "open") OpenCommand words x (λ empty. absurd cc) refl e none
 rest_told kind.Pixel words x e none = pixel_told words x e none
-rest_told kind.Fail words x e none = fail_told words x e none
-rest_told kind.Stop words x e none = stop_told words x e none
-rest_told kind.Join words x e none = join_told words x e none
-rest_told kind.Next words x e none = next_told words x e none
-rest_told kind.Seek words x e none = seek_told words x e none
-rest_told kind.Leave words x e none = leave_told words x e none
+rest_told kind.Fail words x e none =
+    one_told (IsNumber (2 ^ 64)) (number_of (2 ^ 64)) (number_is (2 ^ 64)) (codes "fail") (λ calls. FailCommand calls) words x e none (λ empty. absurd cc) (λ n calls a. (n, refl, a))
+rest_told kind.Stop words x e none =
+    two_told (IsNumber (2 ^ 64)) (number_of (2 ^ 64)) (number_is (2 ^ 64)) IsFill fill_of fill_is (codes "stop") (λ calls fill. StopCommand calls fill) words x e none (λ empty. absurd cc) (λ n f calls fill a b. (n, f, refl, a, b))
+rest_told kind.Join words x e none =
+    one_told IsStart start_of start_is (codes "join") (λ start. JoinCommand start) words x e none (λ empty. absurd cc) (λ w start a. (w, refl, a))
+rest_told kind.Next words x e none =
+    two_told (IsNumber (2 ^ 32)) (number_of (2 ^ 32)) (number_is (2 ^ 32)) (IsNumber (2 ^ 32)) (number_of (2 ^ 32)) (number_is (2 ^ 32)) (codes "next") (λ seat limit. NextCommand seat limit) words x e none (λ empty. absurd cc) (λ s l seat limit a b. (s, l, refl, a, b))
+rest_told kind.Seek words x e none =
+    two_told (IsNumber (2 ^ 32)) (number_of (2 ^ 32)) (number_is (2 ^ 32)) (IsNumber (2 ^ 64)) (number_of (2 ^ 64)) (number_is (2 ^ 64)) (codes "seek") (λ seat count. SeekCommand seat count) words x e none (λ empty. absurd cc) (λ s n seat count a b. (s, n, refl, a, b))
+rest_told kind.Leave words x e none =
+    one_told (IsNumber (2 ^ 32)) (number_of (2 ^ 32)) (number_is (2 ^ 32)) (codes "leave") (λ seat. LeaveCommand seat) words x e none (λ empty. absurd cc) (λ s seat a. (s, refl, a))
 
 -- what a line is read as is what its words say
 pub command_told : (words : List (List ℕ)) (command : Command) → command_at words ≡ Some command → Told words command

@@ -1,5 +1,5 @@
 -- Reading the words of a line from the first to the last.
-use Rattle.std.specs.Prelude.{◌≡◌, ℕ, ◌^◌, ◌==◌, ◌&&◌, nat_lt, List, [], ◌∷◌, ◌++◌, length, codes, Option, Some, None, option_and_then, Result, Ok, Err, if◌then◌else◌}
+use Rattle.std.specs.Prelude.{◌≡◌, ◌⊎◌, ℕ, ◌^◌, ◌==◌, ◌&&◌, nat_lt, List, [], ◌∷◌, ◌++◌, length, codes, Option, Some, None, option_and_then, Result, Ok, Err, if◌then◌else◌}
 use Rattle.std.specs.List.{slice_split, list_all, list_any}
 use Rattle.std.specs.Char.{is_ascii_digit}
 use Rattle.std.specs.Str.{bytes_eq}
@@ -55,12 +55,16 @@ number_of limit [] = None
 number_of limit (digit ∷ digits) =
     if list_all is_ascii_digit (digit ∷ digits) && nat_lt (decimal (digit ∷ digits)) limit then Some (decimal (digit ∷ digits)) else None
 
--- the next word, a number
-unfoldable pub number_at : ℕ → List (List ℕ) → Option (ℕ × List (List ℕ))
-number_at limit words = do
+-- the next word, as what it's read
+unfoldable pub read_at : {A : Type 0} → (List ℕ → Option A) → List (List ℕ) → Option (A × List (List ℕ))
+read_at reads words = do
   word ← word_at words
-  n ← number_of limit word.0
-  Some (n, word.1)
+  it ← reads word.0
+  Some (it, word.1)
+
+-- the next word, a number below the limit
+abbrev pub number_at : ℕ → List (List ℕ) → Option (ℕ × List (List ℕ))
+number_at limit words = read_at (number_of limit) words
 
 -- the next word, a name
 unfoldable pub name_at : List (List ℕ) → Option (List ℕ × List (List ℕ))
@@ -144,62 +148,21 @@ fill_of word =
     else if bytes_eq word (codes "now") then Some fills.Now
     else byte_told (decode_sized word 1)
 
--- the next word, a fill
-unfoldable pub fill_at : List (List ℕ) → Option (Fill × List (List ℕ))
-fill_at words = do
-  word ← word_at words
-  fill ← fill_of word.0
-  Some (fill, word.1)
-
--- what follows `fail`
-unfoldable pub fail_at : List (List ℕ) → Option (Command × List (List ℕ))
-fail_at words = do
-  calls ← number_at (2 ^ 64) words
-  Some (FailCommand calls.0, calls.1)
-
--- what follows `stop`
-unfoldable pub stop_at : List (List ℕ) → Option (Command × List (List ℕ))
-stop_at words = do
-  calls ← number_at (2 ^ 64) words
-  fill ← fill_at calls.1
-  Some (StopCommand calls.0 fill.0, fill.1)
-
 -- the start that a word names
 unfoldable pub start_of : List ℕ → Option Start
 start_of word = if bytes_eq word (codes "live") then Some starts.Live else (number_of (2 ^ 64) word >>= λ count. Some (starts.At count))
 
--- the next word, a start
-unfoldable pub start_at : List (List ℕ) → Option (Start × List (List ℕ))
-start_at words = do
-  word ← word_at words
-  start ← start_of word.0
-  Some (start, word.1)
+-- what follows the first word of a line of two words, and of one of three
+unfoldable pub one_at : {A : Type 0} → (List ℕ → Option A) → (A → Command) → List (List ℕ) → Option (Command × List (List ℕ))
+one_at reads say words = do
+  it ← read_at reads words
+  Some (say it.0, it.1)
 
--- what follows `join`
-unfoldable pub join_at : List (List ℕ) → Option (Command × List (List ℕ))
-join_at words = do
-  start ← start_at words
-  Some (JoinCommand start.0, start.1)
-
--- what follows `next`
-unfoldable pub next_at : List (List ℕ) → Option (Command × List (List ℕ))
-next_at words = do
-  seat ← number_at (2 ^ 32) words
-  limit ← number_at (2 ^ 32) seat.1
-  Some (NextCommand seat.0 limit.0, limit.1)
-
--- what follows `seek`
-unfoldable pub seek_at : List (List ℕ) → Option (Command × List (List ℕ))
-seek_at words = do
-  seat ← number_at (2 ^ 32) words
-  count ← number_at (2 ^ 64) seat.1
-  Some (SeekCommand seat.0 count.0, count.1)
-
--- what follows `leave`
-unfoldable pub leave_at : List (List ℕ) → Option (Command × List (List ℕ))
-leave_at words = do
-  seat ← number_at (2 ^ 32) words
-  Some (LeaveCommand seat.0, seat.1)
+unfoldable pub two_at : {A B : Type 0} → (List ℕ → Option A) → (List ℕ → Option B) → (A → B → Command) → List (List ℕ) → Option (Command × List (List ℕ))
+two_at reads others say words = do
+  it ← read_at reads words
+  other ← read_at others it.1
+  Some (say it.0 other.0, other.1)
 
 -- what follows a line's first word, and the words that it leaves
 abbrev pub rest_at : Kind → List (List ℕ) → Option (Command × List (List ℕ))
@@ -210,28 +173,16 @@ rest_at kind.Body words = Some (BodyCommand, words)
 rest_at kind.Gate words = Some (GateCommand, words)
 rest_at kind.Open words = Some (OpenCommand, words)
 rest_at kind.Pixel words = pixel_at words
-rest_at kind.Fail words = fail_at words
-rest_at kind.Stop words = stop_at words
-rest_at kind.Join words = join_at words
-rest_at kind.Next words = next_at words
-rest_at kind.Seek words = seek_at words
-rest_at kind.Leave words = leave_at words
+rest_at kind.Fail words = one_at (number_of (2 ^ 64)) (λ calls. FailCommand calls) words
+rest_at kind.Stop words = two_at (number_of (2 ^ 64)) fill_of (λ calls fill. StopCommand calls fill) words
+rest_at kind.Join words = one_at start_of (λ start. JoinCommand start) words
+rest_at kind.Next words = two_at (number_of (2 ^ 32)) (number_of (2 ^ 32)) (λ seat limit. NextCommand seat limit) words
+rest_at kind.Seek words = two_at (number_of (2 ^ 32)) (number_of (2 ^ 64)) (λ seat count. SeekCommand seat count) words
+rest_at kind.Leave words = one_at (number_of (2 ^ 32)) (λ seat. LeaveCommand seat) words
 
 -- a line of this kind takes memory
 abbrev pub KindTakesMemory : Kind → Type 0
-KindTakesMemory kind.New = Unit {0}
-KindTakesMemory kind.Host = Unit {0}
-KindTakesMemory kind.Take = ⊥
-KindTakesMemory kind.Body = ⊥
-KindTakesMemory kind.Gate = ⊥
-KindTakesMemory kind.Open = ⊥
-KindTakesMemory kind.Pixel = ⊥
-KindTakesMemory kind.Fail = ⊥
-KindTakesMemory kind.Stop = ⊥
-KindTakesMemory kind.Join = ⊥
-KindTakesMemory kind.Next = ⊥
-KindTakesMemory kind.Seek = ⊥
-KindTakesMemory kind.Leave = ⊥
+KindTakesMemory it = (it ≡ kind.New) ⊎ (it ≡ kind.Host)
 
 -- a whole line leaves no word
 abbrev pub ended : Command × List (List ℕ) → Option Command

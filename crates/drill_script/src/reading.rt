@@ -5,7 +5,7 @@ ghost use Rattle.std.specs.Char.{is_ascii_digit};
 ghost use Rattle.std.specs.List.{list_all, list_any};
 ghost use Rattle.hex.specs.Hex.{decode_sized};
 ghost use Rattle.drill_script.specs.Grammar.{Command, command_of, Spells, TakesMemory};
-ghost use Rattle.drill_script.specs.Reading.{parts, Reads, ReadsInMemory, GivesLine, KindTakesMemory, command_at, number_of, number_at, name_at, joined_at, hex_at, new_at, host_at, pixel_at, byte_told, fill_of, fill_at, fail_at, stop_at, start_of, start_at, join_at, next_at, seek_at, leave_at, rest_at};
+ghost use Rattle.drill_script.specs.Reading.{parts, Reads, ReadsInMemory, GivesLine, KindTakesMemory, command_at, number_of, number_at, name_at, joined_at, hex_at, new_at, host_at, pixel_at, byte_told, fill_of, start_of, read_at, rest_at};
 
 use crate::fault::LineFault;
 use crate::line::{DeskLine, Fill, Line, Start};
@@ -28,21 +28,21 @@ fn number(word: &[u8]) -> Option<u64>
     str::from_utf8(word).ok()?.parse().ok()
 }
 
-#[tactic(auto, unfolding(crate::specs::Reading::number_at))]
+#[tactic(auto, unfolding(crate::specs::Reading::read_at))]
 fn u64_word(words: &mut Words) -> Result<u64, LineFault>
     ensures { Reads (λ n. n) result words.new (number_at (2 ^ 64) words.old) }
 {
     number(words.word()?).ok_or(LineFault::Bad)
 }
 
-#[tactic(auto, unfolding(crate::specs::Reading::number_at))]
+#[tactic(auto, unfolding(crate::specs::Reading::read_at))]
 fn u32_word(words: &mut Words) -> Result<u32, LineFault>
     ensures { Reads (λ n. n) result words.new (number_at (2 ^ 32) words.old) }
 {
     u32::try_from(u64_word(words)?).map_err(|_| LineFault::Bad)
 }
 
-#[tactic(auto, unfolding(crate::specs::Reading::number_at))]
+#[tactic(auto, unfolding(crate::specs::Reading::read_at))]
 fn u16_word(words: &mut Words) -> Result<u16, LineFault>
     ensures { Reads (λ n. n) result words.new (number_at (2 ^ 16) words.old) }
 {
@@ -147,28 +147,11 @@ fn named_fill(word: &[u8]) -> Option<Fill>
     }
 }
 
-#[tactic(auto, unfolding(crate::specs::Reading::fill_at))]
+#[tactic(auto, unfolding(crate::specs::Reading::read_at))]
 fn fill_word(words: &mut Words) -> Result<Fill, LineFault>
-    ensures { Reads (λ fill. fill) result words.new (fill_at words.old) }
+    ensures { Reads (λ fill. fill) result words.new (read_at fill_of words.old) }
 {
     named_fill(words.word()?).ok_or(LineFault::Bad)
-}
-
-#[tactic(auto, unfolding(crate::specs::Reading::fail_at))]
-fn fail_line(words: &mut Words) -> Result<Line, LineFault>
-    ensures { Reads command_of result words.new (fail_at words.old) }
-{
-    let calls = u64_word(words)?;
-    Ok(Line::OnDesk(DeskLine::Fail { calls }))
-}
-
-#[tactic(auto, unfolding(crate::specs::Reading::stop_at))]
-fn stop_line(words: &mut Words) -> Result<Line, LineFault>
-    ensures { Reads command_of result words.new (stop_at words.old) }
-{
-    let calls = u64_word(words)?;
-    let fill = fill_word(words)?;
-    Ok(Line::OnDesk(DeskLine::Stop { calls, fill }))
 }
 
 // The start that a word names.
@@ -182,47 +165,14 @@ fn named_start(word: &[u8]) -> Option<Start>
     }
 }
 
-#[tactic(auto, unfolding(crate::specs::Reading::start_at))]
+#[tactic(auto, unfolding(crate::specs::Reading::read_at))]
 fn start_word(words: &mut Words) -> Result<Start, LineFault>
-    ensures { Reads (λ start. start) result words.new (start_at words.old) }
+    ensures { Reads (λ start. start) result words.new (read_at start_of words.old) }
 {
     named_start(words.word()?).ok_or(LineFault::Bad)
 }
 
-#[tactic(auto, unfolding(crate::specs::Reading::join_at))]
-fn join_line(words: &mut Words) -> Result<Line, LineFault>
-    ensures { Reads command_of result words.new (join_at words.old) }
-{
-    let start = start_word(words)?;
-    Ok(Line::OnDesk(DeskLine::Join { start }))
-}
-
-#[tactic(auto, unfolding(crate::specs::Reading::next_at))]
-fn next_line(words: &mut Words) -> Result<Line, LineFault>
-    ensures { Reads command_of result words.new (next_at words.old) }
-{
-    let seat = u32_word(words)?;
-    let limit = u32_word(words)?;
-    Ok(Line::OnDesk(DeskLine::Next { seat, limit }))
-}
-
-#[tactic(auto, unfolding(crate::specs::Reading::seek_at))]
-fn seek_line(words: &mut Words) -> Result<Line, LineFault>
-    ensures { Reads command_of result words.new (seek_at words.old) }
-{
-    let seat = u32_word(words)?;
-    let count = u64_word(words)?;
-    Ok(Line::OnDesk(DeskLine::Seek { seat, count }))
-}
-
-#[tactic(auto, unfolding(crate::specs::Reading::leave_at))]
-fn leave_line(words: &mut Words) -> Result<Line, LineFault>
-    ensures { Reads command_of result words.new (leave_at words.old) }
-{
-    let seat = u32_word(words)?;
-    Ok(Line::OnDesk(DeskLine::Leave { seat }))
-}
-
+#[tactic(auto, unfolding(crate::specs::Reading::one_at, crate::specs::Reading::two_at))]
 fn rest_of_line(alloc: Global, kind: Kind, words: &mut Words) -> Result<Line, LineFault>
     ensures read { ReadsInMemory command_of result words.new (rest_at kind words.old) }
     ensures memory { result ≡ Err LineFault.NoMemory → KindTakesMemory kind }
@@ -235,12 +185,33 @@ fn rest_of_line(alloc: Global, kind: Kind, words: &mut Words) -> Result<Line, Li
         Kind::Gate => Ok(Line::OnDesk(DeskLine::Gate)),
         Kind::Open => Ok(Line::Open),
         Kind::Pixel => pixel_line(words),
-        Kind::Fail => fail_line(words),
-        Kind::Stop => stop_line(words),
-        Kind::Join => join_line(words),
-        Kind::Next => next_line(words),
-        Kind::Seek => seek_line(words),
-        Kind::Leave => leave_line(words),
+        Kind::Fail => {
+            let calls = u64_word(words)?;
+            Ok(Line::OnDesk(DeskLine::Fail { calls }))
+        }
+        Kind::Stop => {
+            let calls = u64_word(words)?;
+            let fill = fill_word(words)?;
+            Ok(Line::OnDesk(DeskLine::Stop { calls, fill }))
+        }
+        Kind::Join => {
+            let start = start_word(words)?;
+            Ok(Line::OnDesk(DeskLine::Join { start }))
+        }
+        Kind::Next => {
+            let seat = u32_word(words)?;
+            let limit = u32_word(words)?;
+            Ok(Line::OnDesk(DeskLine::Next { seat, limit }))
+        }
+        Kind::Seek => {
+            let seat = u32_word(words)?;
+            let count = u64_word(words)?;
+            Ok(Line::OnDesk(DeskLine::Seek { seat, count }))
+        }
+        Kind::Leave => {
+            let seat = u32_word(words)?;
+            Ok(Line::OnDesk(DeskLine::Leave { seat }))
+        }
     }
 }
 
