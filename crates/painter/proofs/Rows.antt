@@ -212,3 +212,18 @@ written pixels line bytes start n from fits len colors =
       len = len ∙ part;
       colors = λ k lt. colors k (omega arith) ∙ ap (λ (m : ℕ). host_color (pixel_at (take m (drop (4 * from) bytes)) k)) (range_len (4 * from) (4 * n));
     }
+
+-- where the places in front have a colour, so have those to the end of the part behind them that is
+-- given it
+pub filled_further : (row line : List Pixel) (start end : ℕ) (color : Color) → start ≤ end → end ≤ length row → length line ≡ end - start
+    → ((k : ℕ) → k < start → pixel_color_at row k ≡ color) → ((k : ℕ) → k < end - start → pixel_color_at line k ≡ color)
+    → (k : ℕ) → k < end → pixel_color_at (put_mid start (end - start) row line) k ≡ color
+filled_further row line start end color order fits len before here k lt =
+    elim (cases_lt k start) [
+      | inl low ↦ ap color_of (below_part start (end - start) row line k black_pixel (omega (arith, fits, order)) low) ∙ before k low
+      | inr high ↦
+          let at : k ≡ start + (k - start) = omega (arith, high) in
+          ap (λ (i : ℕ). pixel_color_at (put_mid start (end - start) row line) i) at
+          ∙ ap color_of (in_part start (end - start) row line (k - start) black_pixel (omega (arith, fits, order)) (omega (arith, len, lt, high)))
+          ∙ here (k - start) (omega (arith, lt, high))
+    ]

@@ -7,7 +7,7 @@ ghost use Rattle.pixel_format.specs.Format.{host_format};
 ghost use Rattle.rect_codec.specs.Picture.{is_in, raw_picture, copied_picture};
 
 use crate::pixel::Pixel;
-use crate::row::{fill_row, paint_row};
+use crate::row::{TILE, fill_row, paint_row};
 use rfb_wire::Area;
 
 /// Paints a Raw rectangle (RFC 6143, section 7.7.1), row by row.
@@ -27,8 +27,9 @@ pub(crate) fn paint_raw(pixels: &mut [Pixel], width: u16, area: Area, bytes: &[u
     }
 }
 
-/// Gives the places of an area one colour.
-pub(crate) fn fill_area(pixels: &mut [Pixel], width: u16, area: Area, pixel: Pixel)
+// Gives the places of an area one colour, row by row.
+#[inline(always)]
+fn fill_rows(pixels: &mut [Pixel], width: u16, area: Area, pixel: Pixel, at_once: bool)
     requires columns { area.x + area.w ≤ width }
     requires rows { (area.y + area.h) * width ≤ length pixels.old }
     ensures { (x y : ℕ) → x < width → color_in pixels.new width x y
@@ -38,7 +39,33 @@ pub(crate) fn fill_area(pixels: &mut [Pixel], width: u16, area: Area, pixel: Pix
     let (left, top) = (usize::from(area.x), usize::from(area.y));
     for row in 0..usize::from(area.h) {
         let start = (top + row) * width + left;
-        fill_row(&mut pixels[start..start + w], pixel);
+        fill_row(&mut pixels[start..start + w], pixel, at_once);
+    }
+}
+
+// The same for wide areas: a function of its own, so that the one for small areas stays small.
+#[inline(never)]
+fn fill_wide_area(pixels: &mut [Pixel], width: u16, area: Area, pixel: Pixel)
+    requires columns { area.x + area.w ≤ width }
+    requires rows { (area.y + area.h) * width ≤ length pixels.old }
+    ensures { (x y : ℕ) → x < width → color_in pixels.new width x y
+        ≡ (if is_in area x y then color_of pixel else color_in pixels.old width x y) }
+{
+    fill_rows(pixels, width, area, pixel, true);
+}
+
+/// Gives the places of an area one colour.
+#[inline(always)]
+pub(crate) fn fill_area(pixels: &mut [Pixel], width: u16, area: Area, pixel: Pixel)
+    requires columns { area.x + area.w ≤ width }
+    requires rows { (area.y + area.h) * width ≤ length pixels.old }
+    ensures { (x y : ℕ) → x < width → color_in pixels.new width x y
+        ≡ (if is_in area x y then color_of pixel else color_in pixels.old width x y) }
+{
+    if usize::from(area.w) < TILE {
+        fill_rows(pixels, width, area, pixel, false);
+    } else {
+        fill_wide_area(pixels, width, area, pixel);
     }
 }
 

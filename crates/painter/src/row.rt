@@ -7,6 +7,12 @@ ghost use Rattle.painter.specs.Pixels.{color_of, pixel_color_at, pixel_at};
 use crate::pixel::Pixel;
 use pixel_format::Color;
 
+// How many places of a long row are filled at once.
+const AT_ONCE: usize = 32;
+
+/// How many places a row of a whole Hextile tile has.
+pub(crate) const TILE: usize = 16;
+
 /// The colour of a pixel.
 pub(crate) fn color_of_pixel(pixel: Pixel) -> Color
     ensures value { result ≡ color_of pixel }
@@ -51,11 +57,37 @@ pub(crate) fn paint_row(row: &mut [Pixel], bytes: &[u8])
     }
 }
 
-/// Gives a row of places one colour.
-pub(crate) fn fill_row(row: &mut [Pixel], pixel: Pixel)
+// Gives places one colour, one by one.
+fn fill_places(row: &mut [Pixel], pixel: Pixel)
     ensures { (k : ℕ) → k < length row.old → pixel_color_at row.new k ≡ color_of pixel }
 {
     for place in row.iter_mut() {
         *place = pixel;
+    }
+}
+
+// Gives a long row one colour, so many places at once that the compiler writes them by vectors.
+fn fill_long_row(row: &mut [Pixel], pixel: Pixel)
+    ensures { (k : ℕ) → k < length row.old → pixel_color_at row.new k ≡ color_of pixel }
+{
+    for k in 0..row.len() / AT_ONCE {
+        let start = k * AT_ONCE;
+        row[start..start + AT_ONCE].copy_from_slice(&[pixel; AT_ONCE]);
+    }
+    let filled = row.len() / AT_ONCE * AT_ONCE;
+    fill_places(&mut row[filled..], pixel);
+}
+
+/// Gives a row of places one colour, one by one or, where it is worth that, many at once.
+#[inline(always)]
+pub(crate) fn fill_row(row: &mut [Pixel], pixel: Pixel, at_once: bool)
+    ensures { (k : ℕ) → k < length row.old → pixel_color_at row.new k ≡ color_of pixel }
+{
+    if !at_once {
+        fill_places(row, pixel);
+    } else if let Some(tile) = row.as_mut_array::<TILE>() {
+        *tile = [pixel; TILE];
+    } else {
+        fill_long_row(row, pixel);
     }
 }

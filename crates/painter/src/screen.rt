@@ -168,6 +168,7 @@ impl Canvas for Screen {
 
     ghost picture = { color_at };
 
+    #[inline(always)]
     fn fill(&mut self, x: u16, y: u16, w: u16, h: u16, color: Color) {
         fill_area(
             &mut self.pixels,

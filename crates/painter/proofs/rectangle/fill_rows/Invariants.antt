@@ -1,7 +1,7 @@
 use Rattle.std.proofs.Common.{◌≡◌, ℕ, ◌<◌, cond}
 use Rattle.rect_codec.specs.Picture.{is_in}
 use Rattle.painter.specs.Pixels.{color_in, color_of}
-use Rattle.painter.proofs.rectangle.fill_area.Given as goal
+use Rattle.painter.proofs.rectangle.fill_rows.Given as goal
 
 -- the rows so far have the colour
 abbrev pub invariant-loop-row : goal.invariant-loop-row

@@ -4,7 +4,7 @@ use Rattle.std.proofs.Math.Nat.{mul-le-mul_left}
 use Rattle.pixel_format.specs.Canvas.{Picture}
 use Rattle.painter.specs.Pixels.{color_in, color_of}
 use Rattle.painter.proofs.Rows.{line_put, row_below, range_len}
-use Rattle.painter.proofs.rectangle.fill_area.Goals as goal
+use Rattle.painter.proofs.rectangle.fill_rows.Goals as goal
 
 pub loop-row-preserved : goal.loop-row-preserved
 loop-row-preserved c = λ x y across.
