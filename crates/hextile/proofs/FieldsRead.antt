@@ -5,13 +5,13 @@ use Rattle.std.proofs.lemmas.Bool.{le-leb, leb-true, lt-ltb, ltb-true, and_parts
 use Rattle.std.proofs.lemmas.List.{length-take-le, length-drop, take-append-drop, take_at, drop_at, get_or-drop, get_or_at, drop-drop}
 use Rattle.pixel_format.specs.declared.Color.{Color}
 use Rattle.pixel_format.specs.Format.{Format, pixel_bytes}
-use Rattle.pixel_format.specs.Pixel.{pixel_color}
+use Rattle.pixel_format.specs.Pixel.{pixel_color, ArePixels}
 use Rattle.pixel_format.proofs.Readings.{one_number}
 use Rattle.hextile.specs.declared.fields.Subrectangle.{Subrectangle}
 use Rattle.hextile.specs.declared.fields.Mask.{Mask}
 use Rattle.hextile.specs.declared.fields.Named.{Named}
 use Rattle.hextile.specs.Grammar.{Tile, Raw, Parts, is_allowed, pixel_if, color_if, colors_of, head_bytes, background_in, foreground_in, count_in, subrectangle_bytes, subrectangle_of, is_inside, named_with}
-use Rattle.hextile.specs.Data.{background_of, foreground_of, IsNamed, IsAllowed, IsPixelIf, IsCountIf, ArePixels, LiesWithin, AreBytesOf, IsHead}
+use Rattle.hextile.specs.Data.{background_of, foreground_of, IsNamed, IsAllowed, IsPixelIf, IsCountIf, LiesWithin, AreBytesOf, IsHead}
 
 -- ---- lists
 

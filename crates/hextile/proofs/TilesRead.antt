@@ -5,6 +5,8 @@ use Rattle.pixel_format.specs.declared.Color.{Color}
 use Rattle.pixel_format.specs.Format.{Format, pixel_bytes}
 use Rattle.pixel_format.specs.Reading.{Got, Bad, ◌>>=◌, field, guard}
 use Rattle.pixel_format.proofs.Readings.{bind_got, guard_got, field_got, field-whole, true_or_false, field_front, one_number}
+use Rattle.pixel_format.proofs.Measured.{Front}
+use Rattle.pixel_format.proofs.Listed.{ListRead, none_read, one_more_read}
 use Rattle.hextile.specs.declared.fields.Subrectangle.{Subrectangle}
 use Rattle.hextile.specs.declared.fields.Mask.{Mask}
 use Rattle.hextile.specs.declared.fields.Named.{Named}
@@ -51,33 +53,16 @@ subrectangle_refused f colored w h s first more is leaves =
     subrectangle_whole f colored w h first more (bytes_length f colored s first is)
     ∙ rw (bytes_subrectangle f colored s first is, outside_is w h s leaves) refl
 
-pub record SubrectanglesRead (f : Format) (colored : Bool) (w h count : ℕ) (bytes : List ℕ) (ss : List Subrectangle) (rest : List ℕ) : Type 0 where
-  pub body : List ℕ
-  pub bytes_are : bytes ≡ body ++ rest
-  pub count_is : length ss ≡ count
-  pub are : AreSubrectangles f colored w h ss body
-
 pub subrectangles_read : (f : Format) (colored : Bool) (w h count : ℕ) (bytes : List ℕ) (ss : List Subrectangle) (rest : List ℕ)
-    → subrectangles_at f colored w h count bytes ≡ Got ss rest → SubrectanglesRead f colored w h count bytes ss rest
+    → subrectangles_at f colored w h count bytes ≡ Got ss rest → ListRead (AreSubrectangles f colored w h) count bytes ss rest
 unfolding subrectangles_at
-subrectangles_read f colored w h zero bytes ss rest e =
-    let none : ss ≡ [] = cc in
-    let all : bytes ≡ rest = cc in
-    rw none (record { body = []; bytes_are = all; count_is = refl; are = refl })
+subrectangles_read f colored w h zero bytes ss rest e = none_read (AreSubrectangles f colored w h) bytes ss rest e refl
 subrectangles_read f colored w h (suc count) bytes ss rest e =
     let b = bind_got (subrectangle_at f colored w h bytes) (λ first after. subrectangles_at f colored w h count after >>= λ others end. Got (first ∷ others) end) ss rest e in
     let r = subrectangle_read f colored w h bytes b.value b.rest b.first in
     let d = bind_got (subrectangles_at f colored w h count b.rest) (λ others end. Got (b.value ∷ others) end) ss rest b.then in
-    let others = subrectangles_read f colored w h count b.rest d.value d.rest d.first in
-    let last = d.then in
-    let is : ss ≡ b.value ∷ d.value = cc in
-    let rest_is : d.rest ≡ rest = cc in
-    rw is (record {
-      body = r.first ++ others.body;
-      bytes_are = r.bytes_are ∙ ap (λ z. r.first ++ z) (others.bytes_are ∙ ap (λ z. others.body ++ z) rest_is) ∙ sym (append_assoc r.first others.body rest);
-      count_is = ap suc others.count_is;
-      are = (r.first, others.body, refl, r.is, r.within, others.are);
-    })
+    one_more_read (AreSubrectangles f colored w h) (AreSubrectangles f colored w h) b.value d.value ss r.first bytes b.rest d.rest rest count r.bytes_are
+    (subrectangles_read f colored w h count b.rest d.value d.rest d.first) d.then (λ body are. (r.first, body, refl, r.is, r.within, are))
 
 pub subrectangles_again : (f : Format) (colored : Bool) (w h : ℕ) (ss : List Subrectangle) (body more : List ℕ) → AreSubrectangles f colored w h ss body
     → subrectangles_at f colored w h (length ss) (body ++ more) ≡ Got ss more
@@ -232,19 +217,10 @@ tile_again f w h before (Parts background foreground parts) first more is =
 
 -- ---- a rectangle
 
-pub record TilesRead (f : Format) (w h more : ℕ) (before : List Tile) (bytes : List ℕ) (ts : List Tile) (rest : List ℕ) : Type 0 where
-  pub body : List ℕ
-  pub bytes_are : bytes ≡ body ++ rest
-  pub count_is : length ts ≡ more
-  pub are : AreTiles f w h before ts body
-
 pub tiles_read : (f : Format) (w h more : ℕ) (before : List Tile) (bytes : List ℕ) (ts : List Tile) (rest : List ℕ) → length before + more ≡ tile_count w h
-    → tiles_at f w h (names_of before) more bytes ≡ Got ts rest → TilesRead f w h more before bytes ts rest
+    → tiles_at f w h (names_of before) more bytes ≡ Got ts rest → ListRead (AreTiles f w h before) more bytes ts rest
 unfolding tiles_at
-tiles_read f w h zero before bytes ts rest number e =
-    let none : ts ≡ [] = cc in
-    let all : bytes ≡ rest = cc in
-    rw none (record { body = []; bytes_are = all; count_is = refl; are = refl })
+tiles_read f w h zero before bytes ts rest number e = none_read (AreTiles f w h before) bytes ts rest e refl
 tiles_read f w h (suc more) before bytes ts rest number e =
     let named = names_of before in
     let n = tile_count w h - suc more in
@@ -255,15 +231,8 @@ tiles_read f w h (suc more) before bytes ts rest number e =
     let d = bind_got (tiles_at f w h (named_with named b.value) more b.rest) (λ others end. Got (b.value ∷ others) end) ts rest b.then in
     let second = ap (λ (k : Named). tiles_at f w h k more b.rest) (sym (names_more before b.value)) ∙ d.first in
     let others = tiles_read f w h more (b.value ∷ before) b.rest d.value d.rest (omega (arith, number)) second in
-    let last = d.then in
-    let is : ts ≡ b.value ∷ d.value = cc in
-    let rest_is : d.rest ≡ rest = cc in
-    rw is (record {
-      body = r.first ++ others.body;
-      bytes_are = r.bytes_are ∙ ap (λ z. r.first ++ z) (others.bytes_are ∙ ap (λ z. others.body ++ z) rest_is) ∙ sym (append_assoc r.first others.body rest);
-      count_is = ap suc others.count_is;
-      are = (r.first, others.body, refl, r.is, others.are);
-    })
+    one_more_read (AreTiles f w h before) (AreTiles f w h (b.value ∷ before)) b.value d.value ts r.first bytes b.rest d.rest rest more r.bytes_are
+    others d.then (λ body are. (r.first, body, refl, r.is, are))
 
 pub tiles_again : (f : Format) (w h more : ℕ) (before ts : List Tile) (body rest : List ℕ) → length before + more ≡ tile_count w h → length ts ≡ more
     → AreTiles f w h before ts body → tiles_at f w h (names_of before) more (body ++ rest) ≡ Got ts rest
@@ -282,13 +251,8 @@ tiles_again f w h (suc more) before (t ∷ ts) body rest number count are =
       tiles_again f w h more (t ∷ before) ts are.1 rest (omega (arith, number)) (omega arith) are.4,
     ) refl
 
-pub record DataRead (f : Format) (w h : ℕ) (bytes : List ℕ) (tiles : List Tile) (rest : List ℕ) : Type 0 where
-  pub front : List ℕ
-  pub bytes_are : bytes ≡ front ++ rest
-  pub is : IsData f w h front tiles
-
 pub data_read : (f : Format) (w h : ℕ) (bytes : List ℕ) (tiles : List Tile) (rest : List ℕ) → data_at f w h bytes ≡ Got tiles rest
-    → DataRead f w h bytes tiles rest
+    → Front (IsData f w h) bytes tiles rest
 unfolding data_at
 data_read f w h bytes tiles rest e =
     let r = tiles_read f w h (tile_count w h) [] bytes tiles rest (omega arith) e in

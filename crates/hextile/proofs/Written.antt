@@ -3,15 +3,16 @@ use Rattle.std.proofs.Common.{◌≡◌, ℕ, ◌+◌, ◌*◌, ◌-◌, ◌<◌
 use mir.Val.{bool_byte}
 use Rattle.std.specs.List.{flat_map}
 use Rattle.std.proofs.lemmas.List.{append-nil, take_more, map-append}
-use Rattle.std.proofs.lemmas.Grind.{flat_map-append}
 use Rattle.pixel_format.specs.declared.Color.{Color}
 use Rattle.pixel_format.specs.Format.{Format}
-use Rattle.pixel_format.specs.Appending.{Appends, Grows}
+use Rattle.pixel_format.specs.Pixel.{IsPixel, ArePixels}
+use Rattle.pixel_format.specs.Appending.{Appends}
+use Rattle.pixel_format.proofs.Appends.{joined}
 use Rattle.hextile.specs.declared.fields.Mask.{Mask}
 use Rattle.hextile.specs.declared.fields.Subrectangle.{Subrectangle}
 use Rattle.hextile.specs.declared.cover.Part.{Part}
 use Rattle.hextile.specs.Grammar.{mask_of}
-use Rattle.hextile.specs.Data.{IsPixel, IsPixelIf, IsCountIf, ArePixels, LiesWithin, AreBytesOf, AreSubrectangles, IsHead, AreRaw}
+use Rattle.hextile.specs.Data.{IsPixelIf, IsCountIf, LiesWithin, AreBytesOf, AreSubrectangles, IsHead, AreRaw}
 use Rattle.hextile.specs.Encoded.{shown_if, drawn, IsPart, IsWritten}
 
 -- the byte of a mask
@@ -60,10 +61,6 @@ at_most_one false = omega arith
 pub mask_small : (a b c d e : Bool) → mask_byte a b c d e < 32
 mask_small a b c d e = omega (arith, at_most_one a, at_most_one b, at_most_one c, at_most_one d, at_most_one e)
 
--- nothing
-pub grows_none : (old : List ℕ) → Grows old old
-grows_none old = record { bytes = []; is = sym (append-nil old); are = tt }
-
 -- a pixel that is there or not
 pub pixel_there : (f : Format) (there : Bool) (color : Color) (old new : List ℕ) → there ≡ true → Appends (IsPixel f color) old new
     → Appends (IsPixelIf f there (shown_if there color)) old new
@@ -82,7 +79,7 @@ pub head_appended : (f : Format) (m : Mask) (background foreground : Color) (cou
     → Appends (IsHead f m (shown_if m.background background) (shown_if m.foreground foreground) (cond m.subrectangles count 0)) old new
 head_appended f m background foreground count old first between new a b d = record {
   bytes = a.bytes ++ (b.bytes ++ d.bytes);
-  is = d.is ∙ ap (λ z. z ++ d.bytes) (b.is ∙ ap (λ z. z ++ b.bytes) a.is) ∙ append_assoc (old ++ a.bytes) b.bytes d.bytes ∙ append_assoc old a.bytes (b.bytes ++ d.bytes);
+  is = joined old a.bytes (b.bytes ++ d.bytes) first new a.is (joined first b.bytes d.bytes between new b.is d.is);
   are = record { first = a.bytes; second = b.bytes; number = d.bytes; head_is = refl; background_is = a.are; foreground_is = b.are; count_is = d.are };
 }
 
@@ -105,7 +102,7 @@ part_appended f colored s old between new is pixel added =
     let rows = is.rows in
     record {
       bytes = pixel.bytes ++ (s.x * 16 + s.y) ∷ ((s.w - 1) * 16 + (s.h - 1)) ∷ [];
-      is = added ∙ ap (λ z. z ++ (s.x * 16 + s.y) ∷ ((s.w - 1) * 16 + (s.h - 1)) ∷ []) pixel.is ∙ append_assoc old pixel.bytes ((s.x * 16 + s.y) ∷ ((s.w - 1) * 16 + (s.h - 1)) ∷ []);
+      is = joined old pixel.bytes ((s.x * 16 + s.y) ∷ ((s.w - 1) * 16 + (s.h - 1)) ∷ []) between new pixel.is added;
       are = record {
         pixel = pixel.bytes;
         corner = s.x * 16 + s.y;
@@ -133,44 +130,15 @@ parts_more f colored w h parts k d old between new less is before last =
     ap (map (drawn colored)) (take_more parts k d less) ∙ map-append (drawn colored) (take k parts) (get_or parts k d ∷ []) in
     record {
       bytes = before.bytes ++ last.bytes;
-      is = last.is ∙ ap (λ z. z ++ last.bytes) before.is ∙ append_assoc old before.bytes last.bytes;
+      is = joined old before.bytes last.bytes between new before.is last.is;
       are = subst (λ (ss : List Subrectangle). AreSubrectangles f colored w h ss (before.bytes ++ last.bytes)) (sym all)
           (subrectangles_more f colored w h (map (drawn colored) (take k parts)) (drawn colored (get_or parts k d)) before.bytes last.bytes before.are last.are
           (record { columns = is.columns; rows = is.rows }));
     }
 
--- one more of a list, each of which has its bytes
-pub mapped_more : {A : Type 0} (g : A → List ℕ) (all : List A) (k : ℕ) (d : A) (old between new : List ℕ) → k < length all
-    → between ≡ old ++ flat_map g (take k all) → new ≡ between ++ g (get_or all k d) → new ≡ old ++ flat_map g (take (k + 1) all)
-mapped_more g all k d old between new lt before last =
-    let one : flat_map g (get_or all k d ∷ []) ≡ g (get_or all k d) = append-nil (g (get_or all k d)) in
-    let more : flat_map g (take (k + 1) all) ≡ flat_map g (take k all) ++ g (get_or all k d) =
-    ap (flat_map g) (take_more all k d lt) ∙ flat_map-append g (take k all) (get_or all k d ∷ []) ∙ ap (λ z. flat_map g (take k all) ++ z) one in
-    last ∙ ap (λ z. z ++ g (get_or all k d)) before ∙ append_assoc old (flat_map g (take k all)) (g (get_or all k d)) ∙ ap (λ z. old ++ z) (sym more)
-
 pub flat_map-map : {A B : Type 0} (g : B → List ℕ) (m : A → B) (all : List A) → flat_map (λ a. g (m a)) all ≡ flat_map g (map m all)
 flat_map-map g m [] = refl
 flat_map-map g m (a ∷ all) = ap (λ z. g (m a) ++ z) (flat_map-map g m all)
-
--- pixels
-pixels_push : (f : Format) (colors : List Color) (color : Color) (body first : List ℕ) → ArePixels f colors body → IsPixel f color first
-    → ArePixels f (colors ++ color ∷ []) (body ++ first)
-pixels_push f [] color body first none is = (first, [], ap (λ z. z ++ first) none ∙ sym (append-nil first), is, refl)
-pixels_push f (head ∷ colors) color body first are is =
-    (are.0, are.1 ++ first, ap (λ z. z ++ first) are.2 ∙ append_assoc are.0 are.1 first, are.3, pixels_push f colors color are.1 first are.4 is)
-
-pub pixels_more : (f : Format) (colors : List Color) (k : ℕ) (d : Color) (old between new : List ℕ) → k < length colors
-    → Appends (ArePixels f (take k colors)) old between → Appends (IsPixel f (get_or colors k d)) between new
-    → Appends (ArePixels f (take (k + 1) colors)) old new
-pixels_more f colors k d old between new less before last = record {
-  bytes = before.bytes ++ last.bytes;
-  is = last.is ∙ ap (λ z. z ++ last.bytes) before.is ∙ append_assoc old before.bytes last.bytes;
-  are = subst (λ (cs : List Color). ArePixels f cs (before.bytes ++ last.bytes)) (sym (take_more colors k d less))
-      (pixels_push f (take k colors) (get_or colors k d) before.bytes last.bytes before.are last.are);
-}
-
-pub grows_more : (old between new : List ℕ) → Grows old between → Grows between new → Grows old new
-grows_more old between new a b = record { bytes = a.bytes ++ b.bytes; is = b.is ∙ ap (λ z. z ++ b.bytes) a.is ∙ append_assoc old a.bytes b.bytes; are = tt }
 
 -- a tile of parts
 pub parts_tile_appended : (f : Format) (w h : ℕ) (m : Mask) (background foreground : Color) (parts : List Part) (byte count : ℕ) (old first between new : List ℕ)
@@ -180,8 +148,7 @@ pub parts_tile_appended : (f : Format) (w h : ℕ) (m : Mask) (background foregr
     → Appends (IsWritten f w h m background foreground parts) old new
 parts_tile_appended f w h m background foreground parts byte count old first between new mask_is small count_is added head body = record {
   bytes = byte ∷ (head.bytes ++ body.bytes);
-  is = body.is ∙ ap (λ z. z ++ body.bytes) (head.is ∙ ap (λ z. z ++ head.bytes) added) ∙ append_assoc (old ++ byte ∷ []) head.bytes body.bytes
-      ∙ append_assoc old (byte ∷ []) (head.bytes ++ body.bytes);
+  is = joined old (byte ∷ []) (head.bytes ++ body.bytes) first new added (joined first head.bytes body.bytes between new head.is body.is);
   are = record {
     byte = byte;
     head = head.bytes;
@@ -200,6 +167,6 @@ pub raw_tile_appended : (f : Format) (w h : ℕ) (colors : List Color) (old firs
 unfolding mask_of
 raw_tile_appended f w h colors old first new places added pixels = record {
   bytes = 1 ∷ pixels.bytes;
-  is = pixels.is ∙ ap (λ z. z ++ pixels.bytes) added ∙ append_assoc old (1 ∷ []) pixels.bytes;
+  is = joined old (1 ∷ []) pixels.bytes first new added pixels.is;
   are = record { byte = 1; pixels = pixels.bytes; bytes_are = refl; raw = refl; places = places; pixels_are = pixels.are };
 }

@@ -2,8 +2,8 @@
 -- format, the rectangle's size, bytes, and the tiles that they say.
 use Rattle.std.specs.Prelude.{◌≡◌, ℕ, ◌+◌, ◌*◌, ◌/◌, ◌%◌, ◌<◌, ◌≤◌, ◌⊎◌, List, [], ◌∷◌, ◌++◌, length, Option, Some, None, Bool, true, false}
 use Rattle.pixel_format.specs.declared.Color.{Color}
-use Rattle.pixel_format.specs.Format.{Format, pixel_bytes}
-use Rattle.pixel_format.specs.Pixel.{pixel_color}
+use Rattle.pixel_format.specs.Format.{Format}
+use Rattle.pixel_format.specs.Pixel.{IsPixel, ArePixels}
 use Rattle.hextile.specs.declared.fields.Subrectangle.{Subrectangle}
 use Rattle.hextile.specs.declared.fields.Mask.{Mask}
 use Rattle.hextile.specs.Tiles.{tile_count, tile_width, tile_height}
@@ -39,11 +39,6 @@ pub record IsAllowed (before : List Tile) (byte : ℕ) (m : Mask) : Type 0 where
 
 -- ---- fields
 
--- bytes of a pixel
-pub record IsPixel (f : Format) (color : Color) (bytes : List ℕ) : Type 0 where
-  pub size : length bytes ≡ pixel_bytes f
-  pub color_is : color ≡ pixel_color f bytes
-
 -- a pixel that is there or not
 abbrev pub IsPixelIf : Format → Bool → Option Color → List ℕ → Type 0
 IsPixelIf f true None bytes = ⊥
@@ -54,12 +49,6 @@ IsPixelIf f false color bytes = (color ≡ None) × (bytes ≡ [])
 abbrev pub IsCountIf : Bool → ℕ → List ℕ → Type 0
 IsCountIf true count bytes = bytes ≡ count ∷ []
 IsCountIf false count bytes = (count ≡ 0) × (bytes ≡ [])
-
--- pixels one behind the other
-abbrev pub ArePixels : Format → List Color → List ℕ → Type 0
-ArePixels f [] bytes = bytes ≡ []
-ArePixels f (color ∷ colors) bytes =
-    (first : List ℕ) × (rest : List ℕ) × (bytes ≡ first ++ rest) × IsPixel f color first × ArePixels f colors rest
 
 -- the subrectangle lies within a tile of w by h
 pub record LiesWithin (w h : ℕ) (s : Subrectangle) : Type 0 where

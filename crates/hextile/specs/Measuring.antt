@@ -1,7 +1,7 @@
 -- What is left of data that are judged field by field.
-use Rattle.std.specs.Prelude.{ℕ, suc, ◌-◌, ◌*◌, List, length, Option, Some, None, Result, Ok, Err, Bool, ◌||◌}
+use Rattle.std.specs.Prelude.{ℕ, suc, ◌-◌, ◌*◌, List, Option, Some, None, Result, Bool, ◌||◌}
 use Rattle.pixel_format.specs.Format.{Format, pixel_bytes}
-use Rattle.pixel_format.specs.Reading.{Reading, Got, More, Bad, ◌>>=◌, field}
+use Rattle.pixel_format.specs.Reading.{Reading, Got, ◌>>=◌, field, measured_as}
 use Rattle.hextile.specs.declared.fields.Mask.{Mask}
 use Rattle.hextile.specs.declared.fields.Named.{Named}
 use Rattle.hextile.specs.declared.fault.Measure.{Measure}
@@ -66,6 +66,4 @@ go_on f (Some stage) bytes = resume f stage bytes
 
 -- what a reading of so many bytes is to one who measures: the length of what is whole
 abbrev pub measured : {A : Type 0} → ℕ → Reading A Fault → Result ℕ Measure
-measured size (Got x rest) = Ok (size - length rest)
-measured size More = Err answers.NeedMore
-measured size (Bad fault) = Err answers.Bad
+measured size r = measured_as answers.NeedMore answers.Bad size r

@@ -9,7 +9,7 @@ ghost use Rattle.hextile.specs.Encoded.{AreTileColors, IsPart, IsUniform, IsCove
 
 use crate::position::TileArea;
 use arrayvec::ArrayVec;
-use pixel_format::Color;
+use pixel_format::{Color, end_of_color, same};
 
 /// The most subrectangles that a tile may have.
 pub(crate) const MOST_PARTS: usize = 255;
@@ -39,28 +39,6 @@ impl Default for Part {
             color: BLACK,
         }
     }
-}
-
-// Each channel is compared, whatever the others are, so that many colours are compared at once.
-pub(crate) fn same(one: Color, other: Color) -> bool
-    ensures { IsTrue result ↔ (one ≡ other) }
-{
-    (one.r == other.r) & (one.g == other.g) & (one.b == other.b)
-}
-
-// How many places are looked at together.
-const AT_ONCE: usize = 8;
-
-// Whether all of so many places have the colour. It looks at each, and stops at none.
-fn are_all(colors: &[Color], color: Color) -> bool
-    requires { length colors.now ≡ 8 }
-    ensures { IsTrue result → (k : ℕ) → k < length colors.now → nth colors.now k ≡ color }
-{
-    let mut all = true;
-    for one in colors {
-        all &= same(*one, color);
-    }
-    all
 }
 
 /// The colours of a tile's places, by rows, from those of a rectangle whose rows have w places.
@@ -99,7 +77,7 @@ pub(crate) fn most_voted(colors: &[Color]) -> Background
     ensures place { result.place < length colors.now }
     ensures only { result.is_only ≡ true → (k : ℕ) → k < length colors.now → nth colors.now k ≡ nth colors.now result.place }
 {
-    let run = first_run(colors);
+    let run = end_of_color(colors, 0, colors[0]);
     let mut place = 0;
     let mut votes = run;
     for k in run..colors.len() {
@@ -116,23 +94,6 @@ pub(crate) fn most_voted(colors: &[Color]) -> Background
         place: if run == colors.len() { 0 } else { place },
         is_only: run == colors.len(),
     }
-}
-
-// How many places have the first one's colour before one has another.
-fn first_run(colors: &[Color]) -> usize
-    requires { 0 < length colors.now }
-    ensures within { result ≤ length colors.now }
-    ensures same { (k : ℕ) → k < result → nth colors.now k ≡ nth colors.now 0 }
-{
-    let first = colors[0];
-    let mut end = 0;
-    'many: while colors.len() - end >= AT_ONCE && are_all(&colors[end..end + AT_ONCE], first) {
-        end += AT_ONCE;
-    }
-    'one: while end < colors.len() && same(colors[end], first) {
-        end += 1;
-    }
-    end
 }
 
 // How many places from an index on, at most so many, have the colour.

@@ -7,11 +7,11 @@ ghost use Rattle.hextile.specs.declared.cover.Part.{Part};
 ghost use Rattle.hextile.specs.Grammar.{Tile};
 ghost use Rattle.hextile.specs.Encoded.{IsMaskFor, known_behind, IsKnown, ShowsTile, Shows};
 
-use crate::cover::{Part, Parts, cover, most_voted, same, tile_colors};
+use crate::cover::{Part, Parts, cover, most_voted, tile_colors};
 use crate::fields::{Mask, pixel_size};
 use crate::position::{count_tiles, tile_area};
 use crate::writing::{Known, append_parts_tile, append_raw_tile};
-use pixel_format::{Color, NoMemory, PixelFormat};
+use pixel_format::{Color, NoMemory, PixelFormat, same, whole_or_none};
 
 const NOTHING_KNOWN: Known = Known {
     background: None,
@@ -172,9 +172,6 @@ pub fn encode(
     ensures err { OnErr result (bytes.new.items ≡ bytes.old.items) }
 {
     let start = bytes.len();
-    if let Err(fault) = append_tiles(format, w, h, colors, bytes) {
-        bytes.truncate(start);
-        return Err(fault);
-    }
-    Ok(())
+    let appended = append_tiles(format, w, h, colors, bytes);
+    whole_or_none(appended, start, bytes)
 }

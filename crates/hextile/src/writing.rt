@@ -6,7 +6,7 @@ ghost use Rattle.pixel_format.specs.Pixel.{IsWithin, pixel_of};
 ghost use Rattle.pixel_format.specs.Appending.{Appends, Grows};
 ghost use Rattle.std.specs.List.{flat_map};
 ghost use Rattle.hextile.specs.Grammar.{mask_of};
-ghost use Rattle.hextile.specs.Data.{IsPixel, IsPixelIf, ArePixels, AreBytesOf, AreSubrectangles, IsHead, AreRaw};
+ghost use Rattle.hextile.specs.Data.{IsPixelIf, AreBytesOf, AreSubrectangles, IsHead, AreRaw};
 ghost use Rattle.hextile.specs.Encoded.{shown_if, drawn, pixel_if, part_bytes, mask_number, parts_tile_bytes, IsPart, IsWritten};
 
 use crate::cover::Part;
@@ -33,40 +33,6 @@ fn byte_of(mask: Mask) -> u8
         + 16 * mask.colored as u8
 }
 
-// Appends the pixel of a colour.
-fn append_pixel(format: &PixelFormat, color: Color, bytes: &mut Vec<u8>) -> Result<(), NoMemory>
-    requires { IsWithin format.now color }
-    ensures ok { OnOk result (Appends (IsPixel format.now color) bytes.old.items bytes.new.items) }
-    ensures written { OnOk result (bytes.new.items ≡ bytes.old.items ++ pixel_of format.now color) }
-    ensures grows { Grows bytes.old.items bytes.new.items }
-{
-    match format.bytes() {
-        1 => append_sized(format, 1, color, bytes),
-        2 => append_sized(format, 2, color, bytes),
-        _ => append_sized(format, 4, color, bytes),
-    }
-}
-
-// The same for pixels of so many bytes, which the compiler knows where it is called.
-#[inline(always)]
-fn append_sized(
-    format: &PixelFormat,
-    size: usize,
-    color: Color,
-    bytes: &mut Vec<u8>,
-) -> Result<(), NoMemory>
-    requires bytes { size ≡ pixel_bytes format.now }
-    requires small { size ≤ 4 }
-    requires within { IsWithin format.now color }
-    ensures ok { OnOk result (Appends (IsPixel format.now color) bytes.old.items bytes.new.items) }
-    ensures written { OnOk result (bytes.new.items ≡ bytes.old.items ++ pixel_of format.now color) }
-    ensures grows { Grows bytes.old.items bytes.new.items }
-{
-    let mut pixel = [0; 4];
-    format.put(color, &mut pixel[..size]);
-    bytes.extend_from_slice(&pixel[..size])
-}
-
 // Appends the pixel of a colour, if it is to be there.
 fn append_pixel_if(
     format: &PixelFormat,
@@ -80,7 +46,7 @@ fn append_pixel_if(
     ensures grows { Grows bytes.old.items bytes.new.items }
 {
     if there {
-        return append_pixel(format, color, bytes);
+        return format.append_pixel(color, bytes);
     }
     Ok(())
 }
@@ -146,45 +112,6 @@ fn append_parts(
     Ok(())
 }
 
-// Appends pixels.
-fn append_pixels(
-    format: &PixelFormat,
-    colors: &[Color],
-    bytes: &mut Vec<u8>,
-) -> Result<(), NoMemory>
-    requires { All (IsWithin format.now) colors.now }
-    ensures ok { OnOk result (Appends (ArePixels format.now colors.now) bytes.old.items bytes.new.items) }
-    ensures written { OnOk result (bytes.new.items ≡ bytes.old.items ++ flat_map (pixel_of format.now) colors.now) }
-    ensures grows { Grows bytes.old.items bytes.new.items }
-{
-    match format.bytes() {
-        1 => append_pixels_sized(format, 1, colors, bytes),
-        2 => append_pixels_sized(format, 2, colors, bytes),
-        _ => append_pixels_sized(format, 4, colors, bytes),
-    }
-}
-
-// The same for pixels of so many bytes: a loop for each size.
-#[inline(always)]
-fn append_pixels_sized(
-    format: &PixelFormat,
-    size: usize,
-    colors: &[Color],
-    bytes: &mut Vec<u8>,
-) -> Result<(), NoMemory>
-    requires bytes { size ≡ pixel_bytes format.now }
-    requires small { size ≤ 4 }
-    requires within { All (IsWithin format.now) colors.now }
-    ensures ok { OnOk result (Appends (ArePixels format.now colors.now) bytes.old.items bytes.new.items) }
-    ensures written { OnOk result (bytes.new.items ≡ bytes.old.items ++ flat_map (pixel_of format.now) colors.now) }
-    ensures grows { Grows bytes.old.items bytes.new.items }
-{
-    for color in colors {
-        append_sized(format, size, *color, bytes)?;
-    }
-    Ok(())
-}
-
 /// Appends a tile of parts over a background. Want of memory may leave some of the bytes.
 pub(crate) fn append_parts_tile(
     format: &PixelFormat,
@@ -229,6 +156,6 @@ pub(crate) fn append_raw_tile(
     ensures grows { Grows bytes.old.items bytes.new.items }
 {
     bytes.push(1)?;
-    append_pixels(format, colors, bytes)?;
+    format.append_pixels(colors, bytes)?;
     Ok(())
 }

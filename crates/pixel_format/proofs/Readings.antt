@@ -1,5 +1,5 @@
 -- Laws of reading: what a reading that gave a value says of its parts.
-use Rattle.std.proofs.Common.{◌≡◌, ℕ, ◌<◌, ◌≤◌, ◌+◌, ◌⊎◌, inl, inr, Bool, true, false, List, [], ◌∷◌, ◌++◌, slice_index, length, take, drop, nat_lt, ◌-◌, refl, sym, subst, ap, arith}
+use Rattle.std.proofs.Common.{◌≡◌, ℕ, ◌<◌, ◌≤◌, ◌+◌, ◌⊎◌, inl, inr, Bool, true, false, List, [], ◌∷◌, ◌++◌, slice_index, length, take, drop, nat_lt, ◌-◌, refl, sym, subst, ap, ◌∙◌, arith}
 use Rattle.std.proofs.lemmas.Bool.{ltb-true, ltb-false, le-ltb, lt-ltb}
 use Rattle.std.proofs.lemmas.List.{take-append-le, drop-append-le, take_at, drop_at, take_all, drop_all, append-nil, take-append-drop, length-take-le, append_assoc, length-append}
 use Rattle.std.proofs.Math.Seq.{take-append-add, drop-append-add}
@@ -98,6 +98,28 @@ field-whole n f more e =
 pub field-short : {E : Type 0} (n : ℕ) (bytes : List ℕ) → length bytes < n → field {E = E} n bytes ≡ More
 unfolding field
 field-short n bytes short = rw (lt-ltb (length bytes) n short) refl
+
+-- bytes that are skipped, whatever they are: some of them, all of them, and none
+pub skip_more : {A E : Type 0} (x : A) (j : ℕ) (taken more : List ℕ)
+    → (field {E = E} (length taken + j) (taken ++ more) >>= λ skipped rest. Got x rest) ≡ (field j more >>= λ skipped rest. Got x rest)
+unfolding field
+skip_more x j taken more = elim (true_or_false (nat_lt (length more) j)) [
+  | inl t ↦
+      (let few = ltb-true (length more) j t in
+      let longer : nat_lt (length (taken ++ more)) (length taken + j) ≡ true = lt-ltb (length (taken ++ more)) (length taken + j) (omega (arith, length-append taken more)) in
+      rw (t, longer) refl)
+  | inr t ↦
+      (let enough = ltb-false (length more) j t in
+      let longer : nat_lt (length (taken ++ more)) (length taken + j) ≡ false = le-ltb (length (taken ++ more)) (length taken + j) (omega (arith, length-append taken more)) in
+      rw (t, longer, drop-append-add taken more j) refl)
+]
+
+pub skip_whole : {A E : Type 0} (x : A) (n : ℕ) (taken : List ℕ) → length taken ≡ n → (field {E = E} n taken >>= λ skipped rest. Got x rest) ≡ Got x []
+skip_whole x n taken is =
+    ap (λ (b : List ℕ). field n b >>= λ skipped rest. Got x rest) (sym (append-nil taken)) ∙ rw (field-whole n taken [] is) refl
+
+pub skip_waits : {A E : Type 0} (x : A) (n : ℕ) → 0 < n → (field {E = E} n [] >>= λ skipped rest. Got x rest) ≡ More
+skip_waits x n some = rw (field-short n [] some) refl
 
 pub field_local : (E : Type 0) (n : ℕ) → IsLocal (field {E = E} n)
 unfolding field

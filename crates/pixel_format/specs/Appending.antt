@@ -1,5 +1,5 @@
 -- What is appended to a list of bytes.
-use Rattle.std.specs.Prelude.{◌≡◌, ℕ, List, ◌++◌}
+use Rattle.std.specs.Prelude.{◌≡◌, ℕ, List, [], ◌∷◌, ◌++◌}
 
 -- bytes of which this holds stand behind the old ones
 pub record Appends (P : List ℕ → Type 0) (old new : List ℕ) : Type 0 where
@@ -10,3 +10,8 @@ pub record Appends (P : List ℕ → Type 0) (old new : List ℕ) : Type 0 where
 -- some bytes
 abbrev pub Grows : List ℕ → List ℕ → Type 0
 Grows = Appends (λ _. Unit {0})
+
+-- bytes of each of a list, one behind the other
+abbrev pub AreEach : {A : Type 0} → (A → List ℕ → Type 0) → List A → List ℕ → Type 0
+AreEach Is [] bytes = bytes ≡ []
+AreEach Is (a ∷ others) bytes = (first : List ℕ) × (rest : List ℕ) × (bytes ≡ first ++ rest) × Is a first × AreEach Is others rest

@@ -1,7 +1,8 @@
 -- The colour of a pixel (RFC 6143, section 7.4).
-use Rattle.std.specs.Prelude.{ℕ, ◌+◌, ◌*◌, ◌/◌, ◌%◌, ◌^◌, ◌≤◌, List, [], ◌∷◌, if◌then◌else◌}
+use Rattle.std.specs.Prelude.{◌≡◌, ℕ, ◌+◌, ◌*◌, ◌/◌, ◌%◌, ◌^◌, ◌≤◌, List, [], ◌∷◌, length, if◌then◌else◌}
 use Rattle.pixel_format.specs.declared.Color.{Color}
 use Rattle.std.specs.Int.{bytes_low_first, bytes_high_first}
+use Rattle.pixel_format.specs.Appending.{AreEach}
 use Rattle.pixel_format.specs.Format.{Channel, Format, host_format, pixel_bytes}
 
 -- the number that bytes are, the lowest byte first
@@ -29,6 +30,15 @@ pixel_color f bytes = record {
   g = channel_value f.green (pixel_number f bytes);
   b = channel_value f.blue (pixel_number f bytes);
 }
+
+-- bytes of a pixel of the colour
+pub record IsPixel (f : Format) (color : Color) (bytes : List ℕ) : Type 0 where
+  pub size : length bytes ≡ pixel_bytes f
+  pub color_is : color ≡ pixel_color f bytes
+
+-- pixels one behind the other
+abbrev pub ArePixels : Format → List Color → List ℕ → Type 0
+ArePixels f = AreEach (IsPixel f)
 
 -- the colour of a pixel of a host
 abbrev pub host_color : List ℕ → Color

@@ -1,7 +1,6 @@
 //! Why a pixel format is refused.
 
-ghost use Rattle.std.specs.Prelude.{◌≡◌};
-ghost use Rattle.pixel_format.specs.Fault.{fault_number};
+ghost use Rattle.pixel_format.specs.Fault.{IsNumber, format_faults};
 
 use thiserror::Error;
 
@@ -11,7 +10,7 @@ use thiserror::Error;
 pub enum FormatFault {
     /// A pixel has other than 8, 16 or 32 bits.
     #[error("a pixel of other than 8, 16 or 32 bits")]
-    BadBits,
+    BadBits = 1,
     /// Pixels are no colours, but places of a colour map.
     #[error("not a true-color format")]
     NoTrueColor,
@@ -29,14 +28,8 @@ pub enum FormatFault {
 impl FormatFault {
     /// The fault's number, by which it is printed: 1 to 5, in the order of the tests.
     pub fn number(&self) -> u8
-        ensures { result ≡ fault_number self.now }
+        ensures { IsNumber format_faults self.now result }
     {
-        match self {
-            FormatFault::BadBits => 1,
-            FormatFault::NoTrueColor => 2,
-            FormatFault::BadMax => 3,
-            FormatFault::FieldOutside => 4,
-            FormatFault::FieldsOverlap => 5,
-        }
+        *self as u8
     }
 }

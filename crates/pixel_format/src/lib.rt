@@ -2,12 +2,16 @@
 //! section 7.4).
 #![tactic(auto)]
 
+mod appending;
 mod canvas;
+mod colors;
 mod fault;
 mod format;
 mod laws;
 
+pub use appending::whole_or_none;
 pub use canvas::Canvas;
+pub use colors::{end_of_color, same};
 pub use fault::FormatFault;
 pub use format::{PixelFormat, host_pixel};
 pub use laws::{valid_formats, written_as_read};

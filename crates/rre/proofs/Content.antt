@@ -7,6 +7,8 @@ use Rattle.pixel_format.specs.Format.{Format, pixel_bytes}
 use Rattle.pixel_format.specs.Pixel.{pixel_color}
 use Rattle.pixel_format.specs.Reading.{Got, Bad, ◌>>=◌, field, guard}
 use Rattle.pixel_format.proofs.Readings.{bind_got, guard_got, field_got, field-whole, true_or_false, field_front}
+use Rattle.pixel_format.proofs.Measured.{Front}
+use Rattle.pixel_format.proofs.Listed.{ListRead, none_read, one_more_read}
 use Rattle.pixel_format.specs.Number.{u32_at}
 use Rattle.rre.specs.declared.data.Subrectangle.{Subrectangle}
 use Rattle.rre.specs.Grammar.{Content, Fault, Outside, head_bytes, subrectangle_bytes, subrectangle_of, is_inside, subrectangle_at, subrectangles_at, data_at}
@@ -95,33 +97,16 @@ subrectangle_refused f w h s first more is leaves =
     subrectangle_whole f w h first more (bytes_length f s first is)
     ∙ rw (bytes_subrectangle f s first is, outside_is w h s leaves) refl
 
-record SubrectanglesRead (f : Format) (w h count : ℕ) (bytes : List ℕ) (ss : List Subrectangle) (rest : List ℕ) : Type 0 where
-  pub body : List ℕ
-  pub bytes_are : bytes ≡ body ++ rest
-  pub count_is : length ss ≡ count
-  pub are : AreSubrectangles f w h ss body
-
 subrectangles_read : (f : Format) (w h count : ℕ) (bytes : List ℕ) (ss : List Subrectangle) (rest : List ℕ) → subrectangles_at f w h count bytes ≡ Got ss rest
-    → SubrectanglesRead f w h count bytes ss rest
+    → ListRead (AreSubrectangles f w h) count bytes ss rest
 unfolding subrectangles_at
-subrectangles_read f w h zero bytes ss rest e =
-    let none : ss ≡ [] = cc in
-    let all : bytes ≡ rest = cc in
-    rw none (record { body = []; bytes_are = all; count_is = refl; are = refl })
+subrectangles_read f w h zero bytes ss rest e = none_read (AreSubrectangles f w h) bytes ss rest e refl
 subrectangles_read f w h (suc count) bytes ss rest e =
     let b = bind_got (subrectangle_at f w h bytes) (λ first after. subrectangles_at f w h count after >>= λ others end. Got (first ∷ others) end) ss rest e in
     let r = subrectangle_read f w h bytes b.value b.rest b.first in
     let d = bind_got (subrectangles_at f w h count b.rest) (λ others end. Got (b.value ∷ others) end) ss rest b.then in
-    let others = subrectangles_read f w h count b.rest d.value d.rest d.first in
-    let last = d.then in
-    let is : ss ≡ b.value ∷ d.value = cc in
-    let rest_is : d.rest ≡ rest = cc in
-    rw is (record {
-      body = r.first ++ others.body;
-      bytes_are = r.bytes_are ∙ ap (λ z. r.first ++ z) (others.bytes_are ∙ ap (λ z. others.body ++ z) rest_is) ∙ sym (append_assoc r.first others.body rest);
-      count_is = ap suc others.count_is;
-      are = (r.first, others.body, refl, r.is, r.within, others.are);
-    })
+    one_more_read (AreSubrectangles f w h) (AreSubrectangles f w h) b.value d.value ss r.first bytes b.rest d.rest rest count r.bytes_are
+    (subrectangles_read f w h count b.rest d.value d.rest d.first) d.then (λ body are. (r.first, body, refl, r.is, r.within, are))
 
 subrectangles_again : (f : Format) (w h : ℕ) (ss : List Subrectangle) (body more : List ℕ) → AreSubrectangles f w h ss body
     → subrectangles_at f w h (length ss) (body ++ more) ≡ Got ss more
@@ -178,13 +163,8 @@ head_pixel f head count pixel is = ap (drop 4) is.head_is ∙ drop_at is.number 
 
 -- ---- data
 
-pub record DataRead (f : Format) (w h : ℕ) (bytes : List ℕ) (content : Content) (rest : List ℕ) : Type 0 where
-  pub front : List ℕ
-  pub bytes_are : bytes ≡ front ++ rest
-  pub is : IsData f w h front content
-
 pub data_read : (f : Format) (w h : ℕ) (bytes : List ℕ) (content : Content) (rest : List ℕ) → data_at f w h bytes ≡ Got content rest
-    → DataRead f w h bytes content rest
+    → Front (IsData f w h) bytes content rest
 unfolding data_at
 data_read f w h bytes content rest e =
     let b = bind_got (field (head_bytes f) bytes) (λ head after. subrectangles_at f w h (u32_at head 0) after >>= λ ss end. Got (record { background = pixel_color f (drop 4 head); subrectangles = ss }) end) content rest e in

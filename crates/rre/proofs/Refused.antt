@@ -1,50 +1,18 @@
 -- What is refused has a subrectangle outside, and what is measured is data.
-use Rattle.std.proofs.Common.{◌≡◌, ℕ, zero, suc, ◌+◌, ◌-◌, ◌<◌, ◌≤◌, ◌⊎◌, inl, inr, Bool, true, false, List, [], ◌∷◌, ◌++◌, length, take, drop, refl, sym, ap, ◌∙◌, subst, arith, append_assoc, length-append, Ok, Err}
-use Rattle.std.specs.Prelude.{nat_lt, Result, IfOk}
-use Rattle.std.proofs.lemmas.List.{take_at}
+use Rattle.std.proofs.Common.{◌≡◌, ℕ, zero, suc, ◌<◌, inl, inr, List, [], ◌∷◌, ◌++◌, length, drop, refl, sym, ap, ◌∙◌, arith, append_assoc, Err}
 use Rattle.pixel_format.specs.Format.{Format}
 use Rattle.pixel_format.specs.Pixel.{pixel_color}
-use Rattle.pixel_format.specs.Reading.{Reading, Got, More, Bad, ◌>>=◌, field, guard}
-use Rattle.pixel_format.proofs.Readings.{field_got, true_or_false, field_front}
+use Rattle.pixel_format.specs.Reading.{Got, Bad, ◌>>=◌, field, guard}
+use Rattle.pixel_format.proofs.Readings.{field_got, field_front}
+use Rattle.pixel_format.proofs.Refusals.{bind_bad, field_never_bad, got_never_bad, guard_got_bad}
+use Rattle.pixel_format.proofs.Measured.{measured_bad}
 use Rattle.pixel_format.specs.Number.{u32_at}
 use Rattle.rre.specs.declared.data.Subrectangle.{Subrectangle}
-use Rattle.rre.specs.declared.fault.Measure.{Measure}
 use Rattle.rre.specs.declared.fault.Measure.TheVariants as answers
 use Rattle.rre.specs.Grammar.{Fault, Outside, head_bytes, subrectangle_bytes, subrectangle_of, is_inside, subrectangle_at, subrectangles_at, data_at}
-use Rattle.rre.specs.Data.{LiesWithin, AreBytesOf, AreSubrectangles, IsData, AreData, IsRefused}
+use Rattle.rre.specs.Data.{LiesWithin, AreBytesOf, AreSubrectangles, IsRefused}
 use Rattle.rre.specs.Measuring.{measured}
-use Rattle.rre.proofs.Content.{bytes_of_field, inside_is, subrectangle_read, head_is, data_read, data_again, refused_again}
-
--- ---- what a fault was met by
-
--- the first part, or what follows it
-record StopsAt {A B E : Type 0} (r : Reading A E) (f : A → List ℕ → Reading B E) (fault : E) : Type 0 where
-  pub value : A
-  pub rest : List ℕ
-  pub first : r ≡ Got value rest
-  pub then : f value rest ≡ Bad fault
-
-bind_bad : {A B E : Type 0} (r : Reading A E) (f : A → List ℕ → Reading B E) (fault : E) → (r >>= f) ≡ Bad fault
-    → (r ≡ Bad fault) ⊎ StopsAt r f fault
-bind_bad (Got x rest) f fault e = inr (record { value = x; rest = rest; first = refl; then = e })
-bind_bad More f fault e = absurd (cc)
-bind_bad (Bad g) f fault e =
-    let same : g ≡ fault = cc in
-    inl (ap (λ z. Bad z) same)
-
-field_never_bad : {E : Type 0} (n : ℕ) (bytes : List ℕ) (fault : E) → field n bytes ≡ Bad fault → ⊥
-unfolding field
-field_never_bad n bytes fault e = elim (true_or_false (nat_lt (length bytes) n)) [
-  | inl short ↦ (let e' = rw short at e in cc)
-  | inr long ↦ (let e' = rw long at e in cc)
-]
-
-guard_bad : {A E : Type 0} (b : Bool) (fault : E) (x : A) (rest : List ℕ) → guard b fault (Got x rest) ≡ Bad fault → b ≡ false
-guard_bad true fault x rest e = absurd (cc)
-guard_bad false fault x rest e = refl
-
-got_never_bad : {A E : Type 0} (x : A) (rest : List ℕ) (fault : E) → Got x rest ≡ Bad fault → ⊥
-got_never_bad x rest fault e = cc
+use Rattle.rre.proofs.Content.{bytes_of_field, inside_is, subrectangle_read, head_is}
 
 -- ---- subrectangles
 
@@ -63,7 +31,7 @@ subrectangle_bad f w h bytes e =
       | inl bad ↦ absurd (field_never_bad (subrectangle_bytes f) bytes Outside bad)
       | inr b ↦
           let k = field_front (subrectangle_bytes f) bytes b.value b.rest (field_got (subrectangle_bytes f) bytes b.value b.rest b.first) in
-          let out = guard_bad (is_inside w h (subrectangle_of f b.value)) Outside (subrectangle_of f b.value) b.rest b.then in
+          let out = guard_got_bad (is_inside w h (subrectangle_of f b.value)) Outside (subrectangle_of f b.value) b.rest b.then in
           record {
             field = b.value;
             more = b.rest;
@@ -143,52 +111,7 @@ refused_read f w h bytes e =
 one_fault : (fault : Fault) → fault ≡ Outside
 one_fault Outside = refl
 
-measured_bad : {A : Type 0} (size : ℕ) (r : Reading A Fault) → measured size r ≡ Err answers.Bad → r ≡ Bad Outside
-measured_bad size (Got x rest) e = absurd (cc)
-measured_bad size More e = absurd (cc)
-measured_bad size (Bad fault) e = ap (λ z. Bad z) (one_fault fault)
-
-record Measured {A : Type 0} (size n : ℕ) (r : Reading A Fault) : Type 0 where
-  pub value : A
-  pub rest : List ℕ
-  pub is : r ≡ Got value rest
-  pub length_is : n ≡ size - length rest
-
-measured_ok : {A : Type 0} (size n : ℕ) (r : Reading A Fault) → measured size r ≡ Ok n → Measured size n r
-measured_ok size n (Got x rest) e =
-    let is : n ≡ size - length rest = cc in
-    record { value = x; rest = rest; is = refl; length_is = is }
-measured_ok size n More e = absurd (cc)
-measured_ok size n (Bad fault) e = absurd (cc)
-
--- what has a length is data of that length
-pub measured_is_data : (f : Format) (w h n : ℕ) (bytes : List ℕ) → measured (length bytes) (data_at f w h bytes) ≡ Ok n
-    → (n ≤ length bytes) × AreData f w h (take n bytes)
-measured_is_data f w h n bytes e =
-    let m = measured_ok (length bytes) n (data_at f w h bytes) e in
-    let d = data_read f w h bytes m.value m.rest m.is in
-    let size : length bytes ≡ length d.front + length m.rest = ap length d.bytes_are ∙ length-append d.front m.rest in
-    let n_is : length d.front ≡ n = omega (arith, size, m.length_is) in
-    let front : take n bytes ≡ d.front = ap (take n) d.bytes_are ∙ take_at d.front m.rest n n_is in
-    (omega (arith, size, n_is), (m.value, subst (λ z. IsData f w h z m.value) (sym front) d.is))
-
--- and data have their length
-pub data_are_measured : (f : Format) (w h : ℕ) (bytes front more : List ℕ) → bytes ≡ front ++ more → AreData f w h front
-    → measured (length bytes) (data_at f w h bytes) ≡ Ok (length front)
-data_are_measured f w h bytes front more is known =
-    let size : length bytes ≡ length front + length more = ap length is ∙ length-append front more in
-    let n : length bytes - length more ≡ length front = omega (arith, size) in
-    ap (measured (length bytes)) (ap (data_at f w h) is ∙ data_again f w h front more known.0 known.1)
-    ∙ ap (λ z. Ok z) n
-
 pub measured_is_refused : (f : Format) (w h : ℕ) (bytes : List ℕ) → measured (length bytes) (data_at f w h bytes) ≡ Err answers.Bad → IsRefused f w h bytes
-measured_is_refused f w h bytes e = refused_read f w h bytes (measured_bad (length bytes) (data_at f w h bytes) e)
-
-pub refused_is_measured : (f : Format) (w h : ℕ) (bytes : List ℕ) → IsRefused f w h bytes → measured (length bytes) (data_at f w h bytes) ≡ Err answers.Bad
-refused_is_measured f w h bytes is = ap (measured (length bytes)) (refused_again f w h bytes is)
-
--- the same of whatever was answered
-pub if_measured : (f : Format) (w h : ℕ) (bytes : List ℕ) (r : Result ℕ Measure) → r ≡ measured (length bytes) (data_at f w h bytes)
-    → IfOk r (λ n. (n ≤ length bytes) × AreData f w h (take n bytes))
-if_measured f w h bytes (Ok n) e = measured_is_data f w h n bytes (sym e)
-if_measured f w h bytes (Err fault) e = tt
+measured_is_refused f w h bytes e =
+    let bad = measured_bad answers.NeedMore answers.Bad (length bytes) (data_at f w h bytes) (λ same. absurd (cc)) e in
+    refused_read f w h bytes (bad.1 ∙ ap (λ z. Bad z) (one_fault bad.0))

@@ -56,7 +56,7 @@ shown f colors w h background parts old new are picture written bytes = record {
       body = written.are.body;
       bytes_are = written.are.bytes_are;
       head_is = written.are.head_is;
-      background_is = sym written.are.background_is;
+      background_is = written.are.background_is;
       body_is = subrectangles_of f colors w h parts written.are.body are written.are.body_is;
     };
     bytes_are = append_cancel_left old written.bytes (data_bytes f (record { background = background; subrectangles = parts })) (sym written.is ∙ bytes);

@@ -3,8 +3,9 @@ use Rattle.std.specs.Prelude.{◌≡◌, ℕ, ◌+◌, ◌*◌, ◌<◌, ◌≤�
 use Rattle.std.specs.Int.{bytes_high_first}
 use Rattle.std.specs.List.{flat_map}
 use Rattle.pixel_format.specs.declared.Color.{Color}
-use Rattle.pixel_format.specs.Format.{Format, pixel_bytes}
+use Rattle.pixel_format.specs.Format.{Format}
 use Rattle.pixel_format.specs.Pixel.{pixel_color, pixel_of}
+use Rattle.pixel_format.specs.Appending.{AreEach}
 use Rattle.pixel_format.specs.Canvas.{Picture, Agree, rows_of}
 use Rattle.pixel_format.specs.Number.{u16_at}
 use Rattle.rre.specs.declared.data.Subrectangle.{Subrectangle}
@@ -64,10 +65,6 @@ pub record Reaches (colors : List Color) (w h : ℕ) (background : Color) (parts
 
 -- ---- what is appended
 
-pub record IsPixelOf (f : Format) (color : Color) (bytes : List ℕ) : Type 0 where
-  pub size : length bytes ≡ pixel_bytes f
-  pub color_is : pixel_color f bytes ≡ color
-
 -- the x, y, width and height of a subrectangle
 pub record IsAreaOf (s : Subrectangle) (bytes : List ℕ) : Type 0 where
   pub size : length bytes ≡ 8
@@ -78,9 +75,7 @@ pub record IsAreaOf (s : Subrectangle) (bytes : List ℕ) : Type 0 where
 
 -- subrectangles one behind the other
 abbrev pub AreBytesOfAll : Format → List Subrectangle → List ℕ → Type 0
-AreBytesOfAll f [] bytes = bytes ≡ []
-AreBytesOfAll f (s ∷ ss) bytes =
-    (first : List ℕ) × (rest : List ℕ) × (bytes ≡ first ++ rest) × AreBytesOf f s first × AreBytesOfAll f ss rest
+AreBytesOfAll f = AreEach (AreBytesOf f)
 
 -- a head, and subrectangles wherever they lie
 pub record IsWritten (f : Format) (background : Color) (parts : List Subrectangle) (bytes : List ℕ) : Type 0 where
@@ -89,5 +84,5 @@ pub record IsWritten (f : Format) (background : Color) (parts : List Subrectangl
   pub body : List ℕ
   pub bytes_are : bytes ≡ head ++ body
   pub head_is : IsHead f head (length parts) pixel
-  pub background_is : pixel_color f pixel ≡ background
+  pub background_is : background ≡ pixel_color f pixel
   pub body_is : AreBytesOfAll f parts body

@@ -1,7 +1,7 @@
 -- What is left of data that are judged field by field.
-use Rattle.std.specs.Prelude.{ℕ, suc, ◌-◌, List, length, Option, Some, None, Result, Ok, Err}
+use Rattle.std.specs.Prelude.{ℕ, suc, List, Option, Some, None, Result}
 use Rattle.pixel_format.specs.Format.{Format}
-use Rattle.pixel_format.specs.Reading.{Reading, Got, More, Bad, ◌>>=◌}
+use Rattle.pixel_format.specs.Reading.{Reading, Got, ◌>>=◌, measured_as}
 use Rattle.rre.specs.declared.fault.Measure.{Measure}
 use Rattle.rre.specs.declared.fault.Measure.TheVariants as answers
 use Rattle.rre.specs.declared.measuring.Measuring.{Measuring}
@@ -29,6 +29,4 @@ go_on f w h (Some stage) bytes = resume f w h stage bytes
 
 -- what a reading of so many bytes is to one who measures: the length of what is whole
 abbrev pub measured : {A : Type 0} → ℕ → Reading A Fault → Result ℕ Measure
-measured size (Got x rest) = Ok (size - length rest)
-measured size More = Err answers.NeedMore
-measured size (Bad fault) = Err answers.Bad
+measured size r = measured_as answers.NeedMore answers.Bad size r

@@ -8,44 +8,10 @@ ghost use Rattle.pixel_format.specs.Appending.{Appends, Grows};
 ghost use Rattle.std.specs.Int.{bytes_high_first};
 ghost use Rattle.std.specs.List.{flat_map};
 ghost use Rattle.rre.specs.Data.{AreBytesOf};
-ghost use Rattle.rre.specs.Encoded.{IsPixelOf, IsAreaOf, AreBytesOfAll, IsWritten, area_bytes, part_bytes, data_bytes};
+ghost use Rattle.rre.specs.Encoded.{IsAreaOf, AreBytesOfAll, IsWritten, area_bytes, part_bytes, data_bytes};
 
 use crate::data::Subrectangle;
 use pixel_format::{Color, NoMemory, PixelFormat};
-
-// Appends the pixel of a colour.
-fn append_pixel(format: &PixelFormat, color: Color, bytes: &mut Vec<u8>) -> Result<(), NoMemory>
-    requires { IsWithin format.now color }
-    ensures ok { OnOk result (Appends (IsPixelOf format.now color) bytes.old.items bytes.new.items) }
-    ensures written { OnOk result (bytes.new.items ≡ bytes.old.items ++ pixel_of format.now color) }
-    ensures grows { Grows bytes.old.items bytes.new.items }
-{
-    match format.bytes() {
-        1 => append_sized(format, 1, color, bytes),
-        2 => append_sized(format, 2, color, bytes),
-        _ => append_sized(format, 4, color, bytes),
-    }
-}
-
-// The same for pixels of so many bytes, which the compiler knows where it is called.
-#[inline(always)]
-fn append_sized(
-    format: &PixelFormat,
-    size: usize,
-    color: Color,
-    bytes: &mut Vec<u8>,
-) -> Result<(), NoMemory>
-    requires bytes { size ≡ pixel_bytes format.now }
-    requires small { size ≤ 4 }
-    requires within { IsWithin format.now color }
-    ensures ok { OnOk result (Appends (IsPixelOf format.now color) bytes.old.items bytes.new.items) }
-    ensures written { OnOk result (bytes.new.items ≡ bytes.old.items ++ pixel_of format.now color) }
-    ensures grows { Grows bytes.old.items bytes.new.items }
-{
-    let mut pixel = [0; 4];
-    format.put(color, &mut pixel[..size]);
-    bytes.extend_from_slice(&pixel[..size])
-}
 
 // The x, y, width and height of a subrectangle, in two bytes each.
 fn area_of(part: Subrectangle) -> [u8; 8]
@@ -70,7 +36,7 @@ fn append_part(
     ensures written { OnOk result (bytes.new.items ≡ bytes.old.items ++ part_bytes format.now part) }
     ensures grows { Grows bytes.old.items bytes.new.items }
 {
-    append_pixel(format, part.color, bytes)?;
+    format.append_pixel(part.color, bytes)?;
     bytes.extend_from_slice(&area_of(part))?;
     Ok(())
 }
@@ -116,7 +82,7 @@ pub(crate) fn append_data(
     ensures grows { Grows bytes.old.items bytes.new.items }
 {
     bytes.extend_from_slice(&four_bytes(parts.len() as u32))?;
-    append_pixel(format, background, bytes)?;
+    format.append_pixel(background, bytes)?;
     append_parts(format, parts, bytes)?;
     Ok(())
 }

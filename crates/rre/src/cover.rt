@@ -6,31 +6,9 @@ ghost use Rattle.rre.specs.Frequent.{is_color, count_of, counted, HasMajority};
 ghost use Rattle.pixel_format.specs.Canvas.{Agree, nth, rows_of};
 
 use crate::data::Subrectangle;
-use pixel_format::{Color, NoMemory};
+use pixel_format::{Color, NoMemory, end_of_color, same};
 use std::alloc::Global;
 use std::collections::BTreeMap;
-
-// Each channel is compared, whatever the others are, so that many colours are compared at once.
-fn same(one: Color, other: Color) -> bool
-    ensures { IsTrue result ↔ (one ≡ other) }
-{
-    (one.r == other.r) & (one.g == other.g) & (one.b == other.b)
-}
-
-// How many places are looked at together.
-const AT_ONCE: usize = 8;
-
-// Whether all of so many places have the colour. It looks at each, and stops at none.
-fn are_all(colors: &[Color], color: Color) -> bool
-    requires { length colors.now ≡ 8 }
-    ensures { IsTrue result → (k : ℕ) → k < length colors.now → nth colors.now k ≡ color }
-{
-    let mut all = true;
-    for one in colors {
-        all &= same(*one, color);
-    }
-    all
-}
 
 // The most colours that are counted. With more, the others are mostly no shorter to write in RRE.
 const MOST_COLORS: usize = 64;
@@ -49,23 +27,6 @@ fn count_more(counts: &mut Counts, color: Color, more: usize) -> Result<usize, N
     let count = counts.get(&key).copied().unwrap_or(0) + more;
     counts.insert(key, count)?;
     Ok(count)
-}
-
-// The first place from an index on that has another colour, or how many places there are.
-fn end_of_color(colors: &[Color], start: usize, color: Color) -> usize
-    requires { start ≤ length colors.now }
-    ensures reached { start ≤ result }
-    ensures within { result ≤ length colors.now }
-    ensures same { (k : ℕ) → start ≤ k → k < result → nth colors.now k ≡ color }
-{
-    let mut end = start;
-    'many: while colors.len() - end >= AT_ONCE && are_all(&colors[end..end + AT_ONCE], color) {
-        end += AT_ONCE;
-    }
-    'one: while end < colors.len() && same(colors[end], color) {
-        end += 1;
-    }
-    end
 }
 
 // The end of the run of one colour that begins at a place.

@@ -7,7 +7,7 @@ ghost use Rattle.rre.specs.Encoded.{Shows};
 
 use crate::append::append_data;
 use crate::cover::{background, cover};
-use pixel_format::{Color, NoMemory, PixelFormat};
+use pixel_format::{Color, NoMemory, PixelFormat, whole_or_none};
 use std::alloc::Global;
 
 // The colour of the background: black where there are no places.
@@ -50,10 +50,8 @@ fn append_few(
         return Ok(false);
     };
     let start = bytes.len();
-    if let Err(fault) = append_data(format, background, &parts, bytes) {
-        bytes.truncate(start);
-        return Err(fault);
-    }
+    let appended = append_data(format, background, &parts, bytes);
+    whole_or_none(appended, start, bytes)?;
     Ok(true)
 }
 

@@ -5,7 +5,8 @@ use Rattle.pixel_format.specs.Appending.{Appends}
 use Rattle.hextile.specs.declared.cover.Part.{Part}
 use Rattle.hextile.specs.Data.{AreSubrectangles}
 use Rattle.hextile.specs.Encoded.{drawn, part_bytes}
-use Rattle.hextile.proofs.Written.{parts_more, grows_more, mapped_more, flat_map-map}
+use Rattle.pixel_format.proofs.Appends.{grows_more, mapped_more}
+use Rattle.hextile.proofs.Written.{parts_more, flat_map-map}
 use Rattle.hextile.proofs.writing.append_parts.Goals as goal
 
 pub loop-part-preserved : goal.loop-part-preserved

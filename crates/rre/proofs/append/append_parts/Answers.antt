@@ -1,10 +1,12 @@
-use Rattle.rre.proofs.Appended.{parts_appended, parts_written}
+use Rattle.pixel_format.proofs.Appends.{each_more, mapped_more}
+use Rattle.rre.specs.Data.{AreBytesOf}
+use Rattle.rre.specs.Encoded.{part_bytes}
 use Rattle.rre.proofs.append.append_parts.Goals as goal
 
 pub loop-part-preserved : goal.loop-part-preserved
 loop-part-preserved c = record {
-  ok = parts_appended c.args.format.now c.args.parts.now c.loop-part.part-index _ c.args.bytes.now.items c.loop-part.bytes.items c.append_part.new.bytes.items
+  ok = each_more (AreBytesOf c.args.format.now) c.args.parts.now c.loop-part.part-index _ c.args.bytes.now.items c.loop-part.bytes.items c.append_part.new.bytes.items
       c.loop-part-test.true c.loop-part.invariant.ok c.in_ok-append_part.ensures.ok;
-  written = parts_written c.args.format.now c.args.parts.now c.loop-part.part-index _ c.args.bytes.now.items c.loop-part.bytes.items c.append_part.new.bytes.items
+  written = mapped_more (part_bytes c.args.format.now) c.args.parts.now c.loop-part.part-index _ c.args.bytes.now.items c.loop-part.bytes.items c.append_part.new.bytes.items
       c.loop-part-test.true c.loop-part.invariant.written c.in_ok-append_part.ensures.written;
 }

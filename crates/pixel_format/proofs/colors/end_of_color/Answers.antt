@@ -3,8 +3,8 @@ use Rattle.std.proofs.lemmas.Bool.{cases_lt}
 use Rattle.std.proofs.lemmas.List.{places, length-take, length-drop}
 use Rattle.pixel_format.specs.declared.Color.{Color}
 use Rattle.pixel_format.specs.Canvas.{nth}
-use Rattle.rre.proofs.cover.end_of_color.Invariants.{OneColor}
-use Rattle.rre.proofs.cover.end_of_color.Goals as goal
+use Rattle.pixel_format.proofs.colors.end_of_color.Invariants.{OneColor}
+use Rattle.pixel_format.proofs.colors.end_of_color.Goals as goal
 
 part : (colors : List Color) (from n i : ℕ) → i < n → nth (take n (drop from colors)) i ≡ nth colors (from + i)
 part colors from n i lt = search (rules, places)

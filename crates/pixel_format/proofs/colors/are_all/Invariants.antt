@@ -1,6 +1,6 @@
 use Rattle.std.proofs.Common.{◌≡◌, ℕ, ◌<◌, true}
 use Rattle.pixel_format.specs.Canvas.{nth}
-use Rattle.rre.proofs.cover.are_all.Given as goal
+use Rattle.pixel_format.proofs.colors.are_all.Given as goal
 
 -- if none so far differs
 abbrev pub invariant-loop-one : goal.invariant-loop-one
