@@ -3,7 +3,7 @@ use Rattle.std.proofs.Common.{◌≡◌, ℕ, ℤ, zero, suc, ◌+◌, ◌*◌, 
 use Rattle.std.specs.Prelude.{Bool, Result, Ok, Err}
 use Rattle.std.proofs.lemmas.List.{length-take-le, length-drop, take-append-drop, append-nil, drop_at}
 use Rattle.pixel_format.specs.Reading.{Got, field}
-use Rattle.pixel_format.proofs.Readings.{bind_got, FieldIs, field_got, field-whole, true_or_false, field_front, one_number, three_numbers}
+use Rattle.pixel_format.proofs.Readings.{bind_got, field_got, field-whole, true_or_false, field_front, one_number, three_numbers}
 use Rattle.pixel_format.proofs.Valid.{accepted_is, is_accepted, flag_some}
 use Rattle.pixel_format.specs.Format.{Format}
 use Rattle.pixel_format.specs.Written.{format_at, is_flag}

@@ -1,8 +1,8 @@
 -- Streams of messages, over any reading that is local: what is given adds up, and a stream has one
 -- reading.
-use Rattle.std.proofs.Common.{◌≡◌, ℕ, List, [], ◌∷◌, ◌++◌, length, refl, sym, ap, ◌∙◌, subst, arith, append_assoc}
+use Rattle.std.proofs.Common.{◌≡◌, ℕ, ◌+◌, ◌-◌, ◌<◌, List, [], ◌∷◌, ◌++◌, length, take, drop, refl, sym, ap, ◌∙◌, subst, arith, append_assoc, length-append}
 use Rattle.std.specs.List.{flat_map, AllByRecursion}
-use Rattle.std.proofs.lemmas.List.{append-nil, append_cancel_right, length-replicate}
+use Rattle.std.proofs.lemmas.List.{append-nil, append_cancel_right, length-replicate, take-append-drop, length-take-le, length-drop}
 use Rattle.std.specs.Prelude.{replicate}
 use Rattle.pixel_format.specs.Reading.{Reading, Got, More, Bad, IsLocal}
 use Rattle.client_wire.specs.declared.fault.WireFault.{WireFault}
@@ -152,3 +152,34 @@ stands_kept kept passed rest none s =
 
 pub stands_whole : (kept : List ℕ) → StandsFor kept 0 kept
 stands_whole kept = record { skipped = []; count = refl; is = sym (append-nil kept) }
+
+-- ---- bytes that are passed over
+
+-- where some of the bytes that are left pass, the others are left
+pub over_more : {A E : Type 0} (read : List ℕ → Reading A E) (over : ℕ → List ℕ → Reading A E)
+    → ((j : ℕ) (taken more : List ℕ) → over (length taken + j) (taken ++ more) ≡ over j more) → (bytes : List ℕ) (passed left n : ℕ) → n < left
+    → ((skipped more : List ℕ) → length skipped ≡ passed → read ((bytes ++ skipped) ++ more) ≡ over left more)
+    → (skipped more : List ℕ) → length skipped ≡ passed + n → read ((bytes ++ skipped) ++ more) ≡ over (left - n) more
+over_more read over skips bytes passed left n few link skipped more count =
+    let a : List ℕ = take passed skipped in
+    let b : List ℕ = drop passed skipped in
+    let both : a ++ b ≡ skipped = take-append-drop passed skipped in
+    let length_a : length a ≡ passed = length-take-le passed skipped (omega arith) in
+    let length_b : length b ≡ n = length-drop passed skipped ∙ omega arith in
+    let left_is : left ≡ length b + (left - n) = omega arith in
+    let stream : (bytes ++ skipped) ++ more ≡ (bytes ++ a) ++ (b ++ more) =
+    ap (λ z. (bytes ++ z) ++ more) (sym both) ∙ ap (λ z. z ++ more) (sym (append_assoc bytes a b)) ∙ append_assoc (bytes ++ a) b more in
+    ap read stream ∙ link a (b ++ more) length_a ∙ ap (λ k. over k (b ++ more)) left_is ∙ skips (left - n) b more
+
+-- where bytes pass, nothing is given
+pub pass_goes : {M G : Type 0} (read : List ℕ → Reading M WireFault) (give : M → List ℕ → List G) (bytes : List ℕ) (passed n : ℕ) (old : List G) (rest taken : List ℕ)
+    → StandsFor bytes passed rest → length taken ≡ n → Moves read give bytes (passed + n) old old (rest ++ taken)
+pass_goes read give bytes passed n old rest taken s is = record {
+  rest = rest ++ taken;
+  gives = gives_none read give old old (rest ++ taken) (rest ++ taken) refl refl;
+  stands = record {
+    skipped = s.skipped ++ taken;
+    count = rw length-append (omega (arith, s.count));
+    is = ap (λ z. z ++ taken) s.is ∙ append_assoc bytes s.skipped taken;
+  };
+}

@@ -1,11 +1,8 @@
 -- What a reader's turn does: what it keeps and counts says what the grammar says.
-use Rattle.std.proofs.Common.{◌≡◌, ℕ, ◌+◌, ◌-◌, ◌<◌, List, [], ◌∷◌, ◌++◌, length, take, drop, true, false, refl, sym, ap, ◌∙◌, inl, inr, arith, append_assoc, length-append}
-use Rattle.std.specs.Prelude.{nat_lt}
-use Rattle.std.proofs.lemmas.Bool.{ltb-true, ltb-false, lt-ltb, le-ltb}
-use Rattle.std.proofs.lemmas.List.{append-nil, drop_all, drop-append-le, take-append-drop, length-take-le, length-drop}
-use Rattle.std.proofs.Math.Seq.{drop-append-add}
-use Rattle.pixel_format.specs.Reading.{Got, More, Bad, field}
-use Rattle.pixel_format.proofs.Readings.{field-whole, field-short, true_or_false}
+use Rattle.std.proofs.Common.{◌≡◌, ℕ, ◌+◌, ◌-◌, ◌<◌, List, [], ◌∷◌, ◌++◌, length, take, drop, refl, sym, ap, ◌∙◌, arith, append_assoc, length-append}
+use Rattle.std.proofs.lemmas.List.{append-nil, drop_all, drop-append-le, take-append-drop, length-drop}
+use Rattle.pixel_format.specs.Reading.{Got, More, Bad}
+use Rattle.pixel_format.proofs.Readings.{skip_more, skip_whole, skip_waits}
 use Rattle.client_wire.specs.declared.message.ClientMessage.{ClientMessage}
 use Rattle.client_wire.specs.declared.message.ClientMessage.TheVariants as messages
 use Rattle.client_wire.specs.declared.fault.WireFault.{WireFault}
@@ -20,32 +17,22 @@ use Rattle.client_wire.specs.Reader.{kept_limit}
 use Rattle.client_wire.specs.Grammar.{input_at, message_at}
 use Rattle.client_wire.specs.Progress.{wants_of, start_of, resume, position_at, BeginsAt, IsLinked, IsInField, IsOver, IsAtPosition, IsAt, passed_in}
 use Rattle.client_wire.specs.Stream.{StandsFor, Moves, itself}
-use Rattle.client_wire.proofs.Fronts.{input_short, input_read, unless_memory_map}
+use Rattle.client_wire.proofs.Fronts.{unless_memory_map}
 use Rattle.client_wire.proofs.Resume.{resume-short}
-use Rattle.client_wire.proofs.Streams.{gives_none, gives_one, empty_list, stands_kept, stands_whole}
+use Rattle.client_wire.proofs.Streams.{gives_none, gives_one, empty_list, stands_kept, stands_whole, over_more}
 
--- some of the bytes that are left
+-- bytes that are read over: some of those that are left, all of them, and none
 input_more : (kind j : ℕ) (taken more : List ℕ) → input_at kind (length taken + j) (taken ++ more) ≡ input_at kind j more
-unfolding input_at field
-input_more kind j taken more = elim (true_or_false (nat_lt (length more) j)) [
-  | inl t ↦
-      (let few = ltb-true (length more) j t in
-      let longer : nat_lt (length (taken ++ more)) (length taken + j) ≡ true = lt-ltb (length (taken ++ more)) (length taken + j) (omega (arith, length-append taken more)) in
-      rw (t, longer) refl)
-  | inr t ↦
-      (let enough = ltb-false (length more) j t in
-      let longer : nat_lt (length (taken ++ more)) (length taken + j) ≡ false = le-ltb (length (taken ++ more)) (length taken + j) (omega (arith, length-append taken more)) in
-      rw (t, longer, drop-append-add taken more j) refl)
-]
+unfolding input_at
+input_more kind = skip_more (messages.Input kind)
 
--- all of them
 input_whole : (kind n : ℕ) (taken : List ℕ) → length taken ≡ n → input_at kind n taken ≡ Got (messages.Input kind) []
-input_whole kind n taken is =
-    input_read kind n taken taken [] (ap (field {E = WireFault} n) (sym (append-nil taken)) ∙ field-whole {E = WireFault} n taken [] is)
+unfolding input_at
+input_whole kind = skip_whole (messages.Input kind)
 
--- none
 input_waits : (kind n : ℕ) → 0 < n → input_at kind n [] ≡ More
-input_waits kind n some = input_short kind n [] (field-short {E = WireFault} n [] some)
+unfolding input_at
+input_waits kind = skip_waits (messages.Input kind)
 
 append_empty : (bytes skipped : List ℕ) → length skipped ≡ 0 → bytes ++ skipped ≡ bytes
 append_empty bytes skipped none = ap (λ z. bytes ++ z) (empty_list skipped none) ∙ append-nil bytes
@@ -132,33 +119,10 @@ given_moves kept passed old new stream m whole given none no_passed = record {
 pub over_goes : (n : ℕ) (bytes : List ℕ) (o : Over) → IsOver bytes o → n < o.left
     → IsOver bytes (record { kind = o.kind; passed = o.passed + n; left = o.left - n })
 over_goes n bytes o is few = record {
-  link = λ skipped more count.
-      let a : List ℕ = take o.passed skipped in
-      let b : List ℕ = drop o.passed skipped in
-      let both : a ++ b ≡ skipped = take-append-drop o.passed skipped in
-      let length_a : length a ≡ o.passed = length-take-le o.passed skipped (omega arith) in
-      let length_b : length b ≡ n = length-drop o.passed skipped ∙ omega arith in
-      let left : o.left ≡ length b + (o.left - n) = omega arith in
-      let stream : (bytes ++ skipped) ++ more ≡ (bytes ++ a) ++ (b ++ more) =
-      ap (λ z. (bytes ++ z) ++ more) (sym both) ∙ ap (λ z. z ++ more) (sym (append_assoc bytes a b)) ∙ append_assoc (bytes ++ a) b more in
-      ap message_at stream ∙ is.link a (b ++ more) length_a
-      ∙ ap (λ k. input_at o.kind k (b ++ more)) left ∙ input_more o.kind (o.left - n) b more;
+  link = over_more message_at (input_at o.kind) (input_more o.kind) bytes o.passed o.left n few is.link;
   some = omega arith;
   bound = omega (arith, is.bound);
   short = is.short;
-}
-
--- where bytes pass, nothing is given
-pub pass_goes : (bytes : List ℕ) (passed n : ℕ) (old : List ClientMessage) (rest taken : List ℕ) → StandsFor bytes passed rest → length taken ≡ n
-    → Moves message_at itself bytes (passed + n) old old (rest ++ taken)
-pass_goes bytes passed n old rest taken s is = record {
-  rest = rest ++ taken;
-  gives = gives_none message_at itself old old (rest ++ taken) (rest ++ taken) refl refl;
-  stands = record {
-    skipped = s.skipped ++ taken;
-    count = rw length-append (omega (arith, s.count));
-    is = ap (λ z. z ++ taken) s.is ∙ append_assoc bytes s.skipped taken;
-  };
 }
 
 -- where all have passed, the message is whole

@@ -16,12 +16,5 @@ wire_number faults.NoMemory = 9
 
 -- what holds of a fault that the bytes caused
 abbrev pub UnlessMemory : WireFault → Type 0 → Type 0
-UnlessMemory faults.UnknownType P = P
-UnlessMemory faults.OutsideScreen P = P
-UnlessMemory (faults.Encoding n) P = P
-UnlessMemory faults.TooLong P = P
-UnlessMemory faults.BadRre P = P
-UnlessMemory faults.BadHextile P = P
-UnlessMemory faults.SourceOutside P = P
-UnlessMemory (faults.BadFormat f) P = P
 UnlessMemory faults.NoMemory P = Unit {0}
+UnlessMemory fault P = P

@@ -27,11 +27,8 @@ wants_of stages.TextHead = 7
 -- where in the message the field begins
 abbrev pub start_of : Stage → ℕ
 start_of stages.Type = 0
-start_of stages.PixelFormat = 1
-start_of stages.EncodingsHead = 1
 start_of (stages.Encodings count) = 4
-start_of stages.Request = 1
-start_of stages.TextHead = 1
+start_of stage = 1
 
 -- what the bytes from the stage's field on say
 unfoldable pub resume : Stage → List ℕ → Reading ClientMessage WireFault

@@ -21,11 +21,14 @@ number_bytes n = u32_bytes (unsigned n)
 abbrev pub set_encodings_bytes : List ℤ → List ℕ
 set_encodings_bytes numbers = encodings_head (length numbers) ++ flat_map number_bytes numbers
 
+-- x, y, width and height of an area
+abbrev pub area_bytes : Area → List ℕ
+area_bytes a = a.x / 256 ∷ a.x % 256 ∷ a.y / 256 ∷ a.y % 256 ∷ a.w / 256 ∷ a.w % 256 ∷ a.h / 256 ∷ a.h % 256 ∷ []
+
 -- FramebufferUpdateRequest: type 3, the flag of an incremental request, and the area: x, y, width,
 -- height (section 7.5.3)
 abbrev pub request_bytes : Bool → Area → List ℕ
-request_bytes incremental a = 3 ∷ flag incremental
-    ∷ a.x / 256 ∷ a.x % 256 ∷ a.y / 256 ∷ a.y % 256 ∷ a.w / 256 ∷ a.w % 256 ∷ a.h / 256 ∷ a.h % 256 ∷ []
+request_bytes incremental a = 3 ∷ flag incremental ∷ area_bytes a
 
 -- KeyEvent: type 4, the down-flag, two bytes of padding, and the key (section 7.5.4)
 abbrev pub key_event_bytes : Bool → ℕ → List ℕ
@@ -35,9 +38,23 @@ key_event_bytes down key = 4 ∷ flag down ∷ 0 ∷ 0 ∷ u32_bytes key
 abbrev pub pointer_event_bytes : ℕ → ℕ → ℕ → List ℕ
 pointer_event_bytes mask x y = 5 ∷ mask ∷ x / 256 ∷ x % 256 ∷ y / 256 ∷ y % 256 ∷ []
 
--- ClientCutText: type 6, three bytes of padding, the text's length, and the text (section 7.5.6)
-abbrev pub cut_text_head : ℕ → List ℕ
-cut_text_head n = 6 ∷ 0 ∷ 0 ∷ 0 ∷ u32_bytes n
+-- a cut text of either side: its type, three bytes of padding, the text's length, and the text
+-- (sections 7.5.6 and 7.6.4)
+abbrev pub text_head : ℕ → ℕ → List ℕ
+text_head kind n = kind ∷ 0 ∷ 0 ∷ 0 ∷ u32_bytes n
 
+abbrev pub text_bytes : ℕ → List ℕ → List ℕ
+text_bytes kind text = text_head kind (length text) ++ text
+
+-- ClientCutText: type 6
 abbrev pub cut_text_bytes : List ℕ → List ℕ
-cut_text_bytes text = cut_text_head (length text) ++ text
+cut_text_bytes = text_bytes 6
+
+-- a host's FramebufferUpdate of one rectangle, up to the rectangle's data: type 0, a byte of padding,
+-- the number of rectangles, and the rectangle's header, its area and the number of its encoding
+-- (section 7.6.1)
+abbrev pub rectangle_head : Area → ℕ → List ℕ
+rectangle_head a number = area_bytes a ++ u32_bytes number
+
+abbrev pub one_rectangle_head : Area → ℕ → List ℕ
+one_rectangle_head a number = 0 ∷ 0 ∷ 0 ∷ 1 ∷ rectangle_head a number

@@ -21,6 +21,7 @@ pub use plain::read_client_message;
 pub use reader::ClientReader;
 pub use write::{
     write_client_cut_text, write_key_event, write_pointer_event, write_request,
-    write_set_encodings, write_set_pixel_format, written_encodings_are_read,
-    written_format_is_read, written_input_is_read, written_request_is_read,
+    write_set_encodings, write_set_pixel_format, write_text, write_update_head,
+    written_encodings_are_read, written_format_is_read, written_input_is_read,
+    written_request_is_read,
 };

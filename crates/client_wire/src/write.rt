@@ -1,5 +1,5 @@
-//! Writers of a viewer's messages. Each appends one message, or leaves the vector as it was where
-//! memory runs out.
+//! Writers of a viewer's messages, and of what a host's have in common with them. Each appends one
+//! message, or leaves the vector as it was where memory runs out.
 
 ghost use Rattle.std.specs.Prelude.{◌≡◌, ◌<◌, ◌^◌, ℕ, ℤ, List, [], ◌++◌, Bool, take, length, OnOk, OnErr};
 ghost use Rattle.std.specs.List.{AllByRecursion};
@@ -9,10 +9,10 @@ ghost use Rattle.client_wire.specs.declared.message.Area.{Area};
 ghost use Rattle.client_wire.specs.declared.message.ClientMessage.TheVariants as messages;
 ghost use Rattle.client_wire.specs.Number.{FitsFourBytes};
 ghost use Rattle.client_wire.specs.Grammar.{message_at};
-ghost use Rattle.client_wire.specs.Written.{set_pixel_format_bytes, set_encodings_bytes, request_bytes, key_event_bytes, pointer_event_bytes, cut_text_head, cut_text_bytes};
+ghost use Rattle.client_wire.specs.Written.{set_pixel_format_bytes, set_encodings_bytes, request_bytes, key_event_bytes, pointer_event_bytes, text_bytes, cut_text_bytes, one_rectangle_head};
 
 use crate::message::Area;
-use pixel_format::{NoMemory, PixelFormat};
+use pixel_format::{NoMemory, PixelFormat, whole_or_none};
 
 /// Appends a SetPixelFormat message (RFC 6143, section 7.5.1).
 pub fn write_set_pixel_format(format: &PixelFormat, out: &mut Vec<u8>) -> Result<(), NoMemory>
@@ -22,11 +22,8 @@ pub fn write_set_pixel_format(format: &PixelFormat, out: &mut Vec<u8>) -> Result
 {
     let start = out.len();
     out.extend_from_slice(&[0, 0, 0, 0])?;
-    if let Err(fault) = out.extend_from_slice(&format.write()) {
-        out.truncate(start);
-        return Err(fault);
-    }
-    Ok(())
+    let appended = out.extend_from_slice(&format.write());
+    whole_or_none(appended, start, out)
 }
 
 /// Appends a SetEncodings message (RFC 6143, section 7.5.2), with the numbers of at most 65,535
@@ -38,11 +35,8 @@ pub fn write_set_encodings(encodings: &[i32], out: &mut Vec<u8>) -> Result<(), N
     ensures err { OnErr result (out.new.items ≡ out.old.items) }
 {
     let start = out.len();
-    if let Err(fault) = append_encodings(encodings, out) {
-        out.truncate(start);
-        return Err(fault);
-    }
-    Ok(())
+    let appended = append_encodings(encodings, out);
+    whole_or_none(appended, start, out)
 }
 
 // Appends the same, or a part of it.
@@ -66,19 +60,8 @@ pub fn write_request(incremental: bool, area: Area, out: &mut Vec<u8>) -> Result
     ensures ok { OnOk result (out.new.items ≡ out.old.items ++ request_bytes incremental area) }
     ensures err { OnErr result (out.new.items ≡ out.old.items) }
 {
-    out.extend_from_slice(&[
-        3,
-        incremental as u8,
-        (area.x / 256) as u8,
-        (area.x % 256) as u8,
-        (area.y / 256) as u8,
-        (area.y % 256) as u8,
-        (area.w / 256) as u8,
-        (area.w % 256) as u8,
-        (area.h / 256) as u8,
-        (area.h % 256) as u8,
-    ])?;
-    Ok(())
+    let [x, x_low, y, y_low, w, w_low, h, h_low] = area.bytes();
+    out.extend_from_slice(&[3, incremental as u8, x, x_low, y, y_low, w, w_low, h, h_low])
 }
 
 /// Appends a KeyEvent (RFC 6143, section 7.5.4): the key of this keysym was pressed, or released.
@@ -87,8 +70,7 @@ pub fn write_key_event(down: bool, key: u32, out: &mut Vec<u8>) -> Result<(), No
     ensures err { OnErr result (out.new.items ≡ out.old.items) }
 {
     let [first, second, third, fourth] = key.to_be_bytes();
-    out.extend_from_slice(&[4, down as u8, 0, 0, first, second, third, fourth])?;
-    Ok(())
+    out.extend_from_slice(&[4, down as u8, 0, 0, first, second, third, fourth])
 }
 
 /// Appends a PointerEvent (RFC 6143, section 7.5.5): the buttons that are pressed, as bits, and the
@@ -99,8 +81,7 @@ pub fn write_pointer_event(mask: u8, x: u16, y: u16, out: &mut Vec<u8>) -> Resul
 {
     let [x_high, x_low] = x.to_be_bytes();
     let [y_high, y_low] = y.to_be_bytes();
-    out.extend_from_slice(&[5, mask, x_high, x_low, y_high, y_low])?;
-    Ok(())
+    out.extend_from_slice(&[5, mask, x_high, x_low, y_high, y_low])
 }
 
 /// Appends a ClientCutText (RFC 6143, section 7.5.6), with a text of at most 4,294,967,295 bytes.
@@ -109,23 +90,34 @@ pub fn write_client_cut_text(text: &[u8], out: &mut Vec<u8>) -> Result<(), NoMem
     ensures ok { OnOk result (out.new.items ≡ out.old.items ++ cut_text_bytes text.now) }
     ensures err { OnErr result (out.new.items ≡ out.old.items) }
 {
-    let start = out.len();
-    append_text_head(text.len() as u32, out)?;
-    if let Err(fault) = out.extend_from_slice(text) {
-        out.truncate(start);
-        return Err(fault);
-    }
-    Ok(())
+    write_text(6, text, out)
 }
 
-// Appends the head of a cut text of so many bytes.
-fn append_text_head(count: u32, out: &mut Vec<u8>) -> Result<(), NoMemory>
-    ensures ok { OnOk result (out.new.items ≡ out.old.items ++ cut_text_head count) }
+/// Appends a cut text of either side: its type, padding, the text's length, and the text, of at most
+/// 4,294,967,295 bytes (RFC 6143, sections 7.5.6 and 7.6.4).
+pub fn write_text(kind: u8, text: &[u8], out: &mut Vec<u8>) -> Result<(), NoMemory>
+    requires { length text.now < 2 ^ 32 }
+    ensures ok { OnOk result (out.new.items ≡ out.old.items ++ text_bytes kind text.now) }
     ensures err { OnErr result (out.new.items ≡ out.old.items) }
 {
-    let [first, second, third, fourth] = count.to_be_bytes();
-    out.extend_from_slice(&[6, 0, 0, 0, first, second, third, fourth])?;
-    Ok(())
+    let start = out.len();
+    let [first, second, third, fourth] = (text.len() as u32).to_be_bytes();
+    out.extend_from_slice(&[kind, 0, 0, 0, first, second, third, fourth])?;
+    let appended = out.extend_from_slice(text);
+    whole_or_none(appended, start, out)
+}
+
+/// Appends what stands before the data of a host's update of one rectangle: type 0, padding, one
+/// rectangle, its area, and the number of its encoding (RFC 6143, section 7.6.1).
+pub fn write_update_head(area: Area, encoding: u32, out: &mut Vec<u8>) -> Result<(), NoMemory>
+    ensures ok { OnOk result (out.new.items ≡ out.old.items ++ one_rectangle_head area encoding) }
+    ensures err { OnErr result (out.new.items ≡ out.old.items) }
+{
+    let [x, x_low, y, y_low, w, w_low, h, h_low] = area.bytes();
+    let [first, second, third, fourth] = encoding.to_be_bytes();
+    out.extend_from_slice(&[
+        0, 0, 0, 1, x, x_low, y, y_low, w, w_low, h, h_low, first, second, third, fourth,
+    ])
 }
 
 /// A SetPixelFormat that is written is read. (A law: it does nothing.)

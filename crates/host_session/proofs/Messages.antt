@@ -1,14 +1,11 @@
 -- What is heard behind the handshake.
-use Rattle.std.proofs.Common.{◌≡◌, ℕ, zero, suc, ◌+◌, ◌≤◌, ◌-◌, List, [], ◌∷◌, ◌++◌, length, take, drop, refl, sym, ap, ◌∙◌, subst, append_assoc, length-append, arith}
-use Rattle.std.specs.Prelude.{Result, Ok, Err, OnOk, IfErr, Option, None, Some}
-use Rattle.std.specs.List.{flat_map}
-use Rattle.std.proofs.lemmas.List.{append-nil, take_rest, drop_at}
-use Rattle.pixel_format.specs.Reading.{Reading, More, Bad}
+use Rattle.std.proofs.Common.{◌≡◌, ℕ, List, ◌++◌, length, drop, refl, ap, ◌∙◌}
+use Rattle.std.specs.Prelude.{Result, Ok, Err, OnOk, IfErr, None}
+use Rattle.std.proofs.lemmas.List.{drop_at}
 use Rattle.client_wire.specs.declared.fault.WireFault.{WireFault}
 use Rattle.client_wire.specs.declared.fault.WireFault.TheVariants as faults
 use Rattle.client_wire.specs.Fault.{UnlessMemory}
 use Rattle.client_wire.specs.Stream.{StandsFor, Gives, Goes, Stops, given_of}
-use Rattle.client_wire.proofs.Streams.{gives_then, flat_append}
 use Rattle.rfb_wire.specs.Grammar.{message_at}
 use Rattle.rfb_wire.specs.Host.{Host}
 use Rattle.rfb_wire.specs.Stream.{given}

@@ -1,7 +1,7 @@
 -- A stream is one conversation.
-use Rattle.std.proofs.Common.{◌≡◌, ℕ, List, [], ◌++◌, refl, sym, ap, ◌∙◌, subst}
+use Rattle.std.proofs.Common.{◌≡◌, ℕ, List, ◌++◌, refl, sym, ap, ◌∙◌, subst}
 use Rattle.std.specs.Prelude.{Option, None, Some}
-use Rattle.pixel_format.specs.Reading.{Reading, Got, More, Bad}
+use Rattle.pixel_format.specs.Reading.{Reading, More, Bad}
 use Rattle.pixel_format.specs.Talk.{Talk}
 use Rattle.client_wire.specs.declared.fault.WireFault.{WireFault}
 use Rattle.client_wire.specs.Stream.{Reads, BeginsNone, given_of}
@@ -14,7 +14,7 @@ use Rattle.host_session.specs.declared.fault.HostFault.{HostFault}
 use Rattle.host_session.specs.declared.fault.HostFault.TheVariants as faults
 use Rattle.host_session.specs.Handshake.{Told, Refusal, handshake_at}
 use Rattle.host_session.specs.Session.{requests_after}
-use Rattle.host_session.specs.Conversation.{IsInHandshake, IsInMessages, WaitsForMore, IsConversation, IsRefusedInHandshake, IsRefusedInMessages, IsRefusal}
+use Rattle.host_session.specs.Conversation.{IsInMessages, IsConversation, IsRefusal}
 
 -- what two readings of a stream behind its handshake share
 record Same (ms ns : List Host) (t k : Told) (a b tail other : List ℕ) : Type 0 where

@@ -1,12 +1,12 @@
 -- A session that gets a piece more.
-use Rattle.std.proofs.Common.{◌≡◌, ℕ, List, [], ◌++◌, length, take, drop, refl, sym, ap, ◌∙◌, subst, append_assoc, arith, length-append}
+use Rattle.std.proofs.Common.{◌≡◌, ℕ, List, [], ◌++◌, take, drop, refl, sym, ap, ◌∙◌, subst, append_assoc, arith, length-append}
 use Rattle.std.specs.Prelude.{Result, Ok, Err, OnOk, IfErr, Option, None, Some}
 use Rattle.std.proofs.lemmas.List.{append-nil, take-append-drop, append_cancel_left}
-use Rattle.pixel_format.specs.Reading.{Reading, More, Bad}
-use Rattle.pixel_format.specs.Talk.{Talk, say, silent}
+use Rattle.pixel_format.specs.Reading.{Reading, More}
+use Rattle.pixel_format.specs.Talk.{say, silent}
 use Rattle.pixel_format.proofs.Readings.{field-short}
 use Rattle.client_wire.specs.declared.fault.WireFault.{WireFault}
-use Rattle.client_wire.specs.Stream.{StandsFor, Gives}
+use Rattle.client_wire.specs.Stream.{Gives}
 use Rattle.client_wire.proofs.Streams.{gives_then, gives_none, flat_append}
 use Rattle.rfb_wire.specs.Grammar.{message_at}
 use Rattle.rfb_wire.specs.Host.{Host}
@@ -22,21 +22,13 @@ use Rattle.host_session.specs.Fault.{UnlessMemory}
 use Rattle.host_session.specs.Handshake.{Told, Refusal, handshake_at}
 use Rattle.host_session.specs.Stage.{Leads, Ends, Fails, IsUnfinished, position_at, resume}
 use Rattle.host_session.specs.Take.{Says, told_at}
-use Rattle.host_session.specs.Session.{Session, requests_after, request_after, start, IsHandshake, Gets, Follows, IsListening, Stands, EndsInHandshake, EndsListening, EndsAfter, AreGiven, GetsSome, Fed, Stopped}
-use Rattle.host_session.specs.Progress.{StandsAt, Advances, Halts}
+use Rattle.host_session.specs.Session.{Session, requests_after, request_after, start, IsHandshake, Gets, Follows, IsListening, Stands, EndsInHandshake, EndsListening, EndsAfter, AreGiven, Fed, Stopped}
+use Rattle.host_session.specs.Progress.{Advances, Halts}
 use Rattle.host_session.specs.TakeHandshake.{GoesOn, IsWhole, IsHandshakeRefused}
-use Rattle.host_session.specs.Listening.{Hears, Answers, HearsAll, HearsUpTo, HearsSome, Listens, StopsListening, ListensToSome}
+use Rattle.host_session.specs.Listening.{Answers, Listens, StopsListening, ListensToSome}
 use Rattle.host_session.proofs.Goes.{resume-short, rest-short}
 use Rattle.host_session.proofs.Messages.{unless_memory_by}
 use Rattle.host_session.proofs.Turns.{leads_more, leads_end, leads_fail, unless_memory_map}
-
-pub on_ok : {U E : Type 0} (r : Result U E) (P Q : Type 0) → (P → Q) → OnOk r P → OnOk r Q
-on_ok (Ok u) P Q f p = f p
-on_ok (Err e) P Q f p = tt
-
-pub if_err : {U E : Type 0} (r : Result U E) (P Q : E → Type 0) → ((e : E) → P e → Q e) → IfErr r P → IfErr r Q
-if_err (Ok u) P Q f p = tt
-if_err (Err e) P Q f p = f e p
 
 -- messages behind others
 gets_more : (limit : ℕ) (expected : Option (ℕ × ℕ)) (w h : ℕ) (name stream piece : List ℕ) (messages more : List Host) (tail rest : List ℕ)

@@ -1,8 +1,7 @@
 -- What becomes of pieces.
-use Rattle.std.proofs.Common.{◌≡◌, ℕ, List, [], ◌++◌, length, take, drop, refl, sym, ap, ◌∙◌, append_assoc}
+use Rattle.std.proofs.Common.{◌≡◌, ℕ, List, [], ◌++◌, take, drop, refl, sym, ap, ◌∙◌, append_assoc}
 use Rattle.std.specs.Prelude.{Option}
 use Rattle.std.proofs.lemmas.List.{append-nil, take-append-drop}
-use Rattle.client_wire.specs.declared.fault.WireFault.{WireFault}
 use Rattle.client_wire.proofs.Fronts.{unless_memory as unless_wire_memory, unless_memory_map as unless_wire_memory_map}
 use Rattle.host_session.specs.declared.fault.HostFault.{HostFault}
 use Rattle.host_session.specs.declared.fault.HostFault.TheVariants as faults
@@ -46,52 +45,45 @@ pub leads_none : (expected : Option (ℕ × ℕ)) (position : Position) (kept du
     → Says (λ said. Leads expected position kept [] said position kept) due due
 leads_none expected position kept due = record { said = []; due = sym (append-nil due); is = record { link = λ more. refl } }
 
+-- what is said in two turns
+says_more : {P Q R : List ℕ → Type 0} (due then later : List ℕ) → Says P due then → Says Q then later
+    → ((first second : List ℕ) → P first → Q second → R (first ++ second)) → Says R due later
+says_more due then later a b both = record {
+  said = a.said ++ b.said;
+  due = b.due ∙ ap (λ z. z ++ b.said) a.due ∙ append_assoc due a.said b.said;
+  is = both a.said b.said a.is b.is;
+}
+
 pub leads_more : (expected : Option (ℕ × ℕ)) (old mid new : Position) (before between after front more due then later : List ℕ)
     → Says (λ said. Leads expected old before front said mid between) due then
     → Says (λ said. Leads expected mid between more said new after) then later
     → Says (λ said. Leads expected old before (front ++ more) said new after) due later
-leads_more expected old mid new before between after front more due then later a b = record {
-  said = a.said ++ b.said;
-  due = b.due ∙ ap (λ z. z ++ b.said) a.due ∙ append_assoc due a.said b.said;
-  is = record {
-    link = λ rest.
-        ap (position_at expected old before) (append_assoc front more rest) ∙ a.is.link (more ++ rest) ∙ ap (say a.said) (b.is.link rest)
-        ∙ say_more a.said b.said (position_at expected new after rest);
-  };
-}
+leads_more expected old mid new before between after front more due then later a b = says_more due then later a b (λ first second one two. record {
+  link = λ rest.
+      ap (position_at expected old before) (append_assoc front more rest) ∙ one.link (more ++ rest) ∙ ap (say first) (two.link rest)
+      ∙ say_more first second (position_at expected new after rest);
+})
 
 pub leads_end : (expected : Option (ℕ × ℕ)) (old mid : Position) (before between front more due then later requests : List ℕ) (told : Told)
     → Says (λ said. Leads expected old before front said mid between) due then
     → Says (λ said. Ends expected mid between more (said ++ requests) told) then later
     → Says (λ said. Ends expected old before (front ++ more) (said ++ requests) told) due later
-leads_end expected old mid before between front more due then later requests told a b = record {
-  said = a.said ++ b.said;
-  due = b.due ∙ ap (λ z. z ++ b.said) a.due ∙ append_assoc due a.said b.said;
-  is = record {
-    link = λ rest.
-        ap (position_at expected old before) (append_assoc front more rest) ∙ a.is.link (more ++ rest) ∙ ap (say a.said) (b.is.link rest)
-        ∙ say_more a.said (b.said ++ requests) (silent (Got told rest)) ∙ ap (λ z. say z (silent (Got told rest))) (sym (append_assoc a.said b.said requests));
-  };
-}
+leads_end expected old mid before between front more due then later requests told a b = says_more due then later a b (λ first second one two. record {
+  link = λ rest.
+      ap (position_at expected old before) (append_assoc front more rest) ∙ one.link (more ++ rest) ∙ ap (say first) (two.link rest)
+      ∙ say_more first (second ++ requests) (silent (Got told rest)) ∙ ap (λ z. say z (silent (Got told rest))) (sym (append_assoc first second requests));
+})
 
 pub leads_fail : (expected : Option (ℕ × ℕ)) (old mid : Position) (before between front more due then later : List ℕ) (f : HostFault) (field : List ℕ)
     → Says (λ said. Leads expected old before front said mid between) due then
     → Says (λ said. Fails expected mid between more said f field) then later
     → Says (λ said. Fails expected old before (front ++ more) said f field) due later
-leads_fail expected old mid before between front more due then later f field a b = record {
-  said = a.said ++ b.said;
-  due = b.due ∙ ap (λ z. z ++ b.said) a.due ∙ append_assoc due a.said b.said;
-  is = record {
-    link = λ rest.
-        ap (position_at expected old before) (append_assoc front more rest) ∙ a.is.link (more ++ rest) ∙ ap (say a.said) (b.is.link rest)
-        ∙ say_more a.said b.said (failed f field);
-  };
-}
+leads_fail expected old mid before between front more due then later f field a b = says_more due then later a b (λ first second one two. record {
+  link = λ rest.
+      ap (position_at expected old before) (append_assoc front more rest) ∙ one.link (more ++ rest) ∙ ap (say first) (two.link rest)
+      ∙ say_more first second (failed f field);
+})
 
 pub unless_memory_map : (f : HostFault) (P Q : Type 0) → (P → Q) → UnlessMemory f P → UnlessMemory f Q
 unless_memory_map (faults.Wire f) P Q m p = unless_wire_memory_map f P Q m p
-unless_memory_map faults.Version P Q m p = m p
-unless_memory_map faults.NoneNotOffered P Q m p = m p
-unless_memory_map faults.Failed P Q m p = m p
-unless_memory_map faults.SizeDiffers P Q m p = m p
-unless_memory_map faults.TooLarge P Q m p = m p
+unless_memory_map fault P Q m p = m p

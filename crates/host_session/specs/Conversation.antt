@@ -1,5 +1,5 @@
 -- What a session with a host has done, in the words of the host's stream alone.
-use Rattle.std.specs.Prelude.{◌≡◌, ℕ, ◌⊎◌, List, [], ◌++◌, Option, None, Some}
+use Rattle.std.specs.Prelude.{◌≡◌, ℕ, List, [], ◌++◌, Option, None, Some}
 use Rattle.pixel_format.specs.Reading.{Got, More, Bad}
 use Rattle.client_wire.specs.declared.fault.WireFault.{WireFault}
 use Rattle.client_wire.specs.Stream.{Part, Reads, given_of}

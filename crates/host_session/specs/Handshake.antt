@@ -1,9 +1,9 @@
 -- The handshake of a host's stream, as it is heard and answered (RFC 6143, sections 7.1 to 7.3, in
 -- version 3.8).
-use Rattle.std.specs.Prelude.{ℕ, ◌+◌, ◌-◌, ◌*◌, ◌≤◌, min, List, [], ◌∷◌, ◌++◌, slice_index, nat_eq, nat_le, nat_lt, Bool, true, false, ◌&&◌, ◌||◌, Option, Some, None, if◌then◌else◌}
+use Rattle.std.specs.Prelude.{ℕ, ◌-◌, ◌*◌, min, List, [], ◌∷◌, ◌++◌, slice_index, nat_eq, nat_le, Bool, true, false, ◌&&◌, ◌||◌, Option, Some, None, if◌then◌else◌}
 use Rattle.std.specs.Str.{bytes_eq}
 use Rattle.pixel_format.specs.Format.{host_format}
-use Rattle.pixel_format.specs.Reading.{Reading, Got, Bad, field}
+use Rattle.pixel_format.specs.Reading.{Got, Bad, field}
 use Rattle.client_wire.specs.declared.message.Area.{Area}
 use Rattle.client_wire.specs.Written.{set_pixel_format_bytes, request_bytes}
 use Rattle.host_session.specs.declared.fault.HostFault.{HostFault}

@@ -9,7 +9,6 @@ use Rattle.rfb_wire.specs.Reader.{Reader}
 use Rattle.rfb_wire.specs.Stream.{given}
 use Rattle.host_session.specs.declared.fault.HostFault.{HostFault}
 use Rattle.host_session.specs.declared.fault.HostFault.TheVariants as faults
-use Rattle.host_session.specs.Fault.{UnlessMemory}
 use Rattle.host_session.specs.Session.{requests_after}
 
 -- Of a rest that the reader stands for, and the piece, the messages before the tail are given,

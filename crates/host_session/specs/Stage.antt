@@ -1,6 +1,6 @@
 -- Where a session stands in a host's handshake.
-use Rattle.std.specs.Prelude.{◌≡◌, ℕ, ◌+◌, ◌-◌, ◌<◌, ◌≤◌, ◌^◌, min, List, [], ◌∷◌, ◌++◌, length, Option, Some, None}
-use Rattle.pixel_format.specs.Reading.{Reading, Got, More, Bad}
+use Rattle.std.specs.Prelude.{◌≡◌, ℕ, ◌<◌, ◌≤◌, ◌^◌, min, List, [], ◌∷◌, ◌++◌, length, Option}
+use Rattle.pixel_format.specs.Reading.{Got, Bad}
 use Rattle.host_session.specs.declared.fault.HostFault.{HostFault}
 use Rattle.host_session.specs.declared.fault.HostFault.TheVariants as faults
 use Rattle.host_session.specs.declared.stage.Stage.{Stage}

@@ -120,8 +120,15 @@ fn offers(types: &[u8]) -> bool
 fn next(stage: Stage) -> Step
     ensures { result ≡ record { answer = Answer.Nothing; position = Position.Field stage } }
 {
+    answered(Answer::Nothing, stage)
+}
+
+// The field of this stage comes next, behind an answer.
+fn answered(answer: Answer, stage: Stage) -> Step
+    ensures { result ≡ record { answer = answer; position = Position.Field stage } }
+{
     Step {
-        answer: Answer::Nothing,
+        answer,
         position: Position::Field(stage),
     }
 }
@@ -138,10 +145,7 @@ fn behind_version(field: &[u8]) -> Result<Step, HostFault>
     if field != VERSION.as_slice() {
         return Err(HostFault::Version);
     }
-    Ok(Step {
-        answer: Answer::Version,
-        position: Position::Field(Stage::Count),
-    })
+    Ok(answered(Answer::Version, Stage::Count))
 }
 
 // No security types are followed by a reason (RFC 6143, section 7.1.2).
@@ -168,10 +172,7 @@ fn behind_types(count: u8, field: &[u8]) -> Result<Step, HostFault>
     if !offers(field) {
         return Err(HostFault::NoneNotOffered);
     }
-    Ok(Step {
-        answer: Answer::One,
-        position: Position::Field(Stage::Outcome),
-    })
+    Ok(answered(Answer::One, Stage::Outcome))
 }
 
 // A failure is followed by a reason (RFC 6143, section 7.1.3), and else ClientInit answers.
@@ -185,10 +186,7 @@ fn behind_outcome(field: &[u8]) -> Step
     if outcome != 0 {
         return next(Stage::ReasonLength);
     }
-    Step {
-        answer: Answer::One,
-        position: Position::Field(Stage::Size),
-    }
+    answered(Answer::One, Stage::Size)
 }
 
 // The limits are judged first, and then the size that is expected.

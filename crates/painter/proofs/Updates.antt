@@ -12,7 +12,8 @@ use Rattle.rect_codec.specs.declared.encoding.Encoding.TheVariants as encodings
 use Rattle.rect_codec.specs.Encoding.{number_of, wire_of}
 use Rattle.rect_codec.specs.Picture.{painted_data}
 use Rattle.rect_codec.specs.Update.{HasColors}
-use Rattle.rect_codec.specs.Written.{Shows, IsUpdate, rectangle_head, update_head}
+use Rattle.client_wire.specs.Written.{rectangle_head}
+use Rattle.rect_codec.specs.Written.{Shows, IsUpdate, update_head}
 use Rattle.rect_codec.proofs.Drawing.{has_colors}
 use Rattle.rfb_wire.specs.declared.message.Rectangle.{Rectangle}
 use Rattle.rfb_wire.specs.Grammar.{message_limit, area_of, encoding_number}

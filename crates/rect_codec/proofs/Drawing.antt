@@ -25,7 +25,8 @@ use Rattle.rect_codec.specs.declared.encoding.Encoding.{Encoding as Written}
 use Rattle.rect_codec.specs.declared.encoding.Encoding.TheVariants as writtens
 use Rattle.rect_codec.specs.Encoding.{number_of, wire_of}
 use Rattle.rect_codec.specs.Picture.{is_in, raw_picture, rre_shown, hextile_shown, picture_of, painted_data}
-use Rattle.rect_codec.specs.Written.{Shows, rectangle_head, update_head, IsUpdate, IsUpdateFor}
+use Rattle.client_wire.specs.Written.{rectangle_head}
+use Rattle.rect_codec.specs.Written.{Shows, update_head, IsUpdate, IsUpdateFor}
 use Rattle.rect_codec.specs.Update.{area_of, rectangle_at, rectangles_at, update_at, HasColors, DrawsColors}
 
 -- the data of a rectangle that was written are read whole

@@ -1,12 +1,12 @@
 -- Updates of one rectangle, as they are written (RFC 6143, sections 7.6.1 and 7.7). Padding is 0,
 -- and so are the bits of a pixel that belong to no channel.
-use Rattle.std.specs.Prelude.{◌≡◌, ℕ, ◌+◌, ◌*◌, ◌/◌, ◌%◌, ◌<◌, ◌≤◌, ◌⊎◌, List, ◌∷◌, ◌++◌, length}
+use Rattle.std.specs.Prelude.{◌≡◌, ℕ, ◌+◌, ◌*◌, ◌<◌, ◌≤◌, ◌⊎◌, List, ◌++◌, length}
 use Rattle.pixel_format.specs.declared.Color.{Color}
 use Rattle.pixel_format.specs.Format.{Format, pixel_bytes}
 use Rattle.pixel_format.specs.Pixel.{pixel_color, pixel_of}
 use Rattle.pixel_format.specs.Canvas.{Agree, nth, rows_of, pixel_rows}
 use Rattle.client_wire.specs.declared.message.Area.{Area}
-use Rattle.client_wire.specs.Number.{u32_bytes}
+use Rattle.client_wire.specs.Written.{one_rectangle_head}
 use Rattle.rre.specs.Encoded as rre
 use Rattle.hextile.specs.Encoded as hextile
 use Rattle.rect_codec.specs.declared.encoding.Encoding.{Encoding}
@@ -37,14 +37,9 @@ Shows encodings.Raw f w h colors bytes = ShowsRaw f w h colors bytes
 Shows encodings.Rre f w h colors bytes = rre.Shows f w h colors bytes
 Shows encodings.Hextile f w h colors bytes = hextile.Shows f w h colors bytes
 
--- x, y, width and height of a rectangle, and the number of its encoding
-abbrev pub rectangle_head : Area → ℕ → List ℕ
-rectangle_head a number =
-    a.x / 256 ∷ a.x % 256 ∷ a.y / 256 ∷ a.y % 256 ∷ a.w / 256 ∷ a.w % 256 ∷ a.h / 256 ∷ a.h % 256 ∷ u32_bytes number
-
--- type 0, a byte of padding, the number of rectangles, and the rectangle's header
+-- what stands before the data of an update of one rectangle in this encoding
 abbrev pub update_head : Area → Encoding → List ℕ
-update_head a encoding = 0 ∷ 0 ∷ 0 ∷ 1 ∷ rectangle_head a (number_of encoding)
+update_head a encoding = one_rectangle_head a (number_of encoding)
 
 -- an update of one rectangle in this encoding, whose data show the colours, by rows, at the places
 -- of its area

@@ -3,42 +3,16 @@
 ghost use Rattle.std.specs.Prelude.{◌≡◌, ◌+◌, ◌*◌, ◌++◌, All, IfOk, OnOk, OnErr, length, true, false};
 ghost use Rattle.pixel_format.specs.Pixel.{IsWithin};
 ghost use Rattle.pixel_format.specs.Appending.{Appends};
-ghost use Rattle.rect_codec.specs.Written.{Shows, update_head, IsUpdate, IsUpdateFor};
+ghost use Rattle.rect_codec.specs.Written.{Shows, IsUpdate, IsUpdateFor};
 
 use crate::encoding::Encoding;
 use crate::pixels::append_pixels;
-use client_wire::Area;
+use client_wire::{Area, write_update_head};
 use pixel_format::{Color, NoMemory, PixelFormat};
 use std::alloc::Global;
 
 // How many bytes an update of one rectangle has before the rectangle's data.
 const HEAD_SIZE: usize = 16;
-
-// Appends these bytes: type 0, padding, one rectangle, and the rectangle's header.
-fn append_head(area: Area, encoding: Encoding, out: &mut Vec<u8>) -> Result<(), NoMemory>
-    ensures ok { OnOk result (out.new.items ≡ out.old.items ++ update_head area encoding) }
-    ensures err { OnErr result (out.new.items ≡ out.old.items) }
-{
-    let number = encoding.number();
-    out.extend_from_slice(&[
-        0,
-        0,
-        0,
-        1,
-        (area.x / 256) as u8,
-        (area.x % 256) as u8,
-        (area.y / 256) as u8,
-        (area.y % 256) as u8,
-        (area.w / 256) as u8,
-        (area.w % 256) as u8,
-        (area.h / 256) as u8,
-        (area.h % 256) as u8,
-        (number / 16_777_216) as u8,
-        (number / 65_536 % 256) as u8,
-        (number / 256 % 256) as u8,
-        (number % 256) as u8,
-    ])
-}
 
 // Appends the data of a rectangle, and answers whether they are there: RRE's are where they have
 // fewer bytes than the limit. Where they aren't, `out` stays as it was.
@@ -90,7 +64,7 @@ fn append_update(
     ensures err { OnErr result (out.new.items ≡ out.old.items) }
 {
     let start = out.len();
-    append_head(area, encoding, out)?;
+    write_update_head(area, encoding.number(), out)?;
     let written = append_data(alloc, format, area, colors, encoding, limit, out);
     if let Ok(true) = written {
         return Ok(true);

@@ -5,6 +5,7 @@ use Rattle.std.proofs.lemmas.List.{length-drop, take_all, append-nil}
 use Rattle.pixel_format.specs.Reading.{Got, ◌>>=◌, field, guard, within}
 use Rattle.pixel_format.proofs.Readings.{bind_got, guard_got, field_got, field-whole, within_got, within-short, true_or_false, field_front, one_number, three_numbers}
 use Rattle.client_wire.specs.declared.message.Area.{Area}
+use Rattle.pixel_format.proofs.Listed.{ListRead, none_read, one_more_read}
 use Rattle.rfb_wire.specs.declared.message.Rectangle.{Rectangle}
 use Rattle.pixel_format.specs.Format.{host_format}
 use Rattle.pixel_format.specs.Number.{u16_at}
@@ -93,33 +94,16 @@ rectangle_read width height at bytes r rest e =
       is = subst (λ (z : Rectangle). IsRectangle width height at z (b.value ++ c.content)) (sym c.is) whole;
     }
 
-record RectanglesRead (width height count at : ℕ) (bytes : List ℕ) (rs : List Rectangle) (rest : List ℕ) : Type 0 where
-  pub body : List ℕ
-  pub bytes_are : bytes ≡ body ++ rest
-  pub count_is : length rs ≡ count
-  pub are : AreRectangles width height at rs body
-
 rectangles_read : (width height count at : ℕ) (bytes : List ℕ) (rs : List Rectangle) (rest : List ℕ) → rectangles_at width height count at bytes ≡ Got rs rest
-    → RectanglesRead width height count at bytes rs rest
+    → ListRead (AreRectangles width height at) count bytes rs rest
 unfolding rectangles_at
-rectangles_read width height zero at bytes rs rest e =
-    let none : rs ≡ [] = cc in
-    let all : bytes ≡ rest = cc in
-    rw none (record { body = []; bytes_are = all; count_is = refl; are = refl })
+rectangles_read width height zero at bytes rs rest e = none_read (AreRectangles width height at) bytes rs rest e refl
 rectangles_read width height (suc count) at bytes rs rest e =
     let b = bind_got (rectangle_at width height at bytes) (λ first after. rectangles_at width height count first.end after >>= λ others end. Got (first ∷ others) end) rs rest e in
     let r = rectangle_read width height at bytes b.value b.rest b.first in
     let d = bind_got (rectangles_at width height count b.value.end b.rest) (λ others end. Got (b.value ∷ others) end) rs rest b.then in
-    let others = rectangles_read width height count b.value.end b.rest d.value d.rest d.first in
-    let last = d.then in
-    let is : rs ≡ b.value ∷ d.value = cc in
-    let rest_is : d.rest ≡ rest = cc in
-    rw is (record {
-      body = r.first ++ others.body;
-      bytes_are = r.bytes_are ∙ ap (λ z. r.first ++ z) (others.bytes_are ∙ ap (λ z. others.body ++ z) rest_is) ∙ sym (append_assoc r.first others.body rest);
-      count_is = ap suc others.count_is;
-      are = (r.first, others.body, refl, r.is, others.are);
-    })
+    one_more_read (AreRectangles width height at) (AreRectangles width height b.value.end) b.value d.value rs r.first bytes b.rest d.rest rest count r.bytes_are
+    (rectangles_read width height count b.value.end b.rest d.value d.rest d.first) d.then (λ body are. (r.first, body, refl, r.is, are))
 
 nothing_behind : (a b : List ℕ) → a ++ b ≡ [] → (a ≡ []) × (b ≡ [])
 nothing_behind [] b e = (refl, e)

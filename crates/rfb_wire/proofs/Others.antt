@@ -2,9 +2,9 @@
 use Rattle.std.proofs.Common.{◌≡◌, ℕ, ◌*◌, ◌<◌, ◌≤◌, List, [], ◌++◌, length, nat_eq, true, false, refl, sym, ap, ◌∙◌, ◌⊎◌, inl, inr, arith, append_assoc, eqb-true}
 use Rattle.std.specs.Prelude.{nat_lt, if◌then◌else◌}
 use Rattle.std.proofs.lemmas.Bool.{ltb-false, lt-ltb, le-ltb}
-use Rattle.std.proofs.lemmas.List.{append-nil, take-append-drop, length-take-le}
+use Rattle.std.proofs.lemmas.List.{append-nil}
 use Rattle.pixel_format.specs.Reading.{Got, Bad, field}
-use Rattle.pixel_format.proofs.Readings.{bind_got, FieldIs, field_got, field-whole, true_or_false, field_front}
+use Rattle.pixel_format.proofs.Readings.{bind_got, field_got, field-whole, true_or_false, field_front}
 use Rattle.pixel_format.specs.Number.{u16_at, u32_at}
 use Rattle.rfb_wire.specs.declared.message.Rectangle.{Rectangle}
 use Rattle.client_wire.specs.declared.fault.WireFault.{WireFault}

@@ -1,13 +1,10 @@
 -- Bytes that are read over.
-use Rattle.std.proofs.Common.{◌≡◌, ℕ, ◌+◌, ◌-◌, ◌<◌, ◌≤◌, ◌^◌, List, [], ◌∷◌, ◌++◌, length, take, drop, nat_eq, replicate, true, false, refl, sym, ap, ◌∙◌, subst, inl, inr, arith, append_assoc, length-append}
-use Rattle.std.specs.Prelude.{Option, Some, None, MatchOption, nat_lt}
-use Rattle.std.proofs.lemmas.Bool.{ltb-true, ltb-false, lt-ltb, le-ltb}
-use Rattle.std.proofs.lemmas.List.{length-replicate, append-nil, take-append-drop, length-take-le, length-drop}
-use Rattle.std.proofs.Math.Seq.{drop-append-add}
+use Rattle.std.proofs.Common.{◌≡◌, ℕ, ◌+◌, ◌-◌, ◌<◌, ◌≤◌, ◌^◌, List, [], ◌∷◌, ◌++◌, length, nat_eq, replicate, refl, sym, ap, ◌∙◌, subst, inl, inr, arith}
+use Rattle.std.specs.Prelude.{Option, Some, None, MatchOption}
+use Rattle.std.proofs.lemmas.List.{length-replicate, append-nil}
 use Rattle.pixel_format.specs.Reading.{Got, More, ◌>>=◌, field}
-use Rattle.pixel_format.proofs.Readings.{bind_got, field-whole, field-short, true_or_false}
+use Rattle.pixel_format.proofs.Readings.{bind_got, skip_more, skip_whole, skip_waits, true_or_false}
 use Rattle.pixel_format.specs.Number.{u16_at}
-use Rattle.client_wire.specs.declared.fault.WireFault.{WireFault}
 use Rattle.rfb_wire.specs.declared.progress.Over.{Over}
 use Rattle.rfb_wire.specs.declared.progress.Progress.{Progress}
 use Rattle.rfb_wire.specs.Grammar.{Recorded, ReadOver, message_at, update_at, rectangles_at, read_over}
@@ -16,34 +13,21 @@ use Rattle.rfb_wire.specs.Reader.{head_limit}
 use Rattle.rfb_wire.specs.Progress.{IsAt, IsInField, IsOver, passed_in, unlimited_at}
 use Rattle.client_wire.specs.Stream.{StandsFor, Moves}
 use Rattle.rfb_wire.specs.Stream.{given}
-use Rattle.client_wire.proofs.Streams.{empty_list, stands_kept, stands_whole, gives_none, gives_one}
+use Rattle.client_wire.proofs.Streams.{empty_list, stands_kept, stands_whole, gives_none, gives_one, over_more}
 use Rattle.rfb_wire.proofs.Turns.{field_waits, unlimited-first, message-first}
 
--- some of the bytes that are left
+-- bytes that are read over: some of those that are left, all of them, and none
 read_over_more : (j : ℕ) (taken more : List ℕ) → read_over (length taken + j) (taken ++ more) ≡ read_over j more
-unfolding read_over field
-read_over_more j taken more = elim (true_or_false (nat_lt (length more) j)) [
-  | inl t ↦
-      (let few = ltb-true (length more) j t in
-      let longer : nat_lt (length (taken ++ more)) (length taken + j) ≡ true = lt-ltb (length (taken ++ more)) (length taken + j) (omega (arith, length-append taken more)) in
-      rw (t, longer) refl)
-  | inr t ↦
-      (let enough = ltb-false (length more) j t in
-      let longer : nat_lt (length (taken ++ more)) (length taken + j) ≡ false = le-ltb (length (taken ++ more)) (length taken + j) (omega (arith, length-append taken more)) in
-      rw (t, longer, drop-append-add taken more j) refl)
-]
+unfolding read_over
+read_over_more = skip_more ReadOver
 
--- all of them
 pub read_over_whole : (n : ℕ) (taken : List ℕ) → length taken ≡ n → read_over n taken ≡ Got ReadOver []
 unfolding read_over
-read_over_whole n taken is =
-    ap (λ (b : List ℕ). field {E = WireFault} n b >>= λ skipped rest. Got ReadOver rest) (sym (append-nil taken))
-    ∙ rw (field-whole {E = WireFault} n taken [] is) refl
+read_over_whole = skip_whole ReadOver
 
--- none
 read_over_waits : (n : ℕ) → 0 < n → read_over n [] ≡ More
 unfolding read_over
-read_over_waits n some = rw (field-short {E = WireFault} n [] some) refl
+read_over_waits = skip_waits ReadOver
 
 -- an update is not read over
 pub update_never : (width height : ℕ) (bytes rest : List ℕ) → update_at width height bytes ≡ Got ReadOver rest → ⊥
@@ -95,33 +79,10 @@ over_at_once limit width height bytes head link =
 pub over_goes : (limit width height n : ℕ) (bytes : List ℕ) (o : Over) → IsOver limit width height bytes o → n < o.left
     → IsOver limit width height bytes (record { passed = o.passed + n; left = o.left - n })
 over_goes limit width height n bytes o is few = record {
-  link = λ skipped more count.
-      let a : List ℕ = take o.passed skipped in
-      let b : List ℕ = drop o.passed skipped in
-      let both : a ++ b ≡ skipped = take-append-drop o.passed skipped in
-      let length_a : length a ≡ o.passed = length-take-le o.passed skipped (omega arith) in
-      let length_b : length b ≡ n = length-drop o.passed skipped ∙ omega arith in
-      let left : o.left ≡ length b + (o.left - n) = omega arith in
-      let stream : (bytes ++ skipped) ++ more ≡ (bytes ++ a) ++ (b ++ more) =
-      ap (λ z. (bytes ++ z) ++ more) (sym both) ∙ ap (λ z. z ++ more) (sym (append_assoc bytes a b)) ∙ append_assoc (bytes ++ a) b more in
-      ap (message_at limit width height) stream ∙ is.link a (b ++ more) length_a
-      ∙ ap (λ k. read_over k (b ++ more)) left ∙ read_over_more (o.left - n) b more;
+  link = over_more (message_at limit width height) read_over read_over_more bytes o.passed o.left n few is.link;
   some = omega arith;
   bound = omega (arith, is.bound);
   short = is.short;
-}
-
--- where bytes pass, nothing is given
-pub pass_goes : (limit width height : ℕ) (bytes : List ℕ) (passed n : ℕ) (old : List Host) (rest taken : List ℕ) → StandsFor bytes passed rest → length taken ≡ n
-    → Moves (message_at limit width height) (given width height) bytes (passed + n) old old (rest ++ taken)
-pass_goes limit width height bytes passed n old rest taken s is = record {
-  rest = rest ++ taken;
-  gives = gives_none (message_at limit width height) (given width height) old old (rest ++ taken) (rest ++ taken) refl refl;
-  stands = record {
-    skipped = s.skipped ++ taken;
-    count = rw length-append (omega (arith, s.count));
-    is = ap (λ z. z ++ taken) s.is ∙ append_assoc bytes s.skipped taken;
-  };
 }
 
 -- where all have passed, the message is whole

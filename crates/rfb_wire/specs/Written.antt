@@ -3,6 +3,7 @@ use Rattle.std.specs.Prelude.{ℕ, ◌+◌, ◌*◌, ◌/◌, ◌%◌, List, [],
 use Rattle.std.specs.List.{flat_map}
 use Rattle.pixel_format.specs.declared.Color.{Color}
 use Rattle.client_wire.specs.declared.message.Area.{Area}
+use Rattle.client_wire.specs.Written.{text_bytes, one_rectangle_head}
 use Rattle.rfb_wire.specs.declared.message.Rectangle.{Rectangle}
 use Rattle.rect_data.specs.declared.encoding.Encoding.TheVariants as encodings
 
@@ -10,11 +11,10 @@ use Rattle.rect_data.specs.declared.encoding.Encoding.TheVariants as encodings
 abbrev pub two_bytes : ℕ → List ℕ
 two_bytes n = n / 256 ∷ n % 256 ∷ []
 
--- FramebufferUpdate of one rectangle: type 0, a byte of padding, the number of rectangles, and the
--- header of the rectangle: x, y, width, height, and the number of the encoding, Raw (RFC 6143,
--- sections 7.6.1 and 7.7.1)
+-- FramebufferUpdate of one rectangle in the encoding Raw, whose number is 0 (RFC 6143, sections 7.6.1
+-- and 7.7.1)
 abbrev pub raw_head : Area → List ℕ
-raw_head a = 0 ∷ 0 ∷ 0 ∷ 1 ∷ two_bytes a.x ++ two_bytes a.y ++ two_bytes a.w ++ two_bytes a.h ++ 0 ∷ 0 ∷ 0 ∷ 0 ∷ []
+raw_head a = one_rectangle_head a 0
 
 -- and its pixels
 abbrev pub raw_update_bytes : Area → List ℕ → List ℕ
@@ -39,10 +39,6 @@ color_map_bytes first colors = color_map_head first (length colors) ++ flat_map 
 abbrev pub bell_bytes : List ℕ
 bell_bytes = 2 ∷ []
 
--- the head of a ServerCutText: type 3, three bytes of padding, and the text's length (section
--- 7.6.4)
-abbrev pub text_head : ℕ → List ℕ
-text_head n = 3 ∷ 0 ∷ 0 ∷ 0 ∷ n / 16777216 ∷ n / 65536 % 256 ∷ n / 256 % 256 ∷ n % 256 ∷ []
-
+-- ServerCutText: type 3 (section 7.6.4)
 abbrev pub cut_text_bytes : List ℕ → List ℕ
-cut_text_bytes text = text_head (length text) ++ text
+cut_text_bytes = text_bytes 3

@@ -6,10 +6,10 @@ ghost use Rattle.pixel_format.specs.declared.Color.{Color as ColorValue};
 ghost use Rattle.client_wire.specs.declared.message.Area.{Area as AreaValue};
 ghost use Rattle.rect_data.specs.Grammar.{is_inside};
 ghost use Rattle.rfb_wire.specs.Grammar.{message_at, Recorded, ReadOver, text_limit};
-ghost use Rattle.rfb_wire.specs.Written.{raw_head, raw_update_bytes, raw_rectangle, color_map_head, color_bytes, color_map_bytes, bell_bytes, text_head, cut_text_bytes};
+ghost use Rattle.rfb_wire.specs.Written.{raw_update_bytes, raw_rectangle, color_map_head, color_bytes, color_map_bytes, bell_bytes, cut_text_bytes};
 
-use client_wire::Area;
-use pixel_format::{Color, NoMemory};
+use client_wire::{Area, write_text, write_update_head};
+use pixel_format::{Color, NoMemory, whole_or_none};
 
 /// Appends a host's FramebufferUpdate of one Raw rectangle (RFC 6143, sections 7.6.1 and 7.7.1):
 /// its area, and the pixels of the area by rows, in the viewer's format.
@@ -18,38 +18,9 @@ pub fn write_raw_update(area: Area, pixels: &[u8], out: &mut Vec<u8>) -> Result<
     ensures err { OnErr result (out.new.items ≡ out.old.items) }
 {
     let start = out.len();
-    write_raw_head(area, out)?;
-    if let Err(fault) = out.extend_from_slice(pixels) {
-        out.truncate(start);
-        return Err(fault);
-    }
-    Ok(())
-}
-
-// Appends all but the pixels.
-fn write_raw_head(area: Area, out: &mut Vec<u8>) -> Result<(), NoMemory>
-    ensures ok { OnOk result (out.new.items ≡ out.old.items ++ raw_head area) }
-    ensures err { OnErr result (out.new.items ≡ out.old.items) }
-{
-    out.extend_from_slice(&[
-        0,
-        0,
-        0,
-        1,
-        (area.x / 256) as u8,
-        (area.x % 256) as u8,
-        (area.y / 256) as u8,
-        (area.y % 256) as u8,
-        (area.w / 256) as u8,
-        (area.w % 256) as u8,
-        (area.h / 256) as u8,
-        (area.h % 256) as u8,
-        0,
-        0,
-        0,
-        0,
-    ])?;
-    Ok(())
+    write_update_head(area, 0, out)?;
+    let appended = out.extend_from_slice(pixels);
+    whole_or_none(appended, start, out)
 }
 
 /// Appends a host's SetColorMapEntries (RFC 6143, section 7.6.2): at most 65,535 colours, for the
@@ -60,11 +31,8 @@ pub fn write_color_map(first: u16, colors: &[Color], out: &mut Vec<u8>) -> Resul
     ensures err { OnErr result (out.new.items ≡ out.old.items) }
 {
     let start = out.len();
-    if let Err(fault) = append_color_map(first, colors, out) {
-        out.truncate(start);
-        return Err(fault);
-    }
-    Ok(())
+    let appended = append_color_map(first, colors, out);
+    whole_or_none(appended, start, out)
 }
 
 // Appends the same, or a part of it.
@@ -73,15 +41,9 @@ fn append_color_map(first: u16, colors: &[Color], out: &mut Vec<u8>) -> Result<(
     ensures ok { OnOk result (out.new.items ≡ out.old.items ++ color_map_bytes first colors.now) }
     ensures part { take (length out.old.items) out.new.items ≡ out.old.items }
 {
-    let count = colors.len();
-    out.extend_from_slice(&[
-        1,
-        0,
-        (first / 256) as u8,
-        (first % 256) as u8,
-        (count / 256) as u8,
-        (count % 256) as u8,
-    ])?;
+    let [number, number_low] = first.to_be_bytes();
+    let [count, count_low] = (colors.len() as u16).to_be_bytes();
+    out.extend_from_slice(&[1, 0, number, number_low, count, count_low])?;
     for color in colors {
         out.extend_from_slice(&map_entry(*color))?;
     }
@@ -92,14 +54,10 @@ fn append_color_map(first: u16, colors: &[Color], out: &mut Vec<u8>) -> Result<(
 fn map_entry(color: Color) -> [u8; 6]
     ensures { result ≡ color_bytes color }
 {
-    [
-        (color.r / 256) as u8,
-        (color.r % 256) as u8,
-        (color.g / 256) as u8,
-        (color.g % 256) as u8,
-        (color.b / 256) as u8,
-        (color.b % 256) as u8,
-    ]
+    let [red, red_low] = color.r.to_be_bytes();
+    let [green, green_low] = color.g.to_be_bytes();
+    let [blue, blue_low] = color.b.to_be_bytes();
+    [red, red_low, green, green_low, blue, blue_low]
 }
 
 /// Appends a host's Bell (RFC 6143, section 7.6.3).
@@ -107,8 +65,7 @@ pub fn write_bell(out: &mut Vec<u8>) -> Result<(), NoMemory>
     ensures ok { OnOk result (out.new.items ≡ out.old.items ++ bell_bytes) }
     ensures err { OnErr result (out.new.items ≡ out.old.items) }
 {
-    out.extend_from_slice(&[2])?;
-    Ok(())
+    out.extend_from_slice(&[2])
 }
 
 /// Appends a host's ServerCutText (RFC 6143, section 7.6.4).
@@ -117,31 +74,7 @@ pub fn write_cut_text(text: &[u8], out: &mut Vec<u8>) -> Result<(), NoMemory>
     ensures ok { OnOk result (out.new.items ≡ out.old.items ++ cut_text_bytes text.now) }
     ensures err { OnErr result (out.new.items ≡ out.old.items) }
 {
-    let start = out.len();
-    write_text_head(text.len() as u32, out)?;
-    if let Err(fault) = out.extend_from_slice(text) {
-        out.truncate(start);
-        return Err(fault);
-    }
-    Ok(())
-}
-
-// Appends the head of a cut text of so many bytes.
-fn write_text_head(count: u32, out: &mut Vec<u8>) -> Result<(), NoMemory>
-    ensures ok { OnOk result (out.new.items ≡ out.old.items ++ text_head count) }
-    ensures err { OnErr result (out.new.items ≡ out.old.items) }
-{
-    out.extend_from_slice(&[
-        3,
-        0,
-        0,
-        0,
-        (count / 16_777_216) as u8,
-        (count / 65_536 % 256) as u8,
-        (count / 256 % 256) as u8,
-        (count % 256) as u8,
-    ])?;
-    Ok(())
+    write_text(3, text, out)
 }
 
 /// An update of one Raw rectangle that is written is read as a recorded message with that

@@ -1,4 +1,4 @@
-use Rattle.std.proofs.Common.{◌≡◌, ◌++◌, ℕ, ◌-◌, List, length, take, drop, refl, ap, ◌∙◌, rules}
+use Rattle.std.proofs.Common.{◌≡◌, ◌++◌, ◌-◌, List, length, take, drop, refl, ap, ◌∙◌, rules}
 use Rattle.std.proofs.lemmas.List.{take_rest}
 use Rattle.pixel_format.specs.Reading.{Bad}
 use Rattle.rfb_wire.specs.Grammar.{message_at, message_limit}

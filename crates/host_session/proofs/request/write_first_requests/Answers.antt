@@ -1,4 +1,4 @@
-use Rattle.std.proofs.Common.{◌≡◌, ℕ, List, ◌++◌, refl, sym, ap, ◌∙◌, append_assoc, false}
+use Rattle.std.proofs.Common.{◌≡◌, ℕ, List, ◌++◌, ap, ◌∙◌, append_assoc, false}
 use Rattle.pixel_format.specs.Format.{host_format}
 use Rattle.client_wire.specs.Written.{set_pixel_format_bytes, request_bytes}
 use Rattle.host_session.specs.Handshake.{set_encodings, whole}

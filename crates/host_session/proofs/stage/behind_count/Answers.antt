@@ -1,10 +1,6 @@
-use Rattle.std.proofs.Common.{◌≡◌, ℕ, ◌-◌, Bool, true, false, rules, arith, slice_index, nat_eq, refl, sym, ap, ◌∙◌, List, []}
-use Rattle.std.specs.Prelude.{min}
+use Rattle.std.proofs.Common.{◌≡◌, ℕ, false, slice_index, nat_eq, refl, sym, ◌∙◌}
 use Rattle.std.proofs.lemmas.Bool.{ne_eqb}
-use Rattle.pixel_format.specs.Number.{u16_at, u32_at}
-use Rattle.host_session.specs.declared.stage.Stage.TheVariants as stages
-use Rattle.host_session.specs.Handshake.{text_limit, offers_none, is_allowed, is_expected, sized, counted, judged, offered}
-use Rattle.host_session.proofs.Goes.{count_goes, types_go, outcome_goes, length_goes, reason_goes, size_goes, head_goes, name_goes, resume_types, resume_length, resume_size, resume_head, resume_outcome}
+use Rattle.host_session.proofs.Goes.{count_goes, resume_types, resume_length}
 use Rattle.host_session.proofs.stage.behind_count.Goals as goal
 
 pub returns-then-field-eq0-clause-goes : goal.returns-then-field-eq0-clause-goes

@@ -1,10 +1,7 @@
-use Rattle.std.proofs.Common.{◌≡◌, ℕ, ◌-◌, Bool, true, false, rules, arith, slice_index, nat_eq, refl, sym, ap, ◌∙◌, List, []}
-use Rattle.std.specs.Prelude.{min}
+use Rattle.std.proofs.Common.{◌≡◌, ℕ, false, rules, nat_eq, refl, sym, ◌∙◌}
 use Rattle.std.proofs.lemmas.Bool.{ne_eqb}
-use Rattle.pixel_format.specs.Number.{u16_at, u32_at}
-use Rattle.host_session.specs.declared.stage.Stage.TheVariants as stages
-use Rattle.host_session.specs.Handshake.{text_limit, offers_none, is_allowed, is_expected, sized, counted, judged, offered}
-use Rattle.host_session.proofs.Goes.{count_goes, types_go, outcome_goes, length_goes, reason_goes, size_goes, head_goes, name_goes, resume_types, resume_length, resume_size, resume_head, resume_outcome}
+use Rattle.pixel_format.specs.Number.{u32_at}
+use Rattle.host_session.proofs.Goes.{outcome_goes, resume_length, resume_size}
 use Rattle.host_session.proofs.stage.behind_outcome.Goals as goal
 
 pub returns-then-outcome-ne0-clause-goes : goal.returns-then-outcome-ne0-clause-goes
@@ -17,4 +14,4 @@ returns-then-outcome-ne0-clause-goes c = λ expected more.
 pub returns-clause-goes : goal.returns-clause-goes
 returns-clause-goes c = λ expected more.
     let is : u32_at c.args.field.now 0 ≡ 0 = search rules in
-    outcome_goes expected c.args.field.now more 0 c.requires is ∙ rw (resume_size expected more) refl
+    rw c.answered.ensures (outcome_goes expected c.args.field.now more 0 c.requires is ∙ rw (resume_size expected more) refl)

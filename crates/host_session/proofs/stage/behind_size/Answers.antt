@@ -1,10 +1,7 @@
-use Rattle.std.proofs.Common.{◌≡◌, ℕ, ◌-◌, Bool, true, false, rules, arith, slice_index, nat_eq, refl, sym, ap, ◌∙◌, List, []}
-use Rattle.std.specs.Prelude.{min}
-use Rattle.std.proofs.lemmas.Bool.{ne_eqb}
-use Rattle.pixel_format.specs.Number.{u16_at, u32_at}
-use Rattle.host_session.specs.declared.stage.Stage.TheVariants as stages
-use Rattle.host_session.specs.Handshake.{text_limit, offers_none, is_allowed, is_expected, sized, counted, judged, offered}
-use Rattle.host_session.proofs.Goes.{count_goes, types_go, outcome_goes, length_goes, reason_goes, size_goes, head_goes, name_goes, resume_types, resume_length, resume_size, resume_head, resume_outcome}
+use Rattle.std.proofs.Common.{◌≡◌, ℕ, true, false, rules, refl, sym, ◌∙◌}
+use Rattle.pixel_format.specs.Number.{u16_at}
+use Rattle.host_session.specs.Handshake.{is_allowed, is_expected}
+use Rattle.host_session.proofs.Goes.{size_goes, resume_head}
 use Rattle.host_session.proofs.stage.behind_size.Goals as goal
 
 pub returns-then-not-allows-clause-faults : goal.returns-then-not-allows-clause-faults

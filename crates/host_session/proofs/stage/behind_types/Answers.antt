@@ -1,10 +1,6 @@
-use Rattle.std.proofs.Common.{◌≡◌, ℕ, ◌-◌, Bool, true, false, rules, arith, slice_index, nat_eq, refl, sym, ap, ◌∙◌, List, []}
-use Rattle.std.specs.Prelude.{min}
-use Rattle.std.proofs.lemmas.Bool.{ne_eqb}
-use Rattle.pixel_format.specs.Number.{u16_at, u32_at}
-use Rattle.host_session.specs.declared.stage.Stage.TheVariants as stages
-use Rattle.host_session.specs.Handshake.{text_limit, offers_none, is_allowed, is_expected, sized, counted, judged, offered}
-use Rattle.host_session.proofs.Goes.{count_goes, types_go, outcome_goes, length_goes, reason_goes, size_goes, head_goes, name_goes, resume_types, resume_length, resume_size, resume_head, resume_outcome}
+use Rattle.std.proofs.Common.{◌≡◌, true, false, rules, refl, ◌∙◌}
+use Rattle.host_session.specs.Handshake.{offers_none}
+use Rattle.host_session.proofs.Goes.{types_go, resume_outcome}
 use Rattle.host_session.proofs.stage.behind_types.Goals as goal
 
 pub returns-then-not-offers-clause-faults : goal.returns-then-not-offers-clause-faults
@@ -15,4 +11,4 @@ returns-then-not-offers-clause-faults c = λ expected more.
 pub returns-clause-goes : goal.returns-clause-goes
 returns-clause-goes c = λ expected more.
     let e : offers_none c.args.field.now ≡ true = search rules in
-    types_go expected c.args.field.now more c.args.count true c.requires e ∙ rw (resume_outcome expected more) refl
+    rw c.answered.ensures (types_go expected c.args.field.now more c.args.count true c.requires e ∙ rw (resume_outcome expected more) refl)

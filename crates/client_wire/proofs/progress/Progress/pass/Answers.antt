@@ -1,6 +1,9 @@
 use Rattle.client_wire.specs.Progress.{passed_in}
 use Rattle.client_wire.specs.declared.message.ClientMessage.TheVariants as messages
-use Rattle.client_wire.proofs.Turns.{over_goes, pass_goes, given_moves, over_whole}
+use Rattle.client_wire.proofs.Turns.{over_goes, given_moves, over_whole}
+use Rattle.client_wire.proofs.Streams.{pass_goes}
+use Rattle.client_wire.specs.Grammar.{message_at}
+use Rattle.client_wire.specs.Stream.{itself}
 use Rattle.std.proofs.Common.{◌++◌}
 use Rattle.client_wire.proofs.progress.Progress.pass.Goals as goal
 
@@ -15,4 +18,4 @@ returns-clause-at c = over_goes c.args.available c.args.self.now.bytes.items c.a
 
 pub returns-clause-moves : goal.returns-clause-moves
 returns-clause-moves c = λ rest taken s is.
-    pass_goes c.args.self.now.bytes.items c.args.over.passed c.args.available c.args.out.now.items rest taken s is
+    pass_goes message_at itself c.args.self.now.bytes.items c.args.over.passed c.args.available c.args.out.now.items rest taken s is

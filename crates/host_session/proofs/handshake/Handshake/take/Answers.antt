@@ -1,9 +1,8 @@
-use Rattle.std.proofs.Common.{◌≡◌, ℕ, ◌+◌, ◌-◌, ◌≤◌, List, ◌++◌, length, take, drop, refl, sym, ap, ◌∙◌, append_assoc, length-append, arith}
-use Rattle.std.proofs.lemmas.List.{take_rest, take-append-drop, take-append-le}
+use Rattle.std.proofs.Common.{◌≡◌, ◌+◌, ◌-◌, ◌++◌, length, take, drop, refl, sym, ap, ◌∙◌, append_assoc, length-append, arith}
+use Rattle.std.proofs.lemmas.List.{take_rest, take-append-drop}
 use Rattle.std.proofs.Math.Seq.{take-append-add}
 use Rattle.host_session.specs.Handshake.{first_requests}
-use Rattle.host_session.specs.Stage.{Ends}
-use Rattle.host_session.specs.Take.{Goes, Whole, Says, told_at}
+use Rattle.host_session.specs.Take.{Goes, Whole, told_at}
 use Rattle.host_session.proofs.Turns.{leads_more, leads_end}
 use Rattle.host_session.proofs.handshake.Handshake.take.Goals as goal
 

@@ -1,7 +1,5 @@
-use Rattle.std.proofs.Common.{◌≡◌, ℕ, ◌-◌, ◌≤◌, List, [], ◌++◌, length, take, sym, refl, ap, ◌∙◌, arith}
+use Rattle.std.proofs.Common.{◌≡◌, ℕ, ◌≤◌, List, [], ◌++◌, length, take, sym, ap, ◌∙◌, arith}
 use Rattle.std.proofs.lemmas.List.{append-nil, length-take-le}
-use Rattle.host_session.specs.declared.stage.Position.TheVariants as positions
-use Rattle.host_session.specs.Handshake.{rest_of_name}
 use Rattle.host_session.specs.Stage.{position_at}
 use Rattle.host_session.proofs.Goes.{rest-goes, rest-whole}
 use Rattle.host_session.proofs.handshake.Handshake.turn_in_rest.Goals as goal

@@ -1,9 +1,10 @@
-use Rattle.std.proofs.Common.{◌≡◌, ℕ, ◌++◌, List, sym, refl, ap, ◌∙◌, rules}
+use Rattle.std.proofs.Common.{◌≡◌, ◌++◌, sym, ◌∙◌, rules}
 use Rattle.std.specs.Prelude.{Some, None}
 use Rattle.std.proofs.lemmas.List.{take_rest}
 use Rattle.std.proofs.lemmas.Result.{err_from_is_err_and}
 use Rattle.rfb_wire.specs.Grammar.{message_limit}
-use Rattle.host_session.proofs.Sessions.{on_ok, if_err, stands_listening, stands_handshake, listening_goes, listening_stops, handshake_stops, handshake_fed, rest_goes, rest_stops}
+use Rattle.std.proofs.lemmas.Result.{on_ok_weaker, IfErr-weaker}
+use Rattle.host_session.proofs.Sessions.{stands_listening, stands_handshake, listening_goes, listening_stops, handshake_stops, handshake_fed, rest_goes, rest_stops}
 use Rattle.host_session.proofs.progress.Progress.feed.Goals as goal
 
 pub returns-in-Some-clause-goes : goal.returns-in-Some-clause-goes
@@ -11,7 +12,7 @@ returns-in-Some-clause-goes c =
     let s = c.args.self.now in
     let r = c.in-Some.reader in
     let is : s.reader ≡ Some r = sym c.take.ensures.value ∙ c.in-Some.is in
-    on_ok c.listen-heard.result _ _ (λ g stream sent messages h.
+    on_ok_weaker c.listen-heard.result (λ g stream sent messages h.
     listening_goes message_limit c.args.expected s.handshake.position s.handshake.kept.items r c.listen-heard.new.reader stream c.args.piece.now messages sent
     c.args.out.now.items c.listen-heard.new.out.items c.args.due.now.items c.listen-heard.new.due.items c.listen-heard.ensures.size g
     (stands_listening message_limit c.args.expected s.handshake.position s.handshake.kept.items s.reader r stream messages (sent ++ c.args.due.now.items) is h))
@@ -22,7 +23,7 @@ returns-in-Some-clause-faults c =
     let s = c.args.self.now in
     let r = c.in-Some.reader in
     let is : s.reader ≡ Some r = sym c.take.ensures.value ∙ c.in-Some.is in
-    if_err c.listen-heard.result _ _ (λ f g stream sent messages h.
+    IfErr-weaker c.listen-heard.result _ _ (λ f g stream sent messages h.
     listening_stops message_limit c.args.expected s.handshake.kept.items r c.listen-heard.new.reader f stream c.args.piece.now messages sent
     c.args.out.now.items c.listen-heard.new.out.items c.args.due.now.items c.listen-heard.new.due.items c.listen-heard.ensures.size c.listen-heard.ensures.some g
     (stands_listening message_limit c.args.expected s.handshake.position s.handshake.kept.items s.reader r stream messages (sent ++ c.args.due.now.items) is h))
@@ -49,7 +50,7 @@ returns-clause-goes c =
     let whole = rw c.in-Some-2.is at c.in_ok-taken.ensures.taken in
     let is : m.reader ≡ Some r = sym c.take-2.ensures.value ∙ c.in-Some-take.is in
     let rest = take_rest c.args.piece.now c.in-Some-2.taken in
-    on_ok c.listen-heard-2.result _ _ (λ g stream sent messages h.
+    on_ok_weaker c.listen-heard-2.result (λ g stream sent messages h.
     rest_goes message_limit c.args.expected m.handshake.position _ m r c.listen-heard-2.new.reader c.in-Some-2.taken stream c.args.piece.now _ messages sent
     c.args.out.now.items c.listen-heard-2.new.out.items c.args.due.now.items c.take_handshake.new.due.items c.listen-heard-2.new.due.items whole is rest c.listen-heard-2.ensures.size g
     (stands_handshake message_limit c.args.expected s.handshake.position s.handshake.kept.items s.reader stream messages (sent ++ c.args.due.now.items) none h))
@@ -64,7 +65,7 @@ returns-clause-faults c =
     let whole = rw c.in-Some-2.is at c.in_ok-taken.ensures.taken in
     let is : m.reader ≡ Some r = sym c.take-2.ensures.value ∙ c.in-Some-take.is in
     let rest = take_rest c.args.piece.now c.in-Some-2.taken in
-    if_err c.listen-heard-2.result _ _ (λ f g stream sent messages h.
+    IfErr-weaker c.listen-heard-2.result _ _ (λ f g stream sent messages h.
     rest_stops message_limit c.args.expected _ m r c.listen-heard-2.new.reader f c.in-Some-2.taken stream c.args.piece.now _ messages sent
     c.args.out.now.items c.listen-heard-2.new.out.items c.args.due.now.items c.take_handshake.new.due.items c.listen-heard-2.new.due.items whole is rest c.listen-heard-2.ensures.size c.listen-heard-2.ensures.some g
     (stands_handshake message_limit c.args.expected s.handshake.position s.handshake.kept.items s.reader stream messages (sent ++ c.args.due.now.items) none h))

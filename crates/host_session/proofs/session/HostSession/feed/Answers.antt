@@ -1,8 +1,8 @@
 use Rattle.std.proofs.Common.{◌≡◌, ◌++◌, List, ℕ, ap, ◌∙◌}
 use Rattle.rfb_wire.specs.Grammar.{message_limit}
-use Rattle.host_session.specs.Fault.{UnlessMemory}
+use Rattle.std.proofs.lemmas.Result.{on_ok_weaker, IfErr-weaker}
 use Rattle.host_session.proofs.Turns.{unless_memory_map}
-use Rattle.host_session.proofs.Sessions.{on_ok, if_err, fed, stopped, nothing_said}
+use Rattle.host_session.proofs.Sessions.{fed, stopped, nothing_said}
 use Rattle.host_session.proofs.session.HostSession.feed.Goals as goal
 
 pub returns-clause-goes : goal.returns-clause-goes
@@ -27,5 +27,5 @@ returns-in-Err-clause-faults c = λ going stream sent messages h.
     c.new-said.ensures.items (rw (← c.self.view_is) at h) in
     stopped message_limit _ (stream ++ c.args.piece.now) messages sent s.due.items said c.args.out.now.items c.feed-heard.new.out.items c.feed-heard.result c.in-Err.fault
     (unless_memory_map c.in-Err.fault _ _ (λ e. (e.0, e.1 ∙ ap (λ z. s.due.items ++ z) c.deref.ensures.value)) c.in-Err.ensures.err)
-    (on_ok c.feed-heard.result _ _ (λ goes. goes stream (sent ++ s.due.items) messages from) c.feed-heard.ensures.goes)
-    (if_err c.feed-heard.result _ _ (λ f stops. stops stream (sent ++ s.due.items) messages from) c.feed-heard.ensures.faults)
+    (on_ok_weaker c.feed-heard.result (λ goes. goes stream (sent ++ s.due.items) messages from) c.feed-heard.ensures.goes)
+    (IfErr-weaker c.feed-heard.result _ _ (λ f stops. stops stream (sent ++ s.due.items) messages from) c.feed-heard.ensures.faults)

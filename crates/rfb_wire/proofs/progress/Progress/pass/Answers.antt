@@ -1,7 +1,9 @@
 use Rattle.std.proofs.Common.{◌<◌, ap, ◌∙◌, arith}
 use Rattle.rfb_wire.specs.Progress.{passed_in}
-use Rattle.rfb_wire.proofs.Over.{pass_ends, pass_goes, over_goes}
-use Rattle.rfb_wire.specs.Grammar.{message_limit}
+use Rattle.client_wire.proofs.Streams.{pass_goes}
+use Rattle.rfb_wire.proofs.Over.{pass_ends, over_goes}
+use Rattle.rfb_wire.specs.Grammar.{message_at, message_limit}
+use Rattle.rfb_wire.specs.Stream.{given}
 use Rattle.rfb_wire.proofs.progress.Progress.pass.Goals as goal
 
 pub returns-then-taken-over-clause-moves : goal.returns-then-taken-over-clause-moves
@@ -16,4 +18,4 @@ returns-else-taken-over-clause-at c =
 
 pub returns-else-taken-over-clause-moves : goal.returns-else-taken-over-clause-moves
 returns-else-taken-over-clause-moves c = λ old rest taken s is.
-    pass_goes message_limit c.args.width c.args.height c.args.self.now.bytes.items c.args.over.passed c.min-taken.result old rest taken s is
+    pass_goes (message_at message_limit c.args.width c.args.height) (given c.args.width c.args.height) c.args.self.now.bytes.items c.args.over.passed c.min-taken.result old rest taken s is
