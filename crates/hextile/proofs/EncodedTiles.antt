@@ -68,23 +68,13 @@ none_written f w h colors old = record {
   };
 }
 
-place_wide : (w h column row number : ℕ) → column < w → row < h → tile_number w column row ≡ number → column % 16 < tile_width w number
-place_wide w h column row number across down it =
+-- a place stands within its tile
+place_within : (w h column row number : ℕ) → column < w → row < h → tile_number w column row ≡ number
+    → (column % 16 < tile_width w number) × (row % 16 < tile_height w h number)
+place_within w h column row number across down it =
     let place = in_its_tile w h column row number across down it in
     let inside = in_is (tile_left w number) (tile_top w number) (tile_width w number) (tile_height w h number) column row place.covered in
-    let left = inside.left in
-    let right = inside.right in
-    let at = place.across in
-    omega arith
-
-place_high : (w h column row number : ℕ) → column < w → row < h → tile_number w column row ≡ number → row % 16 < tile_height w h number
-place_high w h column row number across down it =
-    let place = in_its_tile w h column row number across down it in
-    let inside = in_is (tile_left w number) (tile_top w number) (tile_width w number) (tile_height w h number) column row place.covered in
-    let top = inside.top in
-    let bottom = inside.bottom in
-    let at = place.down in
-    omega arith
+    (omega (arith, inside.left, inside.right, place.across), omega (arith, inside.top, inside.bottom, place.down))
 
 -- a place of the tile has the colour of the rectangle's place
 place_color : (w h : ℕ) (colors tile : List Color) (number column row : ℕ) → column < w → row < h → tile_number w column row ≡ number
@@ -138,8 +128,8 @@ one_written f w h colors tile taken number known after tw th old between new les
             ∙ elim (cases_eq (tile_number w column row) number) [
               | inl it ↦
                   let n = tile_number w column row in
-                  let wide : column % 16 < tile_width w number = place_wide w h column row number across down it in
-                  let high : row % 16 < tile_height w h number = place_high w h column row number across down it in
+                  let wide : column % 16 < tile_width w number = (place_within w h column row number across down it).0 in
+                  let high : row % 16 < tile_height w h number = (place_within w h column row number across down it).1 in
                   let fits : row % 16 * tile_width w number + column % 16 < tw * th =
                   rw (tw_is, th_is) (mul-add-lt (row % 16) (tile_width w number) (column % 16) (tile_height w h number) high wide) in
                   ap (λ (z : List Tile). latest_picture (tile_width w n) z (column % 16) (row % 16)) (upto_same n t latest (length_is ∙ sym it))

@@ -7,6 +7,7 @@ use Rattle.pixel_format.specs.Reading.{Got, Bad, ◌>>=◌, field, guard}
 use Rattle.pixel_format.proofs.Readings.{field_got, field-whole, true_or_false, field_front, one_number}
 use Rattle.pixel_format.proofs.Refusals.{bind_bad, field_never_bad, got_never_bad, guard_bad}
 use Rattle.pixel_format.proofs.Measured.{measured_bad}
+use Rattle.pixel_format.proofs.Listed.{StopsIn, stops_here, stops_behind}
 use Rattle.hextile.specs.declared.fields.Subrectangle.{Subrectangle}
 use Rattle.hextile.specs.declared.fields.Named.{Named}
 use Rattle.hextile.specs.declared.fault.Measure.TheVariants as answers
@@ -48,37 +49,18 @@ subrectangle_bad f colored w h bytes e =
           ]
     ]
 
-record OneLeaves (f : Format) (colored : Bool) (w h count : ℕ) (bytes : List ℕ) : Type 0 where
-  pub earlier : List Subrectangle
-  pub body : List ℕ
-  pub last : List ℕ
-  pub bytes_are : bytes ≡ body ++ last
-  pub body_is : AreSubrectangles f colored w h earlier body
-  pub one_of_them : length earlier < count
-  pub outside : Leaves f colored w h last
-
 subrectangles_bad : (f : Format) (colored : Bool) (w h count : ℕ) (bytes : List ℕ) → subrectangles_at f colored w h count bytes ≡ Bad Refused
-    → OneLeaves f colored w h count bytes
+    → StopsIn (AreSubrectangles f colored w h) (Leaves f colored w h) count bytes
 unfolding subrectangles_at
 subrectangles_bad f colored w h zero bytes e = absurd (got_never_bad _ _ _ e)
 subrectangles_bad f colored w h (suc count) bytes e =
     elim (bind_bad (subrectangle_at f colored w h bytes) (λ first after. subrectangles_at f colored w h count after >>= λ others end. Got (first ∷ others) end) Refused e) [
-      | inl bad ↦ record { earlier = []; body = []; last = bytes; bytes_are = refl; body_is = refl; one_of_them = omega arith; outside = subrectangle_bad f colored w h bytes bad }
+      | inl bad ↦ stops_here (AreSubrectangles f colored w h) (Leaves f colored w h) count bytes refl (subrectangle_bad f colored w h bytes bad)
       | inr b ↦
           let r = subrectangle_read f colored w h bytes b.value b.rest b.first in
           elim (bind_bad (subrectangles_at f colored w h count b.rest) (λ others end. Got (b.value ∷ others) end) Refused b.then) [
-            | inl bad ↦
-                let others = subrectangles_bad f colored w h count b.rest bad in
-                let less = others.one_of_them in
-                record {
-                  earlier = b.value ∷ others.earlier;
-                  body = r.first ++ others.body;
-                  last = others.last;
-                  bytes_are = r.bytes_are ∙ ap (λ z. r.first ++ z) others.bytes_are ∙ sym (append_assoc r.first others.body others.last);
-                  body_is = (r.first, others.body, refl, r.is, r.within, others.body_is);
-                  one_of_them = omega arith;
-                  outside = others.outside;
-                }
+            | inl bad ↦ stops_behind (AreSubrectangles f colored w h) (Leaves f colored w h) b.value count bytes r.first b.rest r.bytes_are
+                (subrectangles_bad f colored w h count b.rest bad) (λ others body are. (r.first, body, refl, r.is, r.within, are))
             | inr d ↦ absurd (got_never_bad _ _ _ d.then)
           ]
     ]
@@ -114,17 +96,17 @@ parts_bad f w h byte before bytes raw allowed e =
                   count = count_in f m b.value;
                   earlier = one.earlier;
                   body = one.body;
-                  outside = one.outside.outside;
-                  field = one.outside.field;
-                  more = one.outside.more;
-                  bytes_are = ap (λ z. byte ∷ z) (k.0 ∙ ap (λ z. b.value ++ z) (one.bytes_are ∙ ap (λ z. one.body ++ z) one.outside.bytes_are));
+                  outside = one.stops.outside;
+                  field = one.stops.field;
+                  more = one.stops.more;
+                  bytes_are = ap (λ z. byte ∷ z) (k.0 ∙ ap (λ z. b.value ++ z) (one.bytes_are ∙ ap (λ z. one.body ++ z) one.stops.bytes_are));
                   not_raw = raw;
                   allowed = allowed;
                   head_is = head_is f m b.value k.1;
                   body_is = one.body_is;
                   one_of_them = one.one_of_them;
-                  field_is = one.outside.is;
-                  leaves = one.outside.leaves;
+                  field_is = one.stops.is;
+                  leaves = one.stops.leaves;
                 }
             | inr d ↦ absurd (got_never_bad _ _ _ d.then)
           ]

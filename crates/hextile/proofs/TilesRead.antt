@@ -1,6 +1,7 @@
 -- What tiles the grammar reads are, and that tiles are read so.
 use Rattle.std.proofs.Common.{◌≡◌, ℕ, zero, suc, ◌+◌, ◌-◌, ◌*◌, ◌<◌, inl, inr, true, false, Bool, List, [], ◌∷◌, ◌++◌, length, Option, refl, sym, ap, ◌∙◌, subst, arith, append_assoc, cond}
 use Rattle.std.specs.Prelude.{slice_index}
+use Rattle.std.proofs.lemmas.List.{append-nil}
 use Rattle.pixel_format.specs.declared.Color.{Color}
 use Rattle.pixel_format.specs.Format.{Format, pixel_bytes}
 use Rattle.pixel_format.specs.Reading.{Got, Bad, ◌>>=◌, field, guard}
@@ -262,3 +263,6 @@ pub data_again : (f : Format) (w h : ℕ) (front more : List ℕ) (tiles : List 
     → data_at f w h (front ++ more) ≡ Got tiles more
 unfolding data_at
 data_again f w h front more tiles is = tiles_again f w h (tile_count w h) [] tiles front more (omega arith) is.all is.are
+
+pub data_whole : (f : Format) (w h : ℕ) (bytes : List ℕ) (tiles : List Tile) → IsData f w h bytes tiles → data_at f w h bytes ≡ Got tiles []
+data_whole f w h bytes tiles is = ap (data_at f w h) (sym (append-nil bytes)) ∙ data_again f w h bytes [] tiles is

@@ -54,13 +54,18 @@ says_more due then later a b both = record {
   is = both a.said b.said a.is b.is;
 }
 
+-- what the first turn leads to, and what the second makes of that
+linked : (expected : Option (ℕ × ℕ)) (old : Position) (before front more rest first : List ℕ) {t u : Talk Told Refusal}
+    → position_at expected old before (front ++ (more ++ rest)) ≡ say first t → t ≡ u → position_at expected old before ((front ++ more) ++ rest) ≡ say first u
+linked expected old before front more rest first one two = ap (position_at expected old before) (append_assoc front more rest) ∙ one ∙ ap (say first) two
+
 pub leads_more : (expected : Option (ℕ × ℕ)) (old mid new : Position) (before between after front more due then later : List ℕ)
     → Says (λ said. Leads expected old before front said mid between) due then
     → Says (λ said. Leads expected mid between more said new after) then later
     → Says (λ said. Leads expected old before (front ++ more) said new after) due later
 leads_more expected old mid new before between after front more due then later a b = says_more due then later a b (λ first second one two. record {
   link = λ rest.
-      ap (position_at expected old before) (append_assoc front more rest) ∙ one.link (more ++ rest) ∙ ap (say first) (two.link rest)
+      linked expected old before front more rest first (one.link (more ++ rest)) (two.link rest)
       ∙ say_more first second (position_at expected new after rest);
 })
 
@@ -70,7 +75,7 @@ pub leads_end : (expected : Option (ℕ × ℕ)) (old mid : Position) (before be
     → Says (λ said. Ends expected old before (front ++ more) (said ++ requests) told) due later
 leads_end expected old mid before between front more due then later requests told a b = says_more due then later a b (λ first second one two. record {
   link = λ rest.
-      ap (position_at expected old before) (append_assoc front more rest) ∙ one.link (more ++ rest) ∙ ap (say first) (two.link rest)
+      linked expected old before front more rest first (one.link (more ++ rest)) (two.link rest)
       ∙ say_more first (second ++ requests) (silent (Got told rest)) ∙ ap (λ z. say z (silent (Got told rest))) (sym (append_assoc first second requests));
 })
 
@@ -80,7 +85,7 @@ pub leads_fail : (expected : Option (ℕ × ℕ)) (old mid : Position) (before b
     → Says (λ said. Fails expected old before (front ++ more) said f field) due later
 leads_fail expected old mid before between front more due then later f field a b = says_more due then later a b (λ first second one two. record {
   link = λ rest.
-      ap (position_at expected old before) (append_assoc front more rest) ∙ one.link (more ++ rest) ∙ ap (say first) (two.link rest)
+      linked expected old before front more rest first (one.link (more ++ rest)) (two.link rest)
       ∙ say_more first second (failed f field);
 })
 

@@ -1,13 +1,12 @@
 -- A screen and its pixels.
 use Rattle.std.proofs.Common.{◌≡◌, ℕ, zero, suc, ◌+◌, ◌-◌, ◌*◌, ◌/◌, ◌%◌, ◌^◌, ◌<◌, ◌≤◌, List, [], ◌∷◌, ◌++◌, length, take, cond, get_or, map, replicate, refl, sym, ap, ◌∙◌, arith}
 use Rattle.std.specs.Prelude.{All, slice_range}
-use Rattle.std.proofs.lemmas.List.{append-nil}
 use Rattle.std.proofs.lemmas.List.Elements.{recursion_from_All, All-get_or}
 use Rattle.std.proofs.Math.Nat.{mod-lt}
 use Rattle.pixel_format.specs.declared.Color.{Color}
 use Rattle.pixel_format.specs.Format.{Channel, host_format}
 use Rattle.pixel_format.specs.Pixel.{pixel_number, channel_value, pixel_color, IsScreenColor}
-use Rattle.pixel_format.specs.Reading.{Reading, Got}
+use Rattle.pixel_format.specs.Reading.{Reading}
 use Rattle.pixel_format.specs.Canvas.{Picture, filled, laid_over, pixel_rows, Agree}
 use Rattle.client_wire.specs.declared.message.Area.{Area}
 use Rattle.rre.specs.Grammar as rre
@@ -92,20 +91,18 @@ pub rre_painted : (width height : ℕ) (area : Area) (bytes : List ℕ) (content
     → Agree width height new (painted_data host_format encodings.Rre area bytes before)
 unfolding painted_data rre_shown
 rre_painted width height area bytes content before new is done x y across down =
-    let whole : rre.data_at host_format area.w area.h bytes ≡ Got content [] =
-    ap (rre.data_at host_format area.w area.h) (sym (append-nil bytes)) ∙ rre_content.data_again host_format area.w area.h bytes [] content is in
     done x y across down
-    ∙ ap (λ (r : Reading rre.Content rre.Fault). cond (is_in area x y) (shown_at area rre_picture.picture_of r x y) (before x y)) (sym whole)
+    ∙ ap (λ (r : Reading rre.Content rre.Fault). cond (is_in area x y) (shown_at area rre_picture.picture_of r x y) (before x y))
+    (sym (rre_content.data_whole host_format area.w area.h bytes content is))
 
 pub hextile_painted : (width height : ℕ) (area : Area) (bytes : List ℕ) (tiles : List hextile.Tile) (before new : Picture) → hextile_data.IsData host_format area.w area.h bytes tiles
     → Agree width height new (hextile_picture.painted_over area.x area.y area.w area.h tiles before)
     → Agree width height new (painted_data host_format encodings.Hextile area bytes before)
 unfolding painted_data hextile_shown
 hextile_painted width height area bytes tiles before new is done x y across down =
-    let whole : hextile.data_at host_format area.w area.h bytes ≡ Got tiles [] =
-    ap (hextile.data_at host_format area.w area.h) (sym (append-nil bytes)) ∙ hextile_content.data_again host_format area.w area.h bytes [] tiles is in
     done x y across down
-    ∙ ap (λ (r : Reading (List hextile.Tile) hextile.Fault). cond (is_in area x y) (shown_at area (hextile_picture.picture_of area.w) r x y) (before x y)) (sym whole)
+    ∙ ap (λ (r : Reading (List hextile.Tile) hextile.Fault). cond (is_in area x y) (shown_at area (hextile_picture.picture_of area.w) r x y) (before x y))
+    (sym (hextile_content.data_whole host_format area.w area.h bytes tiles is))
 
 -- the colours of the host format are those of a screen
 channel_small : (c : Channel) (n : ℕ) → c.max ≡ 255 → channel_value c n ≤ 255

@@ -12,9 +12,7 @@ use Rattle.pixel_format.specs.Number.{u32_at}
 use Rattle.pixel_format.specs.Appending.{Appends}
 use Rattle.client_wire.specs.declared.message.Area.{Area}
 use Rattle.client_wire.specs.declared.fault.WireFault.{WireFault}
-use Rattle.rre.specs.Grammar as rre
 use Rattle.rre.proofs.Content as rre_content
-use Rattle.hextile.specs.Grammar as hextile
 use Rattle.hextile.proofs.TilesRead as hextile_content
 use Rattle.rect_data.specs.declared.encoding.Encoding.{Encoding}
 use Rattle.rect_data.specs.declared.encoding.Encoding.TheVariants as encodings
@@ -36,9 +34,9 @@ unfolding data_at
 data_read f width height area writtens.Raw body colors shows =
     ap (data_at f width height encodings.Raw area) (sym (append-nil body)) ∙ pixels_whole f area body [] (omega (arith, shows.size))
 data_read f width height area writtens.Rre body colors shows =
-    ap (data_at f width height encodings.Rre area) (sym (append-nil body)) ∙ rw (rre_content.data_again f area.w area.h body [] shows.content shows.is) refl
+    rw (rre_content.data_whole f area.w area.h body shows.content shows.is) refl
 data_read f width height area writtens.Hextile body colors shows =
-    ap (data_at f width height encodings.Hextile area) (sym (append-nil body)) ∙ rw (hextile_content.data_again f area.w area.h body [] shows.tiles shows.is) refl
+    rw (hextile_content.data_whole f area.w area.h body shows.tiles shows.is) refl
 
 -- and show what was given
 pub data_shown : (f : Format) (area : Area) (e : Written) (body : List ℕ) (colors : List Color) (before : Picture) → Shows e f area.w area.h colors body
@@ -51,15 +49,11 @@ data_shown f area writtens.Raw body colors before shows x y across down =
 data_shown f area writtens.Rre body colors before shows x y across down =
     let column : area.x + x - area.x ≡ x = omega arith in
     let row : area.y + y - area.y ≡ y = omega arith in
-    let whole : rre.data_at f area.w area.h body ≡ Got shows.content [] =
-    ap (rre.data_at f area.w area.h) (sym (append-nil body)) ∙ rre_content.data_again f area.w area.h body [] shows.content shows.is in
-    rw (whole, column, row) (shows.picture x y across down)
+    rw (rre_content.data_whole f area.w area.h body shows.content shows.is, column, row) (shows.picture x y across down)
 data_shown f area writtens.Hextile body colors before shows x y across down =
     let column : area.x + x - area.x ≡ x = omega arith in
     let row : area.y + y - area.y ≡ y = omega arith in
-    let whole : hextile.data_at f area.w area.h body ≡ Got shows.tiles [] =
-    ap (hextile.data_at f area.w area.h) (sym (append-nil body)) ∙ hextile_content.data_again f area.w area.h body [] shows.tiles shows.is in
-    rw (whole, column, row) (shows.picture x y across down)
+    rw (hextile_content.data_whole f area.w area.h body shows.tiles shows.is, column, row) (shows.picture x y across down)
 
 -- the places of an area, and the others
 place_in : (area : Area) (x y : ℕ) → x < area.w → y < area.h → is_in area (area.x + x) (area.y + y) ≡ true

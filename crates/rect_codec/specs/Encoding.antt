@@ -2,20 +2,19 @@
 use Rattle.std.specs.Prelude.{◌≡◌, ℕ, ℤ, pos, All, List, ◌∷◌, ◌++◌}
 use Rattle.rect_data.specs.declared.encoding.Encoding.{Encoding as WireEncoding}
 use Rattle.rect_data.specs.declared.encoding.Encoding.TheVariants as wires
+use Rattle.rect_data.specs.Data.{number_of as wire_number}
 use Rattle.rect_codec.specs.declared.encoding.Encoding.{Encoding}
 use Rattle.rect_codec.specs.declared.encoding.Encoding.TheVariants as encodings
-
--- the number by which a rectangle's header names an encoding (RFC 6143, section 7.7)
-abbrev pub number_of : Encoding → ℕ
-number_of encodings.Raw = 0
-number_of encodings.Rre = 2
-number_of encodings.Hextile = 5
 
 -- as one of the encodings of a rectangle that is read
 abbrev pub wire_of : Encoding → WireEncoding
 wire_of encodings.Raw = wires.Raw
 wire_of encodings.Rre = wires.Rre
 wire_of encodings.Hextile = wires.Hextile
+
+-- the number by which a rectangle's header names an encoding (RFC 6143, section 7.7)
+abbrev pub number_of : Encoding → ℕ
+number_of encoding = wire_number (wire_of encoding)
 
 -- the number is that of none of them
 abbrev pub IsOther : ℤ → Type 0

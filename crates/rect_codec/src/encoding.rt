@@ -7,11 +7,11 @@ ghost use Rattle.rect_codec.specs.Encoding.{number_of, IsOther, StandsFirst};
 #[derive(Clone, Copy, Debug, PartialEq, Eq)]
 pub enum Encoding {
     /// Each pixel, by rows (section 7.7.1). Every viewer takes it.
-    Raw,
+    Raw = 0,
     /// Subrectangles over a background (section 7.7.3).
-    Rre,
+    Rre = 2,
     /// Tiles of 16 by 16 places (section 7.7.4).
-    Hextile,
+    Hextile = 5,
 }
 
 impl Encoding {
@@ -19,11 +19,7 @@ impl Encoding {
     pub(crate) fn number(self) -> u32
         ensures { result ≡ number_of self }
     {
-        match self {
-            Encoding::Raw => 0,
-            Encoding::Rre => 2,
-            Encoding::Hextile => 5,
-        }
+        self as u32
     }
 }
 

@@ -2,7 +2,7 @@
 -- refused.
 use Rattle.std.proofs.Common.{◌≡◌, ℕ, zero, suc, ◌+◌, ◌<◌, inl, inr, true, false, List, [], ◌∷◌, ◌++◌, length, take, drop, refl, sym, ap, ◌∙◌, subst, arith, append_assoc, length-append}
 use Rattle.std.proofs.lemmas.Bool.{le-leb, leb-true, and_parts}
-use Rattle.std.proofs.lemmas.List.{length-take-le, length-drop, take-append-drop, take_at, drop_at}
+use Rattle.std.proofs.lemmas.List.{append-nil, length-take-le, length-drop, take-append-drop, take_at, drop_at}
 use Rattle.pixel_format.specs.Format.{Format, pixel_bytes}
 use Rattle.pixel_format.specs.Pixel.{pixel_color}
 use Rattle.pixel_format.specs.Reading.{Got, Bad, ◌>>=◌, field, guard}
@@ -203,6 +203,9 @@ data_again f w h front more content is =
       subrectangles_again f w h content.subrectangles is.body more is.body_is,
       ← is.background_is,
     ) refl
+
+pub data_whole : (f : Format) (w h : ℕ) (bytes : List ℕ) (content : Content) → IsData f w h bytes content → data_at f w h bytes ≡ Got content []
+data_whole f w h bytes content is = ap (data_at f w h) (sym (append-nil bytes)) ∙ data_again f w h bytes [] content is
 
 pub refused_again : (f : Format) (w h : ℕ) (bytes : List ℕ) → IsRefused f w h bytes → data_at f w h bytes ≡ Bad Outside
 unfolding data_at

@@ -1,11 +1,12 @@
 -- What is refused has a subrectangle outside, and what is measured is data.
-use Rattle.std.proofs.Common.{◌≡◌, ℕ, zero, suc, ◌<◌, inl, inr, List, [], ◌∷◌, ◌++◌, length, drop, refl, sym, ap, ◌∙◌, arith, append_assoc, Err}
+use Rattle.std.proofs.Common.{◌≡◌, ℕ, zero, suc, inl, inr, List, ◌∷◌, ◌++◌, length, drop, refl, ap, ◌∙◌, Err}
 use Rattle.pixel_format.specs.Format.{Format}
 use Rattle.pixel_format.specs.Pixel.{pixel_color}
 use Rattle.pixel_format.specs.Reading.{Got, Bad, ◌>>=◌, field, guard}
 use Rattle.pixel_format.proofs.Readings.{field_got, field_front}
 use Rattle.pixel_format.proofs.Refusals.{bind_bad, field_never_bad, got_never_bad, guard_got_bad}
 use Rattle.pixel_format.proofs.Measured.{measured_bad}
+use Rattle.pixel_format.proofs.Listed.{StopsIn, stops_here, stops_behind}
 use Rattle.pixel_format.specs.Number.{u32_at}
 use Rattle.rre.specs.declared.data.Subrectangle.{Subrectangle}
 use Rattle.rre.specs.declared.fault.Measure.TheVariants as answers
@@ -42,36 +43,17 @@ subrectangle_bad f w h bytes e =
           }
     ]
 
-record OneLeaves (f : Format) (w h count : ℕ) (bytes : List ℕ) : Type 0 where
-  pub earlier : List Subrectangle
-  pub body : List ℕ
-  pub last : List ℕ
-  pub bytes_are : bytes ≡ body ++ last
-  pub body_is : AreSubrectangles f w h earlier body
-  pub one_of_them : length earlier < count
-  pub outside : Leaves f w h last
-
-subrectangles_bad : (f : Format) (w h count : ℕ) (bytes : List ℕ) → subrectangles_at f w h count bytes ≡ Bad Outside → OneLeaves f w h count bytes
+subrectangles_bad : (f : Format) (w h count : ℕ) (bytes : List ℕ) → subrectangles_at f w h count bytes ≡ Bad Outside → StopsIn (AreSubrectangles f w h) (Leaves f w h) count bytes
 unfolding subrectangles_at
 subrectangles_bad f w h zero bytes e = absurd (got_never_bad _ _ _ e)
 subrectangles_bad f w h (suc count) bytes e =
     elim (bind_bad (subrectangle_at f w h bytes) (λ first after. subrectangles_at f w h count after >>= λ others end. Got (first ∷ others) end) Outside e) [
-      | inl bad ↦ record { earlier = []; body = []; last = bytes; bytes_are = refl; body_is = refl; one_of_them = omega arith; outside = subrectangle_bad f w h bytes bad }
+      | inl bad ↦ stops_here (AreSubrectangles f w h) (Leaves f w h) count bytes refl (subrectangle_bad f w h bytes bad)
       | inr b ↦
           let r = subrectangle_read f w h bytes b.value b.rest b.first in
           elim (bind_bad (subrectangles_at f w h count b.rest) (λ others end. Got (b.value ∷ others) end) Outside b.then) [
-            | inl bad ↦
-                let others = subrectangles_bad f w h count b.rest bad in
-                let less = others.one_of_them in
-                record {
-                  earlier = b.value ∷ others.earlier;
-                  body = r.first ++ others.body;
-                  last = others.last;
-                  bytes_are = r.bytes_are ∙ ap (λ z. r.first ++ z) others.bytes_are ∙ sym (append_assoc r.first others.body others.last);
-                  body_is = (r.first, others.body, refl, r.is, r.within, others.body_is);
-                  one_of_them = omega arith;
-                  outside = others.outside;
-                }
+            | inl bad ↦ stops_behind (AreSubrectangles f w h) (Leaves f w h) b.value count bytes r.first b.rest r.bytes_are
+                (subrectangles_bad f w h count b.rest bad) (λ others body are. (r.first, body, refl, r.is, r.within, are))
             | inr d ↦ absurd (got_never_bad _ _ _ d.then)
           ]
     ]
@@ -92,15 +74,15 @@ refused_read f w h bytes e =
                   count = u32_at b.value 0;
                   earlier = one.earlier;
                   body = one.body;
-                  outside = one.outside.outside;
-                  field = one.outside.field;
-                  more = one.outside.more;
-                  bytes_are = k.0 ∙ ap (λ z. b.value ++ z) (one.bytes_are ∙ ap (λ z. one.body ++ z) one.outside.bytes_are);
+                  outside = one.stops.outside;
+                  field = one.stops.field;
+                  more = one.stops.more;
+                  bytes_are = k.0 ∙ ap (λ z. b.value ++ z) (one.bytes_are ∙ ap (λ z. one.body ++ z) one.stops.bytes_are);
                   head_is = head_is f b.value k.1;
                   body_is = one.body_is;
                   one_of_them = one.one_of_them;
-                  field_is = one.outside.is;
-                  leaves = one.outside.leaves;
+                  field_is = one.stops.is;
+                  leaves = one.stops.leaves;
                 }
             | inr d ↦ absurd (got_never_bad _ _ _ d.then)
           ]
