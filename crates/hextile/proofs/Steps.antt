@@ -1,7 +1,8 @@
 -- What follows from a whole field.
-use Rattle.std.proofs.Common.{◌≡◌, ℕ, suc, ◌*◌, ◌<◌, ◌⊎◌, inl, inr, mul-zero, zero-mul, Bool, true, false, List, ◌∷◌, ◌++◌, length, drop, refl, ap, ◌∙◌, arith}
+use Rattle.std.proofs.Common.{◌≡◌, ℕ, suc, ◌+◌, ◌-◌, ◌*◌, ◌<◌, ◌≤◌, ◌⊎◌, inl, inr, mul-zero, zero-mul, Bool, true, false, List, [], ◌∷◌, ◌++◌, length, take, drop, Option, Some, None, Ok, Err, refl, sym, ap, ◌∙◌, arith, append_assoc}
 use Rattle.std.specs.Prelude.{slice_index, is_some}
 use Rattle.std.proofs.lemmas.Bool.{le-ltb}
+use Rattle.std.proofs.lemmas.List.{take-append-drop, take_at, take_rest, length-drop, length-append, append-nil}
 use Rattle.pixel_format.specs.Format.{Format, pixel_bytes}
 use Rattle.pixel_format.specs.Reading.{Reading, Got, More, Bad, ◌>>=◌, field, guard}
 use Rattle.pixel_format.proofs.Readings.{field-whole, field-short}
@@ -14,7 +15,8 @@ use Rattle.hextile.specs.declared.measuring.Measuring.{Measuring}
 use Rattle.hextile.specs.declared.measuring.Measuring.TheVariants as stages
 use Rattle.hextile.specs.Tiles.{tiles_across, tile_count}
 use Rattle.hextile.specs.Grammar.{Tile, Raw, Parts, Fault, Refused, mask_of, is_allowed, pixel_if, color_if, head_bytes, subrectangle_bytes, background_in, foreground_in, count_in, subrectangle_of, is_inside, subrectangle_at, subrectangles_at, raw_at, parts_at, body_at, tile_at, named_with, tiles_at, colors_of, data_at}
-use Rattle.hextile.specs.Measuring.{named_by, width_of, height_of, wants_of, judged, behind, body_left, parts_left, resume, measured}
+use Rattle.hextile.specs.declared.fault.Measure.TheVariants as answers
+use Rattle.hextile.specs.Measuring.{named_by, width_of, height_of, wants_of, judged, behind, body_left, parts_left, resume, go_on, measured}
 
 -- ---- readings
 
@@ -183,3 +185,109 @@ pub next_outside : (f : Format) (tile : Position) (colored : Bool) (others : ℕ
     → resume f (stages.Subrectangle tile colored others) (bytes ++ more) ≡ Bad Refused
 unfolding resume
 next_outside f tile colored others bytes more whole outside = part_outside f tile colored others bytes more whole outside
+
+-- ---- fields one behind the other
+
+-- bytes that are split in two
+pub parts_of : (n : ℕ) (bytes front behind : List ℕ) → front ≡ take n bytes → behind ≡ drop n bytes → bytes ≡ front ++ behind
+parts_of n bytes front behind e d = rw (e, d) (sym (take-append-drop n bytes))
+
+pub front_of : (bytes front rest : List ℕ) → bytes ≡ front ++ rest → take (length bytes - length rest) bytes ≡ front
+front_of bytes front rest is =
+    let size : length front ≡ length bytes - length rest = omega (arith, ap length is, length-append front rest) in
+    ap (take (length bytes - length rest)) is ∙ take_at front rest (length bytes - length rest) size
+
+-- the first of the subrectangles that are left, and bytes in front of it that are judged
+pub parts_inside : (f : Format) (tile : Position) (colored : Bool) (count left : ℕ) (front part : List ℕ)
+    → ((more : List ℕ) → parts_left f tile colored count (front ++ more) ≡ parts_left f tile colored left more)
+    → 0 < left → length part ≡ subrectangle_bytes f colored → is_inside (width_of tile) (height_of tile) (subrectangle_of f colored part) ≡ true
+    → (more : List ℕ) → parts_left f tile colored count ((front ++ part) ++ more) ≡ parts_left f tile colored (left - 1) more
+parts_inside f tile colored count left front part same some whole inside more =
+    let is : left ≡ suc (left - 1) = omega arith in
+    ap (parts_left f tile colored count) (append_assoc front part more)
+    ∙ same (part ++ more)
+    ∙ ap (λ n. parts_left f tile colored n (part ++ more)) is
+    ∙ part_inside f tile colored (left - 1) part more whole inside
+
+pub parts_outside : (f : Format) (tile : Position) (colored : Bool) (count left : ℕ) (front part behind bytes : List ℕ)
+    → ((more : List ℕ) → parts_left f tile colored count (front ++ more) ≡ parts_left f tile colored left more)
+    → bytes ≡ front ++ (part ++ behind)
+    → 0 < left → length part ≡ subrectangle_bytes f colored → is_inside (width_of tile) (height_of tile) (subrectangle_of f colored part) ≡ false
+    → (more : List ℕ) → parts_left f tile colored count (bytes ++ more) ≡ Bad Refused
+parts_outside f tile colored count left front part behind bytes same is some whole outside more =
+    let next : left ≡ suc (left - 1) = omega arith in
+    ap (λ z. parts_left f tile colored count (z ++ more)) is
+    ∙ ap (parts_left f tile colored count) (append_assoc front (part ++ behind) more)
+    ∙ same ((part ++ behind) ++ more)
+    ∙ ap (parts_left f tile colored left) (append_assoc part behind more)
+    ∙ ap (λ n. parts_left f tile colored n (part ++ (behind ++ more))) next
+    ∙ part_outside f tile colored (left - 1) part (behind ++ more) whole outside
+
+-- the fields behind those that are judged
+pub run_more : (f : Format) (first stage : Measuring) (next behind : Option Measuring) (front rest : List ℕ) (n : ℕ) → next ≡ Some stage
+    → ((more : List ℕ) → resume f first (front ++ more) ≡ go_on f next more)
+    → ((more : List ℕ) → resume f stage (take n rest ++ more) ≡ go_on f behind more)
+    → (more : List ℕ) → resume f first ((front ++ take n rest) ++ more) ≡ go_on f behind more
+unfolding go_on
+run_more f first stage next behind front rest n is same goes more =
+    ap (resume f first) (append_assoc front (take n rest) more)
+    ∙ same (take n rest ++ more) ∙ ap (λ s. go_on f s (take n rest ++ more)) is ∙ goes more
+
+pub run_refused : (f : Format) (first stage : Measuring) (next : Option Measuring) (front rest bytes : List ℕ) → next ≡ Some stage → bytes ≡ front ++ rest
+    → ((more : List ℕ) → resume f first (front ++ more) ≡ go_on f next more)
+    → ((more : List ℕ) → resume f stage (rest ++ more) ≡ Bad Refused)
+    → (more : List ℕ) → resume f first (bytes ++ more) ≡ Bad Refused
+unfolding go_on
+run_refused f first stage next front rest bytes is all same refused more =
+    ap (λ z. resume f first (z ++ more)) all ∙ ap (resume f first) (append_assoc front rest more)
+    ∙ same (rest ++ more) ∙ ap (λ s. go_on f s (rest ++ more)) is ∙ refused more
+
+-- the bytes that are left, and those in front of them
+pub run_parts : (n : ℕ) (bytes front rest : List ℕ) → bytes ≡ front ++ rest → bytes ≡ (front ++ take n rest) ++ take (length rest - n) (drop n rest)
+run_parts n bytes front rest is =
+    is ∙ ap (λ z. front ++ z) (sym (take-append-drop n rest)) ∙ sym (append_assoc front (take n rest) (drop n rest))
+    ∙ ap (λ z. (front ++ take n rest) ++ z) (sym (take_rest rest n))
+
+-- ---- all the fields of bytes
+
+-- what is judged of the bytes' front is judged of the bytes
+all_is : (f : Format) (w h n : ℕ) (bytes : List ℕ) (first : Measuring) (next : Option Measuring)
+    → ((more : List ℕ) → resume f first more ≡ judged (data_at f w h more))
+    → ((more : List ℕ) → resume f first (take n bytes ++ more) ≡ go_on f next more)
+    → judged (data_at f w h bytes) ≡ go_on f next (drop n bytes)
+all_is f w h n bytes first next starts goes =
+    sym (starts bytes) ∙ ap (resume f first) (sym (take-append-drop n bytes)) ∙ goes (drop n bytes)
+
+pub all_whole : (f : Format) (w h n : ℕ) (bytes : List ℕ) (first : Measuring) → n ≤ length bytes
+    → ((more : List ℕ) → resume f first more ≡ judged (data_at f w h more))
+    → ((more : List ℕ) → resume f first (take n bytes ++ more) ≡ go_on f None more)
+    → Ok n ≡ measured (length bytes) (data_at f w h bytes)
+unfolding go_on
+all_whole f w h n bytes first within starts goes =
+    let size : length bytes - length (drop n bytes) ≡ n = rw (length-drop n bytes) (omega (arith, within)) in
+    sym (sym (measured_judged (length bytes) (data_at f w h bytes)) ∙ ap (measured (length bytes)) (all_is f w h n bytes first None starts goes) ∙ ap Ok size)
+
+pub all_waits : (f : Format) (w h n : ℕ) (bytes : List ℕ) (first next : Measuring) → n ≤ length bytes → length bytes < n + wants_of f next
+    → ((more : List ℕ) → resume f first more ≡ judged (data_at f w h more))
+    → ((more : List ℕ) → resume f first (take n bytes ++ more) ≡ go_on f (Some next) more)
+    → Err answers.NeedMore ≡ measured (length bytes) (data_at f w h bytes)
+unfolding go_on
+all_waits f w h n bytes first next within few starts goes =
+    let short : length (drop n bytes) < wants_of f next = rw (length-drop n bytes) (omega (arith, few, within)) in
+    sym (sym (measured_judged (length bytes) (data_at f w h bytes))
+    ∙ ap (measured (length bytes)) (all_is f w h n bytes first (Some next) starts goes ∙ field_waits f next (drop n bytes) short))
+
+pub all_refused : (f : Format) (w h : ℕ) (bytes : List ℕ) (first : Measuring)
+    → ((more : List ℕ) → resume f first more ≡ judged (data_at f w h more))
+    → ((more : List ℕ) → resume f first (bytes ++ more) ≡ Bad Refused)
+    → Err answers.Bad ≡ measured (length bytes) (data_at f w h bytes)
+all_refused f w h bytes first starts refused =
+    sym (sym (measured_judged (length bytes) (data_at f w h bytes))
+    ∙ ap (measured (length bytes)) (sym (starts bytes) ∙ ap (resume f first) (sym (append-nil bytes)) ∙ refused []))
+
+pub all_none : (f : Format) (w h : ℕ) (bytes : List ℕ) → go_on f None bytes ≡ judged (data_at f w h bytes)
+    → Ok 0 ≡ measured (length bytes) (data_at f w h bytes)
+unfolding go_on
+all_none f w h bytes starts =
+    let size : length bytes - length bytes ≡ 0 = omega arith in
+    sym (sym (measured_judged (length bytes) (data_at f w h bytes)) ∙ ap (measured (length bytes)) (sym starts) ∙ ap Ok size)

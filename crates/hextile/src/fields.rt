@@ -108,10 +108,19 @@ pub(crate) fn read_subrectangle(format: &PixelFormat, colored: bool, field: &[u8
     }
 }
 
-// Whether the subrectangle lies within a tile of w by h.
-#[tactic(auto, unfolding(crate::specs::Grammar::is_inside))]
-pub(crate) fn lies_inside(part: Subrectangle, w: u8, h: u8) -> bool
-    ensures { result ≡ is_inside w h part }
+// Whether the subrectangle that a whole field is lies within a tile of w by h. Its pixel plays no
+// part.
+#[tactic(auto, unfolding(crate::specs::Grammar::subrectangle_of, crate::specs::Grammar::is_inside))]
+pub(crate) fn is_part_inside(
+    format: &PixelFormat,
+    colored: bool,
+    field: &[u8],
+    w: u8,
+    h: u8,
+) -> bool
+    requires { length field.now ≡ subrectangle_bytes format.now colored }
+    ensures { result ≡ is_inside w h (subrectangle_of format.now colored field.now) }
 {
-    part.x as u16 + part.w as u16 <= w as u16 && part.y as u16 + part.h as u16 <= h as u16
+    let (_, area) = field.split_at(pixel_size(format, colored));
+    area[0] / 16 + area[1] / 16 < w && area[0] % 16 + area[1] % 16 < h
 }

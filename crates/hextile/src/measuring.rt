@@ -3,9 +3,7 @@
 ghost use Rattle.std.specs.Prelude.{◌≡◌, ◌<◌, ◌≤◌, ◌||◌, true};
 
 use crate::fault::Measure;
-use crate::fields::{
-    Mask, Named, lies_inside, may_stand, pixel_size, read_count, read_mask, read_subrectangle,
-};
+use crate::fields::{Mask, Named, is_part_inside, may_stand, pixel_size, read_count, read_mask};
 use crate::position::{Position, TileHead, count_tiles};
 use pixel_format::PixelFormat;
 
@@ -28,10 +26,10 @@ pub enum Measuring {
     },
 }
 
-ghost use Rattle.std.specs.Prelude.{◌↔◌, ℕ, ◌+◌, ◌++◌, List, length, take, IfOk, IfErr, Ok, Err};
+ghost use Rattle.std.specs.Prelude.{◌↔◌, ℕ, ◌+◌, ◌++◌, suc, List, length, take, IfOk, IfErr, IfSome, Ok, Err, None};
 ghost use Rattle.pixel_format.specs.Reading.{Bad};
 ghost use Rattle.pixel_format.specs.Format.{Format};
-ghost use Rattle.hextile.specs.Grammar.{Refused, mask_of, head_bytes, tiles_at, data_at};
+ghost use Rattle.hextile.specs.Grammar.{Refused, mask_of, head_bytes, subrectangle_bytes, tiles_at, data_at};
 ghost use Rattle.hextile.specs.Data.{AreData, IsRefused};
 ghost use Rattle.hextile.specs.Measuring.{named_by, behind, body_left, parts_left, go_on, resume, wants_of, judged, measured};
 
@@ -51,7 +49,8 @@ fn next_tile(tile: Position) -> Option<Measuring>
 }
 
 // The field of the next of so many subrectangles of a tile.
-fn next_part(tile: Position, colored: bool, count: u8) -> Option<Measuring>
+fn next_part(tile: Position, colored: bool, count: u16) -> Option<Measuring>
+    requires { count ≤ 256 }
     ensures { (format : Format) → (more : List ℕ) → go_on format result more ≡ parts_left format tile colored count more }
 {
     if count == 0 {
@@ -60,8 +59,40 @@ fn next_part(tile: Position, colored: bool, count: u8) -> Option<Measuring>
     Some(Measuring::Subrectangle {
         tile,
         colored,
-        others: count - 1,
+        others: (count - 1) as u8,
     })
+}
+
+// Judges the whole subrectangles of a tile that the bytes begin with, the first of which is there.
+// Answers how many bytes they have, and what comes next.
+fn judge_parts(
+    format: &PixelFormat,
+    tile: Position,
+    colored: bool,
+    others: u8,
+    bytes: &[u8],
+) -> Result<(usize, Option<Measuring>), Measure>
+    requires { subrectangle_bytes format.now colored ≤ length bytes.now }
+    ensures taken { IfOk result (λ x. (0 < x.0) × (x.0 ≤ length bytes.now)) }
+    ensures goes { IfOk result (λ x. (more : List ℕ)
+        → parts_left format.now tile colored (suc others) (take x.0 bytes.now ++ more) ≡ go_on format.now x.1 more) }
+    ensures refused { IfErr result (λ _. (more : List ℕ)
+        → parts_left format.now tile colored (suc others) (bytes.now ++ more) ≡ Bad Refused) }
+    ensures only { IfErr result (λ fault. fault ≡ Measure.Bad) }
+{
+    let size = pixel_size(format, colored) + 2;
+    let area = tile.area();
+    let mut left = others as u16 + 1;
+    let mut rest = bytes;
+    while left > 0 && rest.len() >= size {
+        let (part, behind) = rest.split_at(size);
+        if !is_part_inside(format, colored, part, area.w, area.h) {
+            return Err(Measure::Bad);
+        }
+        left -= 1;
+        rest = behind;
+    }
+    Ok((bytes.len() - rest.len(), next_part(tile, colored, left)))
 }
 
 // The tile, once it has named the colours of its mask.
@@ -156,7 +187,7 @@ impl Measuring {
             Measuring::Pixels(tile) => Ok(next_tile(tile)),
             Measuring::Head(head) => {
                 let count = read_count(format, head.mask, field);
-                Ok(next_part(head.tile, head.mask.colored, count))
+                Ok(next_part(head.tile, head.mask.colored, count as u16))
             }
             Measuring::Subrectangle {
                 tile,
@@ -164,13 +195,73 @@ impl Measuring {
                 others,
             } => {
                 let area = tile.area();
-                let part = read_subrectangle(format, colored, field);
-                if !lies_inside(part, area.w, area.h) {
+                if !is_part_inside(format, colored, field, area.w, area.h) {
                     return Err(Measure::Bad);
                 }
-                Ok(next_part(tile, colored, others))
+                Ok(next_part(tile, colored, others as u16))
             }
         }
+    }
+
+    // Judges the field, or the subrectangles of its tile, where the bytes begin with it whole.
+    // Answers how many bytes were judged, and what comes next.
+    fn front(
+        self,
+        format: &PixelFormat,
+        bytes: &[u8],
+    ) -> Result<Option<(usize, Option<Measuring>)>, Measure>
+        ensures taken { IfOk result (λ o. IfSome o (λ x. (0 < x.0) × (x.0 ≤ length bytes.now))) }
+        ensures goes { IfOk result (λ o. IfSome o (λ x. (more : List ℕ)
+            → resume format.now self (take x.0 bytes.now ++ more) ≡ go_on format.now x.1 more)) }
+        ensures waits { result ≡ Ok None → length bytes.now < wants_of format.now self }
+        ensures refused { IfErr result (λ _. (more : List ℕ)
+            → resume format.now self (bytes.now ++ more) ≡ Bad Refused) }
+        ensures only { IfErr result (λ fault. fault ≡ Measure.Bad) }
+    {
+        let wants = self.wants(format);
+        if bytes.len() < wants {
+            return Ok(None);
+        }
+        if let Measuring::Subrectangle {
+            tile,
+            colored,
+            others,
+        } = self
+        {
+            let judged = judge_parts(format, tile, colored, others, bytes)?;
+            return Ok(Some(judged));
+        }
+        let next = self.step(format, &bytes[..wants])?;
+        Ok(Some((wants, next)))
+    }
+
+    /// Judges the whole fields that the bytes begin with, as `step` does one by one. Answers how
+    /// many bytes they have, and the field behind them, which isn't whole in the bytes, `None`
+    /// where the data end; and `Measure::Bad` where one of them is a mask that may not stand there,
+    /// or a subrectangle that leaves its tile.
+    pub fn run(
+        self,
+        format: &PixelFormat,
+        bytes: &[u8],
+    ) -> Result<(usize, Option<Measuring>), Measure>
+        ensures taken { IfOk result (λ x. x.0 ≤ length bytes.now) }
+        ensures goes { IfOk result (λ x. (more : List ℕ)
+            → resume format.now self (take x.0 bytes.now ++ more) ≡ go_on format.now x.1 more) }
+        ensures waits { IfOk result (λ x. IfSome x.1 (λ next. length bytes.now < x.0 + wants_of format.now next)) }
+        ensures refused { IfErr result (λ _. (more : List ℕ)
+            → resume format.now self (bytes.now ++ more) ≡ Bad Refused) }
+        ensures only { IfErr result (λ fault. fault ≡ Measure.Bad) }
+    {
+        let mut rest = bytes;
+        let mut next = Some(self);
+        while let Some(stage) = next {
+            let Some((taken, behind)) = stage.front(format, rest)? else {
+                break;
+            };
+            rest = &rest[taken..];
+            next = behind;
+        }
+        Ok((bytes.len() - rest.len(), next))
     }
 }
 
@@ -178,17 +269,13 @@ impl Measuring {
 fn measure_by_fields(format: &PixelFormat, w: u16, h: u16, bytes: &[u8]) -> Result<usize, Measure>
     ensures { result ≡ measured (length bytes.now) (data_at format.now w h bytes.now) }
 {
-    let mut rest = bytes;
-    let mut next = Measuring::start(w, h);
-    while let Some(stage) = next {
-        let wants = stage.wants(format);
-        if rest.len() < wants {
-            return Err(Measure::NeedMore);
-        }
-        next = stage.step(format, &rest[..wants])?;
-        rest = &rest[wants..];
+    let Some(first) = Measuring::start(w, h) else {
+        return Ok(0);
+    };
+    match first.run(format, bytes)? {
+        (taken, None) => Ok(taken),
+        (_, Some(_)) => Err(Measure::NeedMore),
     }
-    Ok(bytes.len() - rest.len())
 }
 
 /// The length of the data of a rectangle of w by h that begin the bytes (RFC 6143, section 7.7.4);

@@ -122,3 +122,7 @@ pub copy_outside : (width height : ℕ) (area : Area) (bytes : List ℕ) → 4 �
     → copy_at width height area bytes ≡ Bad faults.SourceOutside
 copy_outside width height area bytes whole outside =
     ap (copy_at width height area) (sym (take-append-drop 4 bytes)) ∙ source_outside width height area (take 4 bytes) (drop 4 bytes) (place_size bytes whole) outside
+
+-- bytes that are split in two
+pub parts_of : (n : ℕ) (bytes front behind : List ℕ) → front ≡ take n bytes → behind ≡ drop n bytes → bytes ≡ front ++ behind
+parts_of n bytes front behind e d = rw (e, d) (sym (take-append-drop n bytes))

@@ -1,6 +1,6 @@
 //! Judging data field by field, as they come.
 
-ghost use Rattle.std.specs.Prelude.{◌≡◌, ℕ, ◌<◌, ◌^◌, ◌++◌, List, length, IfOk, IfErr};
+ghost use Rattle.std.specs.Prelude.{◌≡◌, ℕ, ◌<◌, ◌^◌, ◌≤◌, ◌+◌, ◌++◌, List, length, take, IfOk, IfErr, IfSome};
 ghost use Rattle.pixel_format.specs.Reading.{Bad};
 ghost use Rattle.rect_data.specs.Grammar.{data_at};
 ghost use Rattle.rect_data.specs.Judging.{wants_of, resume, go_on, HasBytes};
@@ -75,6 +75,52 @@ fn hextile_step(
     Ok(Some(Judging::Hextile(next)))
 }
 
+// The whole fields of an RRE rectangle's data that the bytes begin with.
+fn rre_run(
+    format: &PixelFormat,
+    w: u16,
+    h: u16,
+    stage: rre::Measuring,
+    bytes: &[u8],
+) -> Result<(usize, Option<Judging>), WireFault>
+    ensures taken { IfOk result (λ x. x.0 ≤ length bytes.now) }
+    ensures goes { IfOk result (λ x. (width height : ℕ) → (more : List ℕ)
+        → resume format.now width height (Judging.Rre w h stage) (take x.0 bytes.now ++ more) ≡ go_on format.now width height x.1 more) }
+    ensures waits { IfOk result (λ x. IfSome x.1 (λ next. length bytes.now < x.0 + wants_of format.now next)) }
+    ensures refused { IfErr result (λ fault. (width height : ℕ) → (more : List ℕ)
+        → resume format.now width height (Judging.Rre w h stage) (bytes.now ++ more) ≡ Bad fault) }
+{
+    let Ok((taken, next)) = stage.run(format, w, h, bytes) else {
+        return Err(WireFault::BadRre);
+    };
+    let Some(next) = next else {
+        return Ok((taken, None));
+    };
+    Ok((taken, Some(Judging::Rre { w, h, next })))
+}
+
+// The whole fields of a Hextile rectangle's data that the bytes begin with.
+fn hextile_run(
+    format: &PixelFormat,
+    stage: hextile::Measuring,
+    bytes: &[u8],
+) -> Result<(usize, Option<Judging>), WireFault>
+    ensures taken { IfOk result (λ x. x.0 ≤ length bytes.now) }
+    ensures goes { IfOk result (λ x. (width height : ℕ) → (more : List ℕ)
+        → resume format.now width height (Judging.Hextile stage) (take x.0 bytes.now ++ more) ≡ go_on format.now width height x.1 more) }
+    ensures waits { IfOk result (λ x. IfSome x.1 (λ next. length bytes.now < x.0 + wants_of format.now next)) }
+    ensures refused { IfErr result (λ fault. (width height : ℕ) → (more : List ℕ)
+        → resume format.now width height (Judging.Hextile stage) (bytes.now ++ more) ≡ Bad fault) }
+{
+    let Ok((taken, next)) = stage.run(format, bytes) else {
+        return Err(WireFault::BadHextile);
+    };
+    let Some(next) = next else {
+        return Ok((taken, None));
+    };
+    Ok((taken, Some(Judging::Hextile(next))))
+}
+
 impl Judging {
     /// The field with which the data of a rectangle of this area begin, `None` where it has no
     /// data.
@@ -139,6 +185,45 @@ impl Judging {
             }
             Judging::Rre { w, h, next } => rre_step(format, w, h, next, field),
             Judging::Hextile(next) => hextile_step(format, next, field),
+        }
+    }
+    /// Judges the whole fields that the bytes begin with, on a screen of this size, as `step` does
+    /// one by one. Answers how many bytes they have, and the field behind them, which isn't whole
+    /// in the bytes, `None` where the data end; or the fault of the first field that is refused.
+    pub fn run(
+        self,
+        format: &PixelFormat,
+        width: u16,
+        height: u16,
+        bytes: &[u8],
+    ) -> Result<(usize, Option<Judging>), WireFault>
+        ensures taken { IfOk result (λ x. x.0 ≤ length bytes.now) }
+        ensures goes { IfOk result (λ x. (more : List ℕ)
+            → resume format.now width height self (take x.0 bytes.now ++ more) ≡ go_on format.now width height x.1 more) }
+        ensures waits { IfOk result (λ x. IfSome x.1 (λ next. length bytes.now < x.0 + wants_of format.now next)) }
+        ensures refused { IfErr result (λ fault. (more : List ℕ)
+            → resume format.now width height self (bytes.now ++ more) ≡ Bad fault) }
+    {
+        match self {
+            Judging::Pixels(_) => {
+                let length = self.wants(format);
+                if bytes.len() < length {
+                    return Ok((0, Some(self)));
+                }
+                Ok((length, None))
+            }
+            Judging::Source(area) => {
+                if bytes.len() < 4 {
+                    return Ok((0, Some(self)));
+                }
+                let (place, _) = bytes.split_at(4);
+                if !lies_inside(source_at(area, place), width, height) {
+                    return Err(WireFault::SourceOutside);
+                }
+                Ok((4, None))
+            }
+            Judging::Rre { w, h, next } => rre_run(format, w, h, next, bytes),
+            Judging::Hextile(next) => hextile_run(format, next, bytes),
         }
     }
 }

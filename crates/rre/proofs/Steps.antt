@@ -1,5 +1,7 @@
 -- What follows from a whole field.
-use Rattle.std.proofs.Common.{◌≡◌, ℕ, ◌<◌, true, false, List, ◌∷◌, ◌++◌, length, drop, refl}
+use Rattle.std.proofs.Common.{◌≡◌, ℕ, suc, ◌+◌, ◌-◌, ◌<◌, ◌≤◌, true, false, List, [], ◌∷◌, ◌++◌, ◌∙◌, length, take, drop, Option, Some, None, Ok, Err, refl, sym, ap, arith, append_assoc}
+use Rattle.std.proofs.Math.Seq.{take-append-add}
+use Rattle.std.proofs.lemmas.List.{take-append-drop, length-drop, append-nil}
 use Rattle.pixel_format.specs.Format.{Format}
 use Rattle.pixel_format.specs.Pixel.{pixel_color}
 use Rattle.pixel_format.specs.Reading.{Reading, Got, More, Bad, ◌>>=◌, guard}
@@ -9,7 +11,8 @@ use Rattle.rre.specs.declared.data.Subrectangle.{Subrectangle}
 use Rattle.rre.specs.declared.measuring.Measuring.{Measuring}
 use Rattle.rre.specs.declared.measuring.Measuring.TheVariants as stages
 use Rattle.rre.specs.Grammar.{Fault, Outside, head_bytes, subrectangle_bytes, subrectangle_of, is_inside, subrectangle_at, subrectangles_at, data_at}
-use Rattle.rre.specs.Measuring.{wants_of, judged, resume, measured}
+use Rattle.rre.specs.declared.fault.Measure.TheVariants as answers
+use Rattle.rre.specs.Measuring.{wants_of, judged, resume, go_on, measured}
 
 -- what is made of a value plays no part in how its bytes are judged
 judged_of : {A B : Type 0} (g : A → B) (r : Reading A Fault) → judged (r >>= λ x after. Got (g x) after) ≡ judged r
@@ -57,3 +60,75 @@ pub measured_judged : {A : Type 0} (size : ℕ) (r : Reading A Fault) → measur
 measured_judged size (Got x rest) = refl
 measured_judged size More = refl
 measured_judged size (Bad fault) = refl
+
+-- the first of the subrectangles that are left, and bytes in front of it that are judged
+pub parts_inside : (f : Format) (w h count left : ℕ) (front part : List ℕ)
+    → ((more : List ℕ) → judged (subrectangles_at f w h count (front ++ more)) ≡ judged (subrectangles_at f w h left more))
+    → 0 < left → length part ≡ subrectangle_bytes f → is_inside w h (subrectangle_of f part) ≡ true
+    → (more : List ℕ) → judged (subrectangles_at f w h count ((front ++ part) ++ more)) ≡ judged (subrectangles_at f w h (left - 1) more)
+unfolding resume
+parts_inside f w h count left front part same some whole inside more =
+    let is : left ≡ suc (left - 1) = omega arith in
+    ap (λ z. judged (subrectangles_at f w h count z)) (append_assoc front part more)
+    ∙ same (part ++ more)
+    ∙ ap (λ n. judged (subrectangles_at f w h n (part ++ more))) is
+    ∙ part_inside f w h (left - 1) part more whole inside
+
+pub parts_outside : (f : Format) (w h count left : ℕ) (front part behind bytes : List ℕ)
+    → ((more : List ℕ) → judged (subrectangles_at f w h count (front ++ more)) ≡ judged (subrectangles_at f w h left more))
+    → bytes ≡ front ++ (part ++ behind)
+    → 0 < left → length part ≡ subrectangle_bytes f → is_inside w h (subrectangle_of f part) ≡ false
+    → (more : List ℕ) → judged (subrectangles_at f w h count (bytes ++ more)) ≡ Bad Outside
+unfolding resume
+parts_outside f w h count left front part behind bytes same is some whole outside more =
+    let next : left ≡ suc (left - 1) = omega arith in
+    ap (λ z. judged (subrectangles_at f w h count (z ++ more))) is
+    ∙ ap (λ z. judged (subrectangles_at f w h count z)) (append_assoc front (part ++ behind) more)
+    ∙ same ((part ++ behind) ++ more)
+    ∙ ap (λ z. judged (subrectangles_at f w h left z)) (append_assoc part behind more)
+    ∙ ap (λ n. judged (subrectangles_at f w h n (part ++ (behind ++ more)))) next
+    ∙ part_outside f w h (left - 1) part (behind ++ more) whole outside
+
+-- bytes that are split in two
+pub parts_of : (n : ℕ) (bytes front behind : List ℕ) → front ≡ take n bytes → behind ≡ drop n bytes → bytes ≡ front ++ behind
+parts_of n bytes front behind e d = rw (e, d) (sym (take-append-drop n bytes))
+
+pub taken_behind : (bytes front behind : List ℕ) (size taken : ℕ) → bytes ≡ front ++ behind → length front ≡ size → take (size + taken) bytes ≡ front ++ take taken behind
+taken_behind bytes front behind size taken is whole = rw (is, ← whole) (take-append-add front behind taken)
+
+-- ---- all the fields of bytes
+
+wants_some : (f : Format) (stage : Measuring) → 0 < wants_of f stage
+wants_some f stages.Head = omega arith
+wants_some f (stages.Subrectangle more) = omega arith
+
+-- what is judged of the bytes' front is judged of the bytes
+all_is : (f : Format) (w h n : ℕ) (bytes : List ℕ) (next : Option Measuring)
+    → ((more : List ℕ) → resume f w h stages.Head (take n bytes ++ more) ≡ go_on f w h next more)
+    → judged (data_at f w h bytes) ≡ go_on f w h next (drop n bytes)
+unfolding resume
+all_is f w h n bytes next goes = ap (λ z. judged (data_at f w h z)) (sym (take-append-drop n bytes)) ∙ goes (drop n bytes)
+
+pub all_whole : (f : Format) (w h n : ℕ) (bytes : List ℕ) → n ≤ length bytes
+    → ((more : List ℕ) → resume f w h stages.Head (take n bytes ++ more) ≡ go_on f w h None more)
+    → Ok n ≡ measured (length bytes) (data_at f w h bytes)
+unfolding go_on
+all_whole f w h n bytes within goes =
+    let size : length bytes - length (drop n bytes) ≡ n = rw (length-drop n bytes) (omega (arith, within)) in
+    sym (sym (measured_judged (length bytes) (data_at f w h bytes)) ∙ ap (measured (length bytes)) (all_is f w h n bytes None goes) ∙ ap Ok size)
+
+pub all_waits : (f : Format) (w h n : ℕ) (bytes : List ℕ) (next : Measuring) → length bytes < n + wants_of f next
+    → ((more : List ℕ) → resume f w h stages.Head (take n bytes ++ more) ≡ go_on f w h (Some next) more)
+    → Err answers.NeedMore ≡ measured (length bytes) (data_at f w h bytes)
+unfolding go_on
+all_waits f w h n bytes next few goes =
+    let short : length (drop n bytes) < wants_of f next = rw (length-drop n bytes) (omega (arith, few, wants_some f next)) in
+    sym (sym (measured_judged (length bytes) (data_at f w h bytes))
+    ∙ ap (measured (length bytes)) (all_is f w h n bytes (Some next) goes ∙ field_waits f w h next (drop n bytes) short))
+
+pub all_refused : (f : Format) (w h : ℕ) (bytes : List ℕ) → ((more : List ℕ) → resume f w h stages.Head (bytes ++ more) ≡ Bad Outside)
+    → Err answers.Bad ≡ measured (length bytes) (data_at f w h bytes)
+unfolding resume
+all_refused f w h bytes refused =
+    sym (sym (measured_judged (length bytes) (data_at f w h bytes))
+    ∙ ap (measured (length bytes)) (ap (λ z. judged (data_at f w h z)) (sym (append-nil bytes)) ∙ refused []))

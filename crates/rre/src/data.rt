@@ -34,12 +34,19 @@ pub(crate) fn read_subrectangle(format: &PixelFormat, field: &[u8]) -> Subrectan
     }
 }
 
-// Whether the subrectangle lies within a rectangle of w by h.
-#[tactic(auto, unfolding(crate::specs::Grammar::is_inside))]
-pub(crate) fn lies_inside(part: Subrectangle, w: u16, h: u16) -> bool
-    ensures { result ≡ is_inside w h part }
+// Whether the subrectangle that a whole field is lies within a rectangle of w by h. Its pixel plays
+// no part.
+#[tactic(auto, unfolding(crate::specs::Grammar::subrectangle_of, crate::specs::Grammar::is_inside))]
+pub(crate) fn is_part_inside(format: &PixelFormat, field: &[u8], w: u16, h: u16) -> bool
+    requires { length field.now ≡ subrectangle_bytes format.now }
+    ensures { result ≡ is_inside w h (subrectangle_of format.now field.now) }
 {
-    part.x as u32 + part.w as u32 <= w as u32 && part.y as u32 + part.h as u32 <= h as u32
+    let (_, area) = field.split_at(format.bytes());
+    let right = u16::from_be_bytes([area[0], area[1]]) as u32
+        + u16::from_be_bytes([area[4], area[5]]) as u32;
+    let bottom = u16::from_be_bytes([area[2], area[3]]) as u32
+        + u16::from_be_bytes([area[6], area[7]]) as u32;
+    right <= w as u32 && bottom <= h as u32
 }
 
 // How many subrectangles follow a head.

@@ -1,11 +1,11 @@
 //! Judging data field by field, as they come.
 
-ghost use Rattle.std.specs.Prelude.{◌≡◌, ◌↔◌, ℕ, ◌<◌, ◌≤◌, ◌+◌, ◌++◌, List, length, take, IfOk, IfErr, Ok, Err};
+ghost use Rattle.std.specs.Prelude.{◌≡◌, ◌↔◌, ℕ, ◌<◌, ◌≤◌, ◌+◌, ◌++◌, List, ◌^◌, length, take, IfOk, IfErr, IfSome, Ok, Err, None};
 ghost use Rattle.pixel_format.specs.Reading.{Bad};
 ghost use Rattle.pixel_format.specs.Format.{Format};
-ghost use Rattle.rre.specs.Grammar.{Outside, subrectangles_at, data_at};
+ghost use Rattle.rre.specs.Grammar.{Outside, subrectangle_bytes, subrectangles_at, data_at};
 
-use crate::data::{lies_inside, read_count, read_subrectangle};
+use crate::data::{is_part_inside, read_count};
 use crate::fault::Measure;
 use pixel_format::PixelFormat;
 
@@ -24,15 +24,52 @@ ghost use Rattle.rre.specs.Data.{AreData, IsRefused};
 ghost use Rattle.rre.specs.Measuring.{go_on, resume, wants_of, judged, measured};
 
 // The field of the next of so many subrectangles.
-fn next_of(count: u32) -> Option<Measuring>
-    ensures { (format : Format) → (w h : ℕ) → (more : List ℕ)
+fn next_of(count: u64) -> Option<Measuring>
+    requires { count ≤ 2 ^ 32 }
+    ensures goes { (format : Format) → (w h : ℕ) → (more : List ℕ)
         → go_on format w h result more ≡ judged (subrectangles_at format w h count more) }
+    ensures waits { (format : Format) → IfSome result (λ next. wants_of format next ≡ subrectangle_bytes format) }
+    ensures ends { count ≡ 0 → result ≡ None }
 {
     if count == 0 {
         None
     } else {
-        Some(Measuring::Subrectangle { more: count - 1 })
+        Some(Measuring::Subrectangle {
+            more: (count - 1) as u32,
+        })
     }
+}
+
+// Judges the whole subrectangles that the bytes begin with, so many at most. Answers how many bytes
+// they have, and what comes next.
+fn judge_parts(
+    format: &PixelFormat,
+    w: u16,
+    h: u16,
+    count: u64,
+    bytes: &[u8],
+) -> Result<(usize, Option<Measuring>), Measure>
+    requires { count ≤ 2 ^ 32 }
+    ensures taken { IfOk result (λ x. x.0 ≤ length bytes.now) }
+    ensures goes { IfOk result (λ x. (more : List ℕ)
+        → judged (subrectangles_at format.now w h count (take x.0 bytes.now ++ more)) ≡ go_on format.now w h x.1 more) }
+    ensures waits { IfOk result (λ x. IfSome x.1 (λ next. length bytes.now < x.0 + wants_of format.now next)) }
+    ensures refused { IfErr result (λ _. (more : List ℕ)
+        → judged (subrectangles_at format.now w h count (bytes.now ++ more)) ≡ Bad Outside) }
+    ensures only { IfErr result (λ fault. fault ≡ Measure.Bad) }
+{
+    let size = format.bytes() + 8;
+    let mut left = count;
+    let mut rest = bytes;
+    while left > 0 && rest.len() >= size {
+        let (part, behind) = rest.split_at(size);
+        if !is_part_inside(format, part, w, h) {
+            return Err(Measure::Bad);
+        }
+        left -= 1;
+        rest = behind;
+    }
+    Ok((bytes.len() - rest.len(), next_of(left)))
 }
 
 impl Measuring {
@@ -65,13 +102,46 @@ impl Measuring {
         ensures only { IfErr result (λ fault. fault ≡ Measure.Bad) }
     {
         match self {
-            Measuring::Head => Ok(next_of(read_count(field))),
+            Measuring::Head => Ok(next_of(read_count(field) as u64)),
             Measuring::Subrectangle { more } => {
-                if !lies_inside(read_subrectangle(format, field), w, h) {
+                if !is_part_inside(format, field, w, h) {
                     return Err(Measure::Bad);
                 }
-                Ok(next_of(more))
+                Ok(next_of(more as u64))
             }
+        }
+    }
+
+    /// Judges the whole fields that the bytes begin with, in a rectangle of w by h, as `step` does
+    /// one by one. Answers how many bytes they have, and the field behind them, which isn't whole
+    /// in the bytes, `None` where the data end; and `Measure::Bad` where one of them is a
+    /// subrectangle that leaves the rectangle.
+    pub fn run(
+        self,
+        format: &PixelFormat,
+        w: u16,
+        h: u16,
+        bytes: &[u8],
+    ) -> Result<(usize, Option<Measuring>), Measure>
+        ensures taken { IfOk result (λ x. x.0 ≤ length bytes.now) }
+        ensures goes { IfOk result (λ x. (more : List ℕ)
+            → resume format.now w h self (take x.0 bytes.now ++ more) ≡ go_on format.now w h x.1 more) }
+        ensures waits { IfOk result (λ x. IfSome x.1 (λ next. length bytes.now < x.0 + wants_of format.now next)) }
+        ensures refused { IfErr result (λ _. (more : List ℕ)
+            → resume format.now w h self (bytes.now ++ more) ≡ Bad Outside) }
+        ensures only { IfErr result (λ fault. fault ≡ Measure.Bad) }
+    {
+        match self {
+            Measuring::Head => {
+                let head = 4 + format.bytes();
+                if bytes.len() < head {
+                    return Ok((0, Some(self)));
+                }
+                let (front, body) = bytes.split_at(head);
+                let (taken, next) = judge_parts(format, w, h, read_count(front) as u64, body)?;
+                Ok((head + taken, next))
+            }
+            Measuring::Subrectangle { more } => judge_parts(format, w, h, more as u64 + 1, bytes),
         }
     }
 }
@@ -80,17 +150,10 @@ impl Measuring {
 fn measure_by_fields(format: &PixelFormat, w: u16, h: u16, bytes: &[u8]) -> Result<usize, Measure>
     ensures { result ≡ measured (length bytes.now) (data_at format.now w h bytes.now) }
 {
-    let mut rest = bytes;
-    let mut next = Some(Measuring::Head);
-    while let Some(stage) = next {
-        let wants = stage.wants(format);
-        if rest.len() < wants {
-            return Err(Measure::NeedMore);
-        }
-        next = stage.step(format, w, h, &rest[..wants])?;
-        rest = &rest[wants..];
+    match Measuring::Head.run(format, w, h, bytes)? {
+        (taken, None) => Ok(taken),
+        (_, Some(_)) => Err(Measure::NeedMore),
     }
-    Ok(bytes.len() - rest.len())
 }
 
 /// The length of the data of a rectangle of w by h that begin the bytes (RFC 6143, section 7.7.3).

@@ -4,12 +4,12 @@ use Rattle.rre.specs.Measuring.{go_on, resume, judged}
 use Rattle.rre.proofs.Steps.{none_left}
 use Rattle.rre.proofs.measuring.next_of.Goals as goal
 
-pub returns-then-count-eq0 : goal.returns-then-count-eq0
+pub returns-then-count-eq0-clause-goes : goal.returns-then-count-eq0-clause-goes
 unfolding go_on
-returns-then-count-eq0 c = λ format w h more. rw c.if-count-eq0.true (sym (none_left format w h more))
+returns-then-count-eq0-clause-goes c = λ format w h more. rw c.if-count-eq0.true (sym (none_left format w h more))
 
-pub returns-else-count-eq0 : goal.returns-else-count-eq0
+pub returns-else-count-eq0-clause-goes : goal.returns-else-count-eq0-clause-goes
 unfolding go_on resume
-returns-else-count-eq0 c = λ format w h more.
+returns-else-count-eq0-clause-goes c = λ format w h more.
     let is : suc (c.args.count - 1) ≡ c.args.count = omega arith in
     ap (λ n. judged (subrectangles_at format w h n more)) is

@@ -46,20 +46,20 @@ returns-in-Head-clause-goes c = λ more.
     ∙ ap (λ n. parts_left f head.tile head.mask.colored n more) (sym c.read_count-count.ensures)
     ∙ sym (c.next_part.ensures f more))
 
-pub returns-then-not-lies_inside-clause-refused : goal.returns-then-not-lies_inside-clause-refused
-returns-then-not-lies_inside-clause-refused c = λ more.
+pub returns-then-not-is_part_inside-clause-refused : goal.returns-then-not-is_part_inside-clause-refused
+returns-then-not-is_part_inside-clause-refused c = λ more.
     let f = c.args.format.now in
     let at = c.in-Subrectangle in
     let whole : length c.args.field.now ≡ subrectangle_bytes f at.colored = c.requires ∙ ap (wants_of f) at.is in
     let outside : is_inside (width_of at.tile) (height_of at.tile) (subrectangle_of f at.colored c.args.field.now) ≡ false =
-    rw (← c.area-area.ensures.width, ← c.area-area.ensures.height, ← c.read_subrectangle-part.ensures) (sym c.lies_inside.ensures ∙ c.if-not-lies_inside.true) in
+    rw (← c.area-area.ensures.width, ← c.area-area.ensures.height) (sym c.is_part_inside.ensures ∙ c.if-not-is_part_inside.true) in
     rw at.is (next_outside f at.tile at.colored at.others c.args.field.now more whole outside)
 
-pub returns-else-not-lies_inside-clause-goes : goal.returns-else-not-lies_inside-clause-goes
-returns-else-not-lies_inside-clause-goes c = λ more.
+pub returns-else-not-is_part_inside-clause-goes : goal.returns-else-not-is_part_inside-clause-goes
+returns-else-not-is_part_inside-clause-goes c = λ more.
     let f = c.args.format.now in
     let at = c.in-Subrectangle in
     let whole : length c.args.field.now ≡ subrectangle_bytes f at.colored = c.requires ∙ ap (wants_of f) at.is in
     let inside : is_inside (width_of at.tile) (height_of at.tile) (subrectangle_of f at.colored c.args.field.now) ≡ true =
-    rw (← c.area-area.ensures.width, ← c.area-area.ensures.height, ← c.read_subrectangle-part.ensures) (sym c.lies_inside.ensures ∙ c.if-not-lies_inside.false) in
+    rw (← c.area-area.ensures.width, ← c.area-area.ensures.height) (sym c.is_part_inside.ensures ∙ c.if-not-is_part_inside.false) in
     rw at.is (next_inside f at.tile at.colored at.others c.args.field.now more whole inside ∙ sym (c.next_part-in-Subrectangle.ensures f more))

@@ -11,20 +11,20 @@ returns-in-Head-clause-goes c = λ more.
     rw c.in-Head.is
     (head_whole f c.args.w c.args.h c.args.field.now more whole
     ∙ ap (λ n. judged (subrectangles_at f c.args.w c.args.h n more)) (sym c.read_count.ensures)
-    ∙ sym (c.next_of.ensures f c.args.w c.args.h more))
+    ∙ sym (c.next_of.ensures.goes f c.args.w c.args.h more))
 
-pub returns-then-not-lies_inside-clause-refused : goal.returns-then-not-lies_inside-clause-refused
-returns-then-not-lies_inside-clause-refused c = λ more.
+pub returns-then-not-is_part_inside-clause-refused : goal.returns-then-not-is_part_inside-clause-refused
+returns-then-not-is_part_inside-clause-refused c = λ more.
     let f = c.args.format.now in
     let whole : length c.args.field.now ≡ subrectangle_bytes f = c.requires ∙ ap (wants_of f) c.in-Subrectangle.is in
     let outside : is_inside c.args.w c.args.h (subrectangle_of f c.args.field.now) ≡ false = cc in
     rw c.in-Subrectangle.is (part_outside f c.args.w c.args.h c.in-Subrectangle.more c.args.field.now more whole outside)
 
-pub returns-else-not-lies_inside-clause-goes : goal.returns-else-not-lies_inside-clause-goes
-returns-else-not-lies_inside-clause-goes c = λ more.
+pub returns-else-not-is_part_inside-clause-goes : goal.returns-else-not-is_part_inside-clause-goes
+returns-else-not-is_part_inside-clause-goes c = λ more.
     let f = c.args.format.now in
     let whole : length c.args.field.now ≡ subrectangle_bytes f = c.requires ∙ ap (wants_of f) c.in-Subrectangle.is in
     let inside : is_inside c.args.w c.args.h (subrectangle_of f c.args.field.now) ≡ true = cc in
     rw c.in-Subrectangle.is
     (part_inside f c.args.w c.args.h c.in-Subrectangle.more c.args.field.now more whole inside
-    ∙ sym (c.next_of-in-Subrectangle.ensures f c.args.w c.args.h more))
+    ∙ sym (c.next_of-in-Subrectangle.ensures.goes f c.args.w c.args.h more))

@@ -1,0 +1,14 @@
+use Rattle.std.proofs.Common.{◌≡◌, ℕ, List, ◌++◌, length}
+use Rattle.hextile.specs.Measuring.{resume, go_on}
+use Rattle.hextile.proofs.measuring.Measuring.run.Given as goal
+
+-- the bytes in front of the rest are judged
+abbrev pub invariant-loop-next : goal.invariant-loop-next
+invariant-loop-next l = record {
+  front : List ℕ;
+  bytes_are : l.bytes ≡ front ++ l.rest;
+  same : (more : List ℕ) → resume l.format l.fn.self (front ++ more) ≡ go_on l.format l.next more;
+}
+
+abbrev pub decreases-loop-next : goal.decreases-loop-next
+decreases-loop-next l = length l.rest
