@@ -1,6 +1,6 @@
 -- What follows from a whole field: one equation for each stage.
 use Rattle.std.proofs.Common.{◌≡◌, ℕ, ◌+◌, ◌-◌, ◌*◌, true, false, List, [], ◌∷◌, ◌++◌, length, length-append, nat_eq, slice_index, Some, None, refl, ap, ◌∙◌, append_assoc, arith}
-use Rattle.std.specs.Prelude.{nat_lt, if◌then◌else◌}
+use Rattle.std.specs.Prelude.{◌<◌, ◌≤◌, Option, IfSome, nat_lt, if◌then◌else◌}
 use Rattle.pixel_format.specs.Reading.{Reading, Got, More, Bad, ◌>>=◌, field, guard}
 use Rattle.pixel_format.proofs.Readings.{field-whole}
 use Rattle.client_wire.specs.declared.message.Area.{Area}
@@ -151,3 +151,9 @@ unfolding content_at
 header_of_data width height at others f more encoding whole inside is =
     header_whole width height at others f more whole ∙ rw (inside, is)
     (content_data width height (at + 12) others (area_of f) encoding more (data_at host_format width height encoding (area_of f) more))
+
+-- a field to come has bytes where they aren't all there
+pub has_bytes : (n size : ℕ) (next : Option Judging) → n ≤ size → IfSome next (λ stage. size < n + judging.wants_of host_format stage)
+    → judging.HasBytes host_format next
+has_bytes n size None within few = tt
+has_bytes n size (Some stage) within few = λ some. omega (arith, few, within)

@@ -13,7 +13,7 @@ use Rattle.client_wire.specs.declared.fault.WireFault.TheVariants as faults
 use Rattle.rfb_wire.specs.declared.progress.Stage.{Stage}
 use Rattle.rfb_wire.specs.declared.progress.Stage.TheVariants as stages
 use Rattle.rfb_wire.specs.Grammar.{update_at, message_at, other_at, color_map_at, text_at, text_data_at, read_over, Message, Recorded, rectangle_at, rectangles_at}
-use Rattle.rfb_wire.specs.Progress.{wants_of, start_of, unlimited_at, behind, others_at, resume, go_on, step_on, Linked, IsInField, IsOfKind, IsOfUpdate}
+use Rattle.rfb_wire.specs.Progress.{wants_of, start_of, unlimited_at, behind, others_at, resume, go_on, step_on, Linked, Follows, NextBegins, NextIsOfKind, IsInField, IsOfKind, IsOfUpdate}
 use Rattle.rfb_wire.specs.declared.progress.Progress.{Progress}
 use Rattle.rfb_wire.specs.declared.progress.Next.{Next}
 use Rattle.rfb_wire.specs.declared.progress.Next.TheVariants as nexts
@@ -108,16 +108,45 @@ linked_start limit width height bytes rectangles none no_rectangles = rw (none, 
   kind = tt;
 })
 
--- behind a whole field
-pub field_goes : (limit width height : ℕ) (bytes : List ℕ) (rectangles done : List Rectangle) (stage : Stage) (step : Step)
-    → Linked limit width height bytes rectangles stage
-    → ((more : List ℕ) → resume width height stage (drop (start_of stage) bytes ++ more) ≡ step_on width height step more)
+-- behind whole fields
+pub follows_goes : (limit width height : ℕ) (bytes : List ℕ) (rectangles done : List Rectangle) (step : Step)
+    → Follows limit width height bytes rectangles step
     → done ≡ rectangles ++ option_to_list step.rectangle
     → (more : List ℕ) → unlimited_at width height (bytes ++ more) ≡ behind done (go_on width height step.next more)
-field_goes limit width height bytes rectangles done stage step l goes is more =
-    l.link more ∙ ap (behind rectangles) (goes more)
+follows_goes limit width height bytes rectangles done step l is more =
+    l.link more
     ∙ behind_behind rectangles (option_to_list step.rectangle) (go_on width height step.next more)
     ∙ ap (λ d. behind d (go_on width height step.next more)) (sym is)
+
+-- fields that begin where what was kept ends
+pub run_follows : (limit width height n : ℕ) (kept piece longer : List ℕ) (rectangles : List Rectangle) (stage : Stage) (step : Step)
+    → Linked limit width height kept rectangles stage → start_of stage ≡ length kept → longer ≡ kept ++ take n piece → length longer ≤ limit
+    → ((more : List ℕ) → resume width height stage (take n piece ++ more) ≡ step_on width height step more)
+    → NextBegins (length longer) step.next → NextIsOfKind step.next longer
+    → Follows limit width height longer rectangles step
+run_follows limit width height n kept piece longer rectangles stage step l begun is short goes begins kind =
+    let none : drop (start_of stage) kept ≡ [] = drop_all (start_of stage) kept (omega arith) in
+    record {
+      link = λ more.
+          ap (λ z. unlimited_at width height (z ++ more)) is ∙ ap (unlimited_at width height) (append_assoc kept (take n piece) more)
+          ∙ l.link (take n piece ++ more)
+          ∙ ap (λ z. behind rectangles (resume width height stage (z ++ (take n piece ++ more)))) none
+          ∙ ap (behind rectangles) (goes more);
+      begins = begins;
+      kind = kind;
+      short = short;
+    }
+
+-- a fault in such fields
+pub run_faults : (limit width height : ℕ) (kept front : List ℕ) (rectangles : List Rectangle) (stage : Stage) (f : WireFault)
+    → Linked limit width height kept rectangles stage → start_of stage ≡ length kept
+    → ((more : List ℕ) → resume width height stage (front ++ more) ≡ Bad f)
+    → unlimited_at width height (kept ++ front) ≡ Bad f
+run_faults limit width height kept front rectangles stage f l begun faults =
+    let none : drop (start_of stage) kept ≡ [] = drop_all (start_of stage) kept (omega arith) in
+    l.link front ∙ ap (λ z. behind rectangles (resume width height stage (z ++ front))) none
+    ∙ ap (λ z. behind rectangles (resume width height stage z)) (sym (append-nil front))
+    ∙ ap (behind rectangles) (faults [])
 
 -- with no field to come the message is whole
 pub whole_ends : (width height : ℕ) (bytes : List ℕ) (done : List Rectangle) (next : Next)

@@ -153,3 +153,11 @@ abbrev pub After : ℕ → ℕ → ℕ → List ℕ → Progress → Next → Ty
 After limit width height bytes p (nexts.Field stage) = IsInField limit width height p
 After limit width height bytes p nexts.End = unlimited_at width height bytes ≡ Got (Recorded p.rectangles.items) []
 After limit width height bytes p (nexts.ReadOver n) = (n < 2 ^ 32) × (length bytes ≤ head_limit) × ((more : List ℕ) → unlimited_at width height (bytes ++ more) ≡ read_over n more)
+
+-- Whole fields reach up to the end of the bytes, and this follows from them. What the message says,
+-- whatever comes, is what follows, behind the rectangles that are whole.
+pub record Follows (limit width height : ℕ) (bytes : List ℕ) (rectangles : List Rectangle) (whole : Step) : Type 0 where
+  pub link : (more : List ℕ) → unlimited_at width height (bytes ++ more) ≡ behind rectangles (step_on width height whole more)
+  pub begins : NextBegins (length bytes) whole.next
+  pub kind : NextIsOfKind whole.next bytes
+  pub short : length bytes ≤ limit

@@ -1,6 +1,6 @@
 //! Where a reader stands in a message.
 
-ghost use Rattle.std.specs.Prelude.{◌≡◌, ℕ, ◌<◌, ◌≤◌, ◌^◌, ◌+◌, ◌++◌, ◌⊎◌, [], ◌∷◌, List, length, take, IfOk, OnOk, IfErr, OnErr, Ok, Err, None};
+ghost use Rattle.std.specs.Prelude.{◌≡◌, ℕ, ◌<◌, ◌≤◌, ◌^◌, ◌+◌, ◌++◌, ◌⊎◌, [], ◌∷◌, List, length, take, IfOk, OnOk, IfErr, OnErr, IfSome, Ok, Err, None};
 ghost use Rattle.std.specs.Option.{option_to_list};
 ghost use Rattle.pixel_format.specs.Reading.{Got, Bad};
 ghost use Rattle.rfb_wire.specs.Grammar.{message_at, Recorded, message_limit};
@@ -11,7 +11,7 @@ ghost use Rattle.client_wire.specs.Stream.{StandsFor, Moves, Stops};
 ghost use Rattle.rfb_wire.specs.Stream.{given};
 
 use crate::message::{HostMessage, Rectangle};
-use crate::step::step;
+use crate::step::{run, step};
 use client_wire::{Area, WireFault};
 use pixel_format::PixelFormat;
 use rect_data::{Encoding, Judging};
@@ -126,7 +126,7 @@ impl Stage {
 }
 
 impl Progress {
-    ghost use Rattle.rfb_wire.specs.Progress.{wants_of, start_of, unlimited_at, Linked, IsAt, IsOver, After, passed_in};
+    ghost use Rattle.rfb_wire.specs.Progress.{unlimited_at, Follows, IsAt, IsInField, IsOver, After, passed_in};
     ghost use Rattle.rfb_wire.specs.Grammar.{read_over};
 
     /// A reader at the start of a message.
@@ -143,17 +143,14 @@ impl Progress {
         }
     }
 
-    // The field is whole: goes on behind it, and answers what comes next.
-    fn advance(&mut self, width: u16, height: u16) -> Result<Next, WireFault>
-        requires linked { Linked message_limit width height self.old.bytes.items self.old.rectangles.items self.old.stage }
-        requires whole { length self.old.bytes.items ≡ start_of self.old.stage + wants_of self.old.stage }
+    // Fields are whole: goes on behind them, and answers what comes next.
+    fn advance(&mut self, width: u16, height: u16, whole: Step) -> Result<Next, WireFault>
+        requires { Follows message_limit width height self.old.bytes.items self.old.rectangles.items whole }
         ensures bytes { self.new.bytes ≡ self.old.bytes }
         ensures over { self.new.over ≡ self.old.over }
         ensures goes { IfOk result (λ next. After message_limit width height self.old.bytes.items self.new next) }
-        ensures faults { IfErr result (λ f. UnlessMemory f (unlimited_at width height self.old.bytes.items ≡ Bad f)) }
+        ensures only { IfErr result (λ f. f ≡ WireFault.NoMemory) }
     {
-        let field = &self.bytes[self.stage.start()..];
-        let whole = step(width, height, self.stage, field)?;
         append(&mut self.rectangles, whole.rectangle)?;
         match whole.next {
             Next::Field(stage) => self.stage = stage,
@@ -161,6 +158,68 @@ impl Progress {
             Next::ReadOver(_) => {}
         }
         Ok(whole.next)
+    }
+
+    // Takes bytes up to the end of a field, or up to the limit, and judges the field once it is
+    // whole. Answers how many, and what follows from a whole field.
+    fn judge_field(
+        &mut self,
+        width: u16,
+        height: u16,
+        piece: &[u8],
+    ) -> Result<(usize, Option<Step>), WireFault>
+        requires field { IsInField message_limit width height self.old }
+        requires some { 0 < length piece.now }
+        ensures taken { IfOk result (λ x. (0 < x.0) × (x.0 ≤ length piece.now)) }
+        ensures bytes { IfOk result (λ x. self.new.bytes.items ≡ self.old.bytes.items ++ take x.0 piece.now) }
+        ensures over { self.new.over ≡ self.old.over }
+        ensures waits { IfOk result (λ x. x.1 ≡ None → IsInField message_limit width height self.new) }
+        ensures goes { IfOk result (λ x. IfSome x.1 (λ whole. Follows message_limit width height self.new.bytes.items self.new.rectangles.items whole)) }
+        ensures faults { IfErr result (λ f. UnlessMemory f (message_at message_limit width height (self.old.bytes.items ++ piece.now) ≡ Bad f)) }
+    {
+        let start = self.stage.start();
+        let end = start + self.stage.wants();
+        let taken = take(&mut self.bytes, end, piece)?;
+        if self.bytes.len() < end {
+            return Ok((taken, None));
+        }
+        let whole = step(width, height, self.stage, &self.bytes[start..])?;
+        Ok((taken, Some(whole)))
+    }
+
+    // Takes bytes and judges the fields that they end: of a rectangle's data all that are whole in
+    // the piece, where it begins with a field, and else one. Answers how many, and what follows.
+    fn judge(
+        &mut self,
+        width: u16,
+        height: u16,
+        piece: &[u8],
+    ) -> Result<(usize, Option<Step>), WireFault>
+        requires field { IsInField message_limit width height self.old }
+        requires some { 0 < length piece.now }
+        ensures taken { IfOk result (λ x. (0 < x.0) × (x.0 ≤ length piece.now)) }
+        ensures bytes { IfOk result (λ x. self.new.bytes.items ≡ self.old.bytes.items ++ take x.0 piece.now) }
+        ensures over { self.new.over ≡ self.old.over }
+        ensures waits { IfOk result (λ x. x.1 ≡ None → IsInField message_limit width height self.new) }
+        ensures goes { IfOk result (λ x. IfSome x.1 (λ whole. Follows message_limit width height self.new.bytes.items self.new.rectangles.items whole)) }
+        ensures faults { IfErr result (λ f. UnlessMemory f (message_at message_limit width height (self.old.bytes.items ++ piece.now) ≡ Bad f)) }
+    {
+        if let Stage::Data {
+            at,
+            begun,
+            next,
+            others,
+        } = self.stage
+            && self.bytes.len() == at
+        {
+            let front = &piece[..piece.len().min(MESSAGE_LIMIT - at)];
+            let (taken, whole) = run(width, height, at, begun, next, others, front)?;
+            if taken > 0 {
+                self.bytes.extend_from_slice(&front[..taken])?;
+                return Ok((taken, Some(whole)));
+            }
+        }
+        self.judge_field(width, height, piece)
     }
 
     // Begins to read over the bytes that are left of a message, if any are.
@@ -235,8 +294,8 @@ impl Progress {
         Ok(())
     }
 
-    // Takes bytes up to the end of a field, or up to the limit, and answers how many. The message
-    // is given once it is whole.
+    // Takes bytes up to the end of a field or of several, or up to the limit, and answers how many.
+    // The message is given once it is whole.
     fn turn(
         &mut self,
         alloc: Global,
@@ -258,12 +317,11 @@ impl Progress {
         if let Some(over) = self.over {
             return Ok(self.pass(alloc, width, height, over, piece.len()));
         }
-        let end = self.stage.start() + self.stage.wants();
-        let taken = take(&mut self.bytes, end, piece)?;
-        if self.bytes.len() < end {
+        let (taken, whole) = self.judge(width, height, piece)?;
+        let Some(whole) = whole else {
             return Ok(taken);
-        }
-        match self.advance(width, height)? {
+        };
+        match self.advance(width, height, whole)? {
             Next::Field(_) => {}
             Next::End => self.give(alloc, width, height, out)?,
             Next::ReadOver(left) => self.read_over(alloc, width, height, left),

@@ -1,6 +1,6 @@
 //! What follows from a whole field of a message.
 
-ghost use Rattle.std.specs.Prelude.{◌≡◌, ℕ, ◌+◌, ◌*◌, ◌<◌, ◌≤◌, List, ◌++◌, drop, slice_index, nat_lt, if◌then◌else◌, length, IfOk, IfErr};
+ghost use Rattle.std.specs.Prelude.{◌≡◌, ℕ, ◌+◌, ◌*◌, ◌<◌, ◌≤◌, List, ◌++◌, take, drop, slice_index, nat_lt, if◌then◌else◌, length, IfOk, IfErr};
 ghost use Rattle.pixel_format.specs.Reading.{Bad};
 ghost use Rattle.pixel_format.specs.Format.{host_format};
 ghost use Rattle.pixel_format.specs.Number.{u16_at, u32_at};
@@ -227,6 +227,32 @@ fn behind_content(
 {
     match current.step(&PixelFormat::host(), width, height, field) {
         Ok(next) => Ok(next_data(at + field.len(), begun, next, others)),
+        Err(fault) => Err(fault),
+    }
+}
+
+/// What follows from the whole fields of a rectangle's data that the bytes begin with, and how many
+/// bytes these have.
+pub fn run(
+    width: u16,
+    height: u16,
+    at: usize,
+    begun: Begun,
+    current: Judging,
+    others: u16,
+    bytes: &[u8],
+) -> Result<(usize, Step), WireFault>
+    requires { at + length bytes.now ≤ message_limit }
+    ensures taken { IfOk result (λ x. x.0 ≤ length bytes.now) }
+    ensures goes { IfOk result (λ x. (more : List ℕ)
+        → resume width height (Stage.Data at begun current others) (take x.0 bytes.now ++ more) ≡ step_on width height x.1 more) }
+    ensures begins { IfOk result (λ x. NextBegins (at + x.0) x.1.next) }
+    ensures kind { IfOk result (λ x. (b : List ℕ) → IsOfUpdate b → NextIsOfKind x.1.next b) }
+    ensures faults { IfErr result (λ f. (more : List ℕ)
+        → resume width height (Stage.Data at begun current others) (bytes.now ++ more) ≡ Bad f) }
+{
+    match current.run(&PixelFormat::host(), width, height, bytes) {
+        Ok((taken, next)) => Ok((taken, next_data(at + taken, begun, next, others))),
         Err(fault) => Err(fault),
     }
 }

@@ -1,12 +1,12 @@
-use Rattle.std.proofs.Common.{arith, ◌≡◌, [], ◌∷◌, ◌++◌, ◌∙◌, sym, ap, take, subst}
+use Rattle.std.proofs.Common.{◌≡◌, [], ◌∷◌, ◌++◌, ◌∙◌, sym, ap, take, subst}
 use Rattle.std.proofs.lemmas.List.{length-take-le}
 use Rattle.std.proofs.lemmas.Result.{err_from_is_err_and}
 use Rattle.client_wire.specs.Stream.{StandsFor, Moves}
 use Rattle.rfb_wire.specs.Host.{host_of}
-use Rattle.rfb_wire.specs.Progress.{IsInField, passed_in}
-use Rattle.rfb_wire.proofs.Turns.{turn_long, turn_faults, whole_recorded}
+use Rattle.rfb_wire.specs.Progress.{passed_in}
+use Rattle.rfb_wire.proofs.Turns.{whole_recorded}
 use Rattle.client_wire.proofs.Streams.{gives_one, stands_kept, stands_whole}
-use Rattle.rfb_wire.proofs.Over.{kept_stands, in_field}
+use Rattle.rfb_wire.proofs.Over.{kept_stands}
 use Rattle.rfb_wire.specs.Grammar.{message_at, Recorded, message_limit}
 use Rattle.rfb_wire.specs.Stream.{given}
 use Rattle.rfb_wire.proofs.progress.Progress.turn.Goals as goal
@@ -15,26 +15,21 @@ pub returns-in_err-taken-clause-faults : goal.returns-in_err-taken-clause-faults
 returns-in_err-taken-clause-faults c =
     let p = err_from_is_err_and c.from_residual.result c.from_residual.ensures.1 in
     let s = c.args.self.now in
-    let at : IsInField message_limit c.args.width c.args.height s = in_field message_limit c.args.width c.args.height s c.in_default.is c.requires.at in
     rw (p.1, p.2) (λ rest stands.
     let same = stands_kept s.bytes.items (passed_in s.over) rest (ap passed_in c.in_default.is) stands in
-    rw same (turn_long message_limit c.args.width c.args.height s.bytes.items c.args.piece.now s.rectangles.items s.stage c.in_err-taken.field-0.0
-    at.linked (omega arith) at.unfinished c.requires.some c.in_err-taken.ensures.long))
+    rw same c.in_err-taken.ensures.faults)
 
 pub returns-in_err-advance-clause-faults : goal.returns-in_err-advance-clause-faults
 returns-in_err-advance-clause-faults c =
     let p = err_from_is_err_and c.from_residual-in_err-advance.result c.from_residual-in_err-advance.ensures.1 in
-    let s = c.args.self.now in
-    rw (p.1, p.2) (λ rest stands.
-    let same = stands_kept s.bytes.items (passed_in s.over) rest (ap passed_in c.in_default.is) stands in
-    rw same (turn_faults message_limit c.args.width c.args.height c.in_ok-taken.taken s.bytes.items c.args.piece.now c.take.new.bytes.items c.in_err-advance.field-0.0
-    c.in_ok-taken.ensures.bytes c.in_ok-taken.ensures.short c.in_err-advance.ensures.faults))
+    rw (p.1, p.2) (λ rest stands. rw c.in_err-advance.ensures.only tt)
 
 pub give-requires : goal.give-requires
 give-requires c =
+    let whole_is = rw c.in-Some-whole.is at c.in_ok-taken.ensures.goes in
     let whole = rw c.in-End.is at c.in_ok-advance.ensures.goes in
-    whole_recorded message_limit c.args.width c.args.height c.advance.new.self.bytes.items c.take.new.bytes.items c.advance.new.self.rectangles.items
-    (ap (λ v. v.items) c.in_ok-advance.ensures.bytes) c.in_ok-taken.ensures.short whole
+    whole_recorded message_limit c.args.width c.args.height c.advance.new.self.bytes.items c.judge.new.self.bytes.items c.advance.new.self.rectangles.items
+    (ap (λ v. v.items) c.in_ok-advance.ensures.bytes) whole_is.short whole
 
 pub returns-in-Field-clause-moves : goal.returns-in-Field-clause-moves
 returns-in-Field-clause-moves c = λ rest stands.
@@ -42,16 +37,17 @@ returns-in-Field-clause-moves c = λ rest stands.
     let same = stands_kept s.bytes.items (passed_in s.over) rest (ap passed_in c.in_default.is) stands in
     kept_stands message_limit c.args.width c.args.height c.advance.new.self.bytes.items (passed_in c.advance.new.self.over) c.args.out.now.items (rest ++ take c.in_ok-taken.taken c.args.piece.now)
     (ap (λ z. z ++ take c.in_ok-taken.taken c.args.piece.now) same ∙ sym c.in_ok-taken.ensures.bytes ∙ sym (ap (λ v. v.items) c.in_ok-advance.ensures.bytes))
-    (ap passed_in (c.in_ok-advance.ensures.over ∙ c.in_default.is))
+    (ap passed_in (c.in_ok-advance.ensures.over ∙ c.in_ok-taken.ensures.over ∙ c.in_default.is))
 
 pub returns-in_ok-give-in-End-clause-moves : goal.returns-in_ok-give-in-End-clause-moves
 returns-in_ok-give-in-End-clause-moves c = λ rest stands.
     let s = c.args.self.now in
     let kept = stands_kept s.bytes.items (passed_in s.over) rest (ap passed_in c.in_default.is) stands in
+    let whole_is = rw c.in-Some-whole.is at c.in_ok-taken.ensures.goes in
     let whole = rw c.in-End.is at c.in_ok-advance.ensures.goes in
-    let same : c.advance.new.self.bytes.items ≡ c.take.new.bytes.items = ap (λ v. v.items) c.in_ok-advance.ensures.bytes in
-    let recorded = whole_recorded message_limit c.args.width c.args.height c.advance.new.self.bytes.items c.take.new.bytes.items c.advance.new.self.rectangles.items
-    same c.in_ok-taken.ensures.short whole in
+    let same : c.advance.new.self.bytes.items ≡ c.judge.new.self.bytes.items = ap (λ v. v.items) c.in_ok-advance.ensures.bytes in
+    let recorded = whole_recorded message_limit c.args.width c.args.height c.advance.new.self.bytes.items c.judge.new.self.bytes.items c.advance.new.self.rectangles.items
+    same whole_is.short whole in
     let rectangles = c.advance.new.self.rectangles.items in
     let stream = rest ++ take c.in_ok-taken.taken c.args.piece.now in
     let is : stream ≡ c.advance.new.self.bytes.items =

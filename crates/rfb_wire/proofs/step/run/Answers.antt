@@ -1,0 +1,31 @@
+use Rattle.std.proofs.Common.{◌≡◌, ◌∙◌, ◌+◌, ◌++◌, length, take, ap, subst}
+use Rattle.std.proofs.lemmas.List.{length-take-le}
+use Rattle.pixel_format.specs.Format.{Format, host_format}
+use Rattle.pixel_format.specs.Reading.{Bad}
+use Rattle.rect_data.specs.Judging.{wants_of, resume, go_on as data_go_on}
+use Rattle.std.specs.Prelude.{◌<◌, IfSome}
+use Rattle.rfb_wire.specs.Progress.{behind_data}
+use Rattle.rfb_wire.proofs.Resume.{data_whole, has_bytes}
+use Rattle.rfb_wire.proofs.step.run.Goals as goal
+
+pub next_data-requires : goal.next_data-requires
+next_data-requires c =
+    has_bytes c.in-Ok.taken (length c.args.bytes.now) c.in-Ok.next c.in-Ok.ensures.taken
+    (subst (λ (f : Format). IfSome c.in-Ok.next (λ next. length c.args.bytes.now < c.in-Ok.taken + wants_of f next)) c.host.ensures c.in-Ok.ensures.waits)
+
+pub returns-in-Ok-clause-goes : goal.returns-in-Ok-clause-goes
+returns-in-Ok-clause-goes c = λ more.
+    let front = take c.in-Ok.taken c.args.bytes.now in
+    data_whole c.args.width c.args.height c.args.at c.args.others c.args.begun c.args.current front more
+    (data_go_on host_format c.args.width c.args.height c.in-Ok.next more)
+    (subst (λ (f : Format). resume f c.args.width c.args.height c.args.current (front ++ more) ≡ data_go_on f c.args.width c.args.height c.in-Ok.next more)
+    c.host.ensures (c.in-Ok.ensures.goes more))
+    ∙ ap (λ n. behind_data c.args.width c.args.height c.args.begun c.args.others ((c.args.at + n) + length more) (data_go_on host_format c.args.width c.args.height c.in-Ok.next more))
+    (length-take-le c.in-Ok.taken c.args.bytes.now c.in-Ok.ensures.taken)
+    ∙ c.next_data.ensures.goes c.args.width c.args.height more
+
+pub returns-in-Err-clause-faults : goal.returns-in-Err-clause-faults
+returns-in-Err-clause-faults c = λ more.
+    data_whole c.args.width c.args.height c.args.at c.args.others c.args.begun c.args.current c.args.bytes.now more
+    (Bad c.in-Err.fault)
+    (subst (λ (f : Format). resume f c.args.width c.args.height c.args.current (c.args.bytes.now ++ more) ≡ Bad c.in-Err.fault) c.host.ensures (c.in-Err.ensures.refused more))
