@@ -13,6 +13,8 @@ use Rattle.rfb_wire.specs.declared.progress.Stage.{Stage}
 use Rattle.rfb_wire.specs.declared.progress.Stage.TheVariants as stages
 use Rattle.rfb_wire.specs.declared.progress.Next.{Next}
 use Rattle.rfb_wire.specs.declared.progress.Next.TheVariants as nexts
+use Rattle.rfb_wire.specs.declared.progress.Ending.{Ending}
+use Rattle.rfb_wire.specs.declared.progress.Ending.TheVariants as endings
 use Rattle.rfb_wire.specs.declared.progress.Over.{Over}
 use Rattle.rfb_wire.specs.declared.progress.Step.{Step}
 use Rattle.rfb_wire.specs.declared.progress.Progress.{Progress}
@@ -128,6 +130,7 @@ pub record Linked (limit width height : ℕ) (bytes : List ℕ) (rectangles : Li
 -- and the field isn't whole
 pub record IsInField (limit width height : ℕ) (p : Progress) : Type 0 where
   pub linked : Linked limit width height p.bytes.items p.rectangles.items p.stage
+  pub end_is : p.end ≡ start_of p.stage + wants_of p.stage
   pub unfinished : length p.bytes.items < start_of p.stage + wants_of p.stage
 
 -- The reader stands in bytes that are read over. Behind what is kept and as many bytes as have
@@ -148,11 +151,11 @@ abbrev pub passed_in : Option Over → ℕ
 passed_in None = 0
 passed_in (Some o) = o.passed
 
--- what is known behind a whole field
-abbrev pub After : ℕ → ℕ → ℕ → List ℕ → Progress → Next → Type 0
-After limit width height bytes p (nexts.Field stage) = IsInField limit width height p
-After limit width height bytes p nexts.End = unlimited_at width height bytes ≡ Got (Recorded p.rectangles.items) []
-After limit width height bytes p (nexts.ReadOver n) = (n < 2 ^ 32) × (length bytes ≤ head_limit) × ((more : List ℕ) → unlimited_at width height (bytes ++ more) ≡ read_over n more)
+-- what is known once a reader has gone on behind the fields that are whole
+abbrev pub After : ℕ → ℕ → ℕ → List ℕ → Progress → Ending → Type 0
+After limit width height bytes p endings.Field = IsInField limit width height p
+After limit width height bytes p endings.Whole = unlimited_at width height bytes ≡ Got (Recorded p.rectangles.items) []
+After limit width height bytes p (endings.ReadOver n) = (n < 2 ^ 32) × (length bytes ≤ head_limit) × ((more : List ℕ) → unlimited_at width height (bytes ++ more) ≡ read_over n more)
 
 -- Whole fields reach up to the end of the bytes, and this follows from them. What the message says,
 -- whatever comes, is what follows, behind the rectangles that are whole.

@@ -1,6 +1,6 @@
 //! Where a reader stands in a message.
 
-ghost use Rattle.std.specs.Prelude.{◌≡◌, ℕ, ◌<◌, ◌≤◌, ◌^◌, ◌+◌, ◌++◌, ◌⊎◌, [], ◌∷◌, List, length, take, IfOk, OnOk, IfErr, OnErr, IfSome, Ok, Err, None};
+ghost use Rattle.std.specs.Prelude.{◌≡◌, ℕ, ◌<◌, ◌≤◌, ◌^◌, ◌+◌, ◌++◌, ◌⊎◌, [], ◌∷◌, List, length, take, IfOk, OnOk, IfErr, OnErr, Ok, Err, None};
 ghost use Rattle.std.specs.Option.{option_to_list};
 ghost use Rattle.pixel_format.specs.Reading.{Got, Bad};
 ghost use Rattle.rfb_wire.specs.Grammar.{message_at, Recorded, message_limit};
@@ -75,6 +75,17 @@ pub struct Step {
     pub next: Next,
 }
 
+/// How far whole fields bring a message, once the reader has gone on behind them.
+#[derive(Clone, Copy)]
+pub enum Ending {
+    /// A field of the message isn't whole.
+    Field,
+    /// The message is whole, and is recorded.
+    Whole,
+    /// So many bytes are left of a message that is read over.
+    ReadOver(u64),
+}
+
 /// A message that is read over: how many bytes behind its head have passed, and how many are left.
 #[derive(Clone, Copy)]
 pub struct Over {
@@ -82,13 +93,14 @@ pub struct Over {
     pub left: u64,
 }
 
-/// An unfinished message: its bytes so far, those of its rectangles that are whole, and the field
-/// that comes next. Of one that is read over, its head is kept.
+/// An unfinished message: its bytes so far, those of its rectangles that are whole, the field that
+/// comes next, and where in the message that ends. Of one that is read over, its head is kept.
 #[derive(Drop)]
 pub struct Progress {
     pub bytes: Vec<u8>,
     pub rectangles: Vec<Rectangle>,
     pub stage: Stage,
+    pub end: usize,
     pub over: Option<Over>,
 }
 
@@ -139,84 +151,85 @@ impl Progress {
             bytes: Vec::new(alloc),
             rectangles: Vec::new(alloc),
             stage: Stage::Type,
+            end: 1,
             over: None,
         }
     }
 
-    // Fields are whole: goes on behind them, and answers what comes next.
-    fn advance(&mut self, width: u16, height: u16, whole: Step) -> Result<Next, WireFault>
+    // Goes on behind whole fields.
+    fn advance(&mut self, width: u16, height: u16, whole: Step) -> Result<Ending, WireFault>
         requires { Follows message_limit width height self.old.bytes.items self.old.rectangles.items whole }
         ensures bytes { self.new.bytes ≡ self.old.bytes }
         ensures over { self.new.over ≡ self.old.over }
-        ensures goes { IfOk result (λ next. After message_limit width height self.old.bytes.items self.new next) }
+        ensures goes { IfOk result (λ e. After message_limit width height self.old.bytes.items self.new e) }
         ensures only { IfErr result (λ f. f ≡ WireFault.NoMemory) }
     {
         append(&mut self.rectangles, whole.rectangle)?;
         match whole.next {
-            Next::Field(stage) => self.stage = stage,
-            Next::End => {}
-            Next::ReadOver(_) => {}
+            Next::Field(stage) => {
+                self.end = stage.start() + stage.wants();
+                self.stage = stage;
+                Ok(Ending::Field)
+            }
+            Next::End => Ok(Ending::Whole),
+            Next::ReadOver(left) => Ok(Ending::ReadOver(left)),
         }
-        Ok(whole.next)
     }
 
     // Takes bytes up to the end of a field, or up to the limit, and judges the field once it is
-    // whole. Answers how many, and what follows from a whole field.
+    // whole. Answers how many.
     fn judge_field(
         &mut self,
         width: u16,
         height: u16,
         piece: &[u8],
-    ) -> Result<(usize, Option<Step>), WireFault>
+    ) -> Result<(usize, Ending), WireFault>
         requires field { IsInField message_limit width height self.old }
         requires some { 0 < length piece.now }
         ensures taken { IfOk result (λ x. (0 < x.0) × (x.0 ≤ length piece.now)) }
         ensures bytes { IfOk result (λ x. self.new.bytes.items ≡ self.old.bytes.items ++ take x.0 piece.now) }
-        ensures over { self.new.over ≡ self.old.over }
-        ensures waits { IfOk result (λ x. x.1 ≡ None → IsInField message_limit width height self.new) }
-        ensures goes { IfOk result (λ x. IfSome x.1 (λ whole. Follows message_limit width height self.new.bytes.items self.new.rectangles.items whole)) }
+        ensures over { OnOk result (self.new.over ≡ self.old.over) }
+        ensures short { OnOk result (length self.new.bytes.items ≤ message_limit) }
+        ensures goes { IfOk result (λ x. After message_limit width height self.new.bytes.items self.new x.1) }
         ensures faults { IfErr result (λ f. UnlessMemory f (message_at message_limit width height (self.old.bytes.items ++ piece.now) ≡ Bad f)) }
     {
-        let start = self.stage.start();
-        let end = start + self.stage.wants();
-        let taken = take(&mut self.bytes, end, piece)?;
-        if self.bytes.len() < end {
-            return Ok((taken, None));
+        let taken = take(&mut self.bytes, self.end, piece)?;
+        if self.bytes.len() < self.end {
+            return Ok((taken, Ending::Field));
         }
-        let whole = step(width, height, self.stage, &self.bytes[start..])?;
-        Ok((taken, Some(whole)))
+        let field = &self.bytes[self.stage.start()..];
+        let whole = step(width, height, self.stage, field)?;
+        let ending = self.advance(width, height, whole)?;
+        Ok((taken, ending))
     }
 
     // Takes bytes and judges the fields that they end: of a rectangle's data all that are whole in
-    // the piece, where it begins with a field, and else one. Answers how many, and what follows.
-    fn judge(
-        &mut self,
-        width: u16,
-        height: u16,
-        piece: &[u8],
-    ) -> Result<(usize, Option<Step>), WireFault>
+    // the piece, where it begins with a field, and else one. Answers how many.
+    fn judge(&mut self, width: u16, height: u16, piece: &[u8]) -> Result<(usize, Ending), WireFault>
         requires field { IsInField message_limit width height self.old }
         requires some { 0 < length piece.now }
         ensures taken { IfOk result (λ x. (0 < x.0) × (x.0 ≤ length piece.now)) }
         ensures bytes { IfOk result (λ x. self.new.bytes.items ≡ self.old.bytes.items ++ take x.0 piece.now) }
-        ensures over { self.new.over ≡ self.old.over }
-        ensures waits { IfOk result (λ x. x.1 ≡ None → IsInField message_limit width height self.new) }
-        ensures goes { IfOk result (λ x. IfSome x.1 (λ whole. Follows message_limit width height self.new.bytes.items self.new.rectangles.items whole)) }
+        ensures over { OnOk result (self.new.over ≡ self.old.over) }
+        ensures short { OnOk result (length self.new.bytes.items ≤ message_limit) }
+        ensures goes { IfOk result (λ x. After message_limit width height self.new.bytes.items self.new x.1) }
         ensures faults { IfErr result (λ f. UnlessMemory f (message_at message_limit width height (self.old.bytes.items ++ piece.now) ≡ Bad f)) }
     {
-        if let Stage::Data {
-            at,
-            begun,
-            next,
-            others,
-        } = self.stage
+        if piece.len() >= self.end - self.bytes.len()
+            && let Stage::Data {
+                at,
+                begun,
+                next,
+                others,
+            } = self.stage
             && self.bytes.len() == at
         {
             let front = &piece[..piece.len().min(MESSAGE_LIMIT - at)];
             let (taken, whole) = run(width, height, at, begun, next, others, front)?;
             if taken > 0 {
                 self.bytes.extend_from_slice(&front[..taken])?;
-                return Ok((taken, Some(whole)));
+                let ending = self.advance(width, height, whole)?;
+                return Ok((taken, ending));
             }
         }
         self.judge_field(width, height, piece)
@@ -288,6 +301,7 @@ impl Progress {
             bytes,
             rectangles,
             stage: _,
+            end: _,
             over: _,
         } = whole;
         out.push(HostMessage::from_parts(width, height, bytes, rectangles))?;
@@ -317,14 +331,11 @@ impl Progress {
         if let Some(over) = self.over {
             return Ok(self.pass(alloc, width, height, over, piece.len()));
         }
-        let (taken, whole) = self.judge(width, height, piece)?;
-        let Some(whole) = whole else {
-            return Ok(taken);
-        };
-        match self.advance(width, height, whole)? {
-            Next::Field(_) => {}
-            Next::End => self.give(alloc, width, height, out)?,
-            Next::ReadOver(left) => self.read_over(alloc, width, height, left),
+        let (taken, ending) = self.judge(width, height, piece)?;
+        match ending {
+            Ending::Field => {}
+            Ending::Whole => self.give(alloc, width, height, out)?,
+            Ending::ReadOver(left) => self.read_over(alloc, width, height, left),
         }
         Ok(taken)
     }

@@ -26,20 +26,20 @@ returns-in_err-whole-clause-faults c =
     let longer = c.take.new.bytes.items in
     let linked = linked_more message_limit c.args.width c.args.height s.bytes.items (take n c.args.piece.now) longer s.rectangles.items s.stage
     c.requires.field.linked c.in_ok-taken.ensures.bytes c.in_ok-taken.ensures.short in
-    let field = field_is c.deref.result.now longer c.start-start.result (start_of s.stage) c.deref.ensures.value c.start-start.ensures in
+    let field = field_is c.deref.result.now longer c.start.result (start_of s.stage) c.deref.ensures.value c.start.ensures in
     let faults = field_faults message_limit c.args.width c.args.height longer s.rectangles.items s.stage c.in_err-whole.field-0.0 linked
     (λ more. ap (λ f. resume c.args.width c.args.height s.stage (f ++ more)) (sym field) ∙ c.in_err-whole.ensures.faults more) in
     rw (p.1, p.2) (turn_faults message_limit c.args.width c.args.height n s.bytes.items c.args.piece.now longer c.in_err-whole.field-0.0
     c.in_ok-taken.ensures.bytes c.in_ok-taken.ensures.short (unless_memory _ _ faults))
 
-pub returns-clause-goes : goal.returns-clause-goes
-returns-clause-goes c =
+pub advance-requires : goal.advance-requires
+advance-requires c =
     let s = c.args.self.now in
     let n = c.in_ok-taken.taken in
     let longer = c.take.new.bytes.items in
     let linked = linked_more message_limit c.args.width c.args.height s.bytes.items (take n c.args.piece.now) longer s.rectangles.items s.stage
     c.requires.field.linked c.in_ok-taken.ensures.bytes c.in_ok-taken.ensures.short in
-    let field = field_is c.deref.result.now longer c.start-start.result (start_of s.stage) c.deref.ensures.value c.start-start.ensures in
+    let field = field_is c.deref.result.now longer c.start.result (start_of s.stage) c.deref.ensures.value c.start.ensures in
     let end : start_of s.stage + length (drop (start_of s.stage) longer) ≡ length longer = rw length-drop (omega (arith, linked.begun)) in
     let begins : NextBegins (start_of s.stage + length (drop (start_of s.stage) longer)) c.in_ok-whole.whole.next = rw (← field) c.in_ok-whole.ensures.begins in
     record {

@@ -1,4 +1,4 @@
-use Rattle.std.proofs.Common.{◌≡◌, [], ◌∷◌, ◌++◌, ◌∙◌, sym, ap, take, subst}
+use Rattle.std.proofs.Common.{◌≡◌, [], ◌∷◌, ◌++◌, ◌∙◌, sym, ap, take, subst, refl}
 use Rattle.std.proofs.lemmas.List.{length-take-le}
 use Rattle.std.proofs.lemmas.Result.{err_from_is_err_and}
 use Rattle.client_wire.specs.Stream.{StandsFor, Moves}
@@ -19,45 +19,38 @@ returns-in_err-taken-clause-faults c =
     let same = stands_kept s.bytes.items (passed_in s.over) rest (ap passed_in c.in_default.is) stands in
     rw same c.in_err-taken.ensures.faults)
 
-pub returns-in_err-advance-clause-faults : goal.returns-in_err-advance-clause-faults
-returns-in_err-advance-clause-faults c =
-    let p = err_from_is_err_and c.from_residual-in_err-advance.result c.from_residual-in_err-advance.ensures.1 in
-    rw (p.1, p.2) (λ rest stands. rw c.in_err-advance.ensures.only tt)
-
 pub give-requires : goal.give-requires
 give-requires c =
-    let whole_is = rw c.in-Some-whole.is at c.in_ok-taken.ensures.goes in
-    let whole = rw c.in-End.is at c.in_ok-advance.ensures.goes in
-    whole_recorded message_limit c.args.width c.args.height c.advance.new.self.bytes.items c.judge.new.self.bytes.items c.advance.new.self.rectangles.items
-    (ap (λ v. v.items) c.in_ok-advance.ensures.bytes) whole_is.short whole
+    let s = c.judge.new.self in
+    let whole = rw c.in-Whole.is at c.in_ok-taken.ensures.goes in
+    whole_recorded message_limit c.args.width c.args.height s.bytes.items s.bytes.items s.rectangles.items refl c.in_ok-taken.ensures.short whole
 
 pub returns-in-Field-clause-moves : goal.returns-in-Field-clause-moves
 returns-in-Field-clause-moves c = λ rest stands.
     let s = c.args.self.now in
+    let t = c.judge.new.self in
+    let piece = take c.in_ok-taken.taken c.args.piece.now in
     let same = stands_kept s.bytes.items (passed_in s.over) rest (ap passed_in c.in_default.is) stands in
-    kept_stands message_limit c.args.width c.args.height c.advance.new.self.bytes.items (passed_in c.advance.new.self.over) c.args.out.now.items (rest ++ take c.in_ok-taken.taken c.args.piece.now)
-    (ap (λ z. z ++ take c.in_ok-taken.taken c.args.piece.now) same ∙ sym c.in_ok-taken.ensures.bytes ∙ sym (ap (λ v. v.items) c.in_ok-advance.ensures.bytes))
-    (ap passed_in (c.in_ok-advance.ensures.over ∙ c.in_ok-taken.ensures.over ∙ c.in_default.is))
+    kept_stands message_limit c.args.width c.args.height t.bytes.items (passed_in t.over) c.args.out.now.items (rest ++ piece)
+    (ap (λ z. z ++ piece) same ∙ sym c.in_ok-taken.ensures.bytes) (ap passed_in (c.in_ok-taken.ensures.over ∙ c.in_default.is))
 
-pub returns-in_ok-give-in-End-clause-moves : goal.returns-in_ok-give-in-End-clause-moves
-returns-in_ok-give-in-End-clause-moves c = λ rest stands.
+pub returns-in_ok-give-in-Whole-clause-moves : goal.returns-in_ok-give-in-Whole-clause-moves
+returns-in_ok-give-in-Whole-clause-moves c = λ rest stands.
     let s = c.args.self.now in
+    let t = c.judge.new.self in
+    let piece = take c.in_ok-taken.taken c.args.piece.now in
     let kept = stands_kept s.bytes.items (passed_in s.over) rest (ap passed_in c.in_default.is) stands in
-    let whole_is = rw c.in-Some-whole.is at c.in_ok-taken.ensures.goes in
-    let whole = rw c.in-End.is at c.in_ok-advance.ensures.goes in
-    let same : c.advance.new.self.bytes.items ≡ c.judge.new.self.bytes.items = ap (λ v. v.items) c.in_ok-advance.ensures.bytes in
-    let recorded = whole_recorded message_limit c.args.width c.args.height c.advance.new.self.bytes.items c.judge.new.self.bytes.items c.advance.new.self.rectangles.items
-    same whole_is.short whole in
-    let rectangles = c.advance.new.self.rectangles.items in
-    let stream = rest ++ take c.in_ok-taken.taken c.args.piece.now in
-    let is : stream ≡ c.advance.new.self.bytes.items =
-    ap (λ z. z ++ take c.in_ok-taken.taken c.args.piece.now) kept ∙ sym (same ∙ c.in_ok-taken.ensures.bytes) in
+    let whole = rw c.in-Whole.is at c.in_ok-taken.ensures.goes in
+    let rectangles = t.rectangles.items in
+    let recorded = whole_recorded message_limit c.args.width c.args.height t.bytes.items t.bytes.items rectangles refl c.in_ok-taken.ensures.short whole in
+    let stream = rest ++ piece in
+    let is : stream ≡ t.bytes.items = ap (λ z. z ++ piece) kept ∙ sym c.in_ok-taken.ensures.bytes in
     record {
       rest = [];
       gives = gives_one (message_at message_limit c.args.width c.args.height) (given c.args.width c.args.height) c.args.out.now.items c.give.new.out.items
           (Recorded rectangles) stream (ap (message_at message_limit c.args.width c.args.height) is ∙ recorded)
-          (c.in_ok-give-in-End.ensures.ok ∙ ap (λ z. c.args.out.now.items ++ host_of c.args.width c.args.height z rectangles ∷ []) (sym is));
-      stands = rw (c.in_ok-give-in-End.ensures.none, c.in_ok-give-in-End.ensures.over) (stands_whole []);
+          (c.in_ok-give-in-Whole.ensures.ok ∙ ap (λ z. c.args.out.now.items ++ host_of c.args.width c.args.height z rectangles ∷ []) (sym is));
+      stands = rw (c.in_ok-give-in-Whole.ensures.none, c.in_ok-give-in-Whole.ensures.over) (stands_whole []);
     }
 
 pub returns-in-Some-clause-moves : goal.returns-in-Some-clause-moves
@@ -73,7 +66,6 @@ returns-in-ReadOver-clause-moves c = λ rest stands.
     let t = c.read_over.new.self in
     let piece = take c.in_ok-taken.taken c.args.piece.now in
     let kept = stands_kept s.bytes.items (passed_in s.over) rest (ap passed_in c.in_default.is) stands in
-    let is : c.advance.new.self.bytes.items ≡ rest ++ piece =
-    ap (λ v. v.items) c.in_ok-advance.ensures.bytes ∙ c.in_ok-taken.ensures.bytes ∙ ap (λ z. z ++ piece) (sym kept) in
+    let is : c.judge.new.self.bytes.items ≡ rest ++ piece = c.in_ok-taken.ensures.bytes ∙ ap (λ z. z ++ piece) (sym kept) in
     subst (λ z. Moves (message_at message_limit c.args.width c.args.height) (given c.args.width c.args.height) t.bytes.items (passed_in t.over) c.args.out.now.items c.args.out.now.items z)
     is (c.read_over.ensures.moves c.args.out.now.items)
