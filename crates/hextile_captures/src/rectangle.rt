@@ -4,9 +4,9 @@ ghost use Rattle.std.specs.Prelude.{◌≤◌, ◌+◌, length, IfSome};
 ghost use Rattle.pixel_format.specs.Format.{host_format};
 ghost use Rattle.hextile.specs.Data.{AreData};
 
-use hextile::{Measure, Measuring, measure, paint};
+use hextile::{Measure, measure, paint};
 use pixel_format::{Color, PixelFormat};
-use wire_tests::{HEIGHT, Sheet, WIDTH};
+use wire_tests::{HEIGHT, Sheet, WIDTH, hextile_in_pieces};
 
 const BLACK: Color = Color { r: 0, g: 0, b: 0 };
 
@@ -34,7 +34,7 @@ pub(crate) fn first_rectangle(bytes: &[u8]) -> Option<Rectangle<'_>>
     let h = u16::from_be_bytes([*h_high, *h_low]);
     let host = PixelFormat::host();
     let length = measure(&host, w, h, rest).ok()?;
-    let in_pieces = measured_in_pieces(&host, w, h, rest).ok()?;
+    let in_pieces = hextile_in_pieces(&host, w, h, rest).ok()?;
     let needs_all = length > 0
         && measure(&host, w, h, &rest[..length - 1]) == Err(Measure::NeedMore);
     if w > WIDTH || h > HEIGHT || in_pieces != length || !needs_all {
@@ -45,29 +45,6 @@ pub(crate) fn first_rectangle(bytes: &[u8]) -> Option<Rectangle<'_>>
         h,
         bytes: &rest[..length],
     })
-}
-
-// How many bytes the fields of the data have that the bytes begin with.
-fn measured_in_pieces(
-    format: &PixelFormat,
-    w: u16,
-    h: u16,
-    bytes: &[u8],
-) -> Result<usize, Measure> {
-    let mut rest = bytes;
-    let mut next = Measuring::start(w, h);
-    for _ in 0..=bytes.len() {
-        let Some(stage) = next else {
-            return Ok(bytes.len() - rest.len().min(bytes.len()));
-        };
-        let wants = stage.wants(format);
-        if rest.len() < wants {
-            return Err(Measure::NeedMore);
-        }
-        next = stage.step(format, &rest[..wants])?;
-        rest = &rest[wants..];
-    }
-    Err(Measure::NeedMore)
 }
 
 impl Rectangle<'_> {

@@ -6,6 +6,7 @@ mod hextile_data;
 mod host_messages;
 mod host_sessions;
 mod keys;
+mod readers;
 mod rectangles;
 mod rre_data;
 mod samples;

@@ -2,31 +2,17 @@
 
 ghost use Rattle.std.specs.Prelude.{◌<◌, length};
 
+use crate::tests::readers::{Reader, read_in_pieces, read_while_memory_lasts};
 use client_wire::*;
 use pixel_format::{FormatFault, PixelFormat};
 use std::alloc::Global;
 use std::test::Fail;
 
-// Feeds a piece. It promises nothing, so that a test isn't proved beside all that the reader does.
-fn feed(
-    reader: &mut ClientReader,
-    piece: &[u8],
-    messages: &mut Vec<ClientMessage>,
-) -> Result<(), WireFault> {
-    reader.feed(piece, messages)
-}
-
 // What a reader makes of bytes that come in pieces of this length: its messages, and its fault.
 fn read(alloc: Global, bytes: &[u8], length: usize) -> (Vec<ClientMessage>, Option<WireFault>)
     requires { 0 < length }
 {
-    let mut reader = ClientReader::new(alloc);
-    let mut messages = Vec::new(alloc);
-    let mut fault = None;
-    for piece in bytes.chunks(length) {
-        fault = feed(&mut reader, piece, &mut messages).err();
-    }
-    (messages, fault)
+    read_in_pieces(alloc, &mut ClientReader::new(alloc), bytes, length)
 }
 
 // Whether two messages are the same.
@@ -110,7 +96,7 @@ fn input_and_then_a_fault(rt: HostRuntime) {
     let mut reader = ClientReader::new(rt.alloc());
     let mut messages = Vec::new(rt.alloc());
     for _ in 0..2 {
-        assert!(rt; feed(&mut reader, &bytes, &mut messages) == Err(WireFault::UnknownType));
+        assert!(rt; reader.take(&bytes, &mut messages) == Err(WireFault::UnknownType));
         assert!(rt; messages.len() == 1);
     }
 }
@@ -132,8 +118,8 @@ fn text_without_end(rt: HostRuntime) -> Result<(), Fail> {
     let mut messages = Vec::new(rt.alloc());
     let head = [6, 0, 0, 0, 255, 255, 255, 255];
     let text = vec![in rt.alloc(); 0; 1_000_000]?;
-    assert!(rt; feed(&mut reader, &head, &mut messages) == Ok(()));
-    assert!(rt; feed(&mut reader, &text, &mut messages) == Ok(()));
+    assert!(rt; reader.take(&head, &mut messages) == Ok(()));
+    assert!(rt; reader.take(&text, &mut messages) == Ok(()));
     assert!(rt; messages.len() == 0);
     Ok(())
 }
@@ -308,16 +294,10 @@ fn type_of(message: &ClientMessage) -> u8 {
 #[test]
 fn reading_while_memory_lasts(rt: HostRuntime) {
     let mut reader = ClientReader::new(rt.alloc());
-    let mut messages = Vec::new(rt.alloc());
-    let mut stopped = None;
-    for piece in STREAM.chunks(1) {
-        let before = messages.len();
-        let fault = feed(&mut reader, piece, &mut messages).err();
-        assert!(rt; fault.is_none() || fault == Some(WireFault::NoMemory));
-        assert!(rt; stopped.is_none() || (fault == stopped && messages.len() == before));
-        stopped = fault;
-    }
-    assert!(rt; stopped.is_some() || messages.len() == 4);
+    let Some((messages, lasts)) = read_while_memory_lasts(rt.alloc(), &mut reader, &STREAM) else {
+        panic!(rt; "another fault");
+    };
+    assert!(rt; !lasts || messages.len() == 4);
     for (message, expected) in messages.iter().zip(&[0, 2, 3, 5]) {
         assert!(rt; type_of(message) == *expected);
     }

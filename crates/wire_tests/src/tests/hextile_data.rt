@@ -4,12 +4,13 @@ ghost use Rattle.std.specs.Prelude.{◌≡◌, ℕ, IfOk, All, ◌/◌, ◌%◌,
 ghost use Rattle.pixel_format.specs.Canvas.{covers};
 ghost use Rattle.pixel_format.specs.Pixel.{IsWithin, IsScreenColor};
 
+use crate::pieces::hextile_in_pieces;
 use crate::sheet::Sheet;
 use crate::tests::samples::{
-    BLACK, BLUE, EIGHT, GREEN, RED, SIXTEEN, WHITE, any_color, below, converted, pixel_of,
+    BLACK, BLUE, EIGHT, GREEN, RED, SIXTEEN, WHITE, any_color, below, converted, pixel_of, shows,
 };
 use hextile::{
-    Measure, Measuring, Subrectangle, encode, grammar_reads_data, measure, no_data_begin_others,
+    Measure, Subrectangle, encode, grammar_reads_data, measure, no_data_begin_others,
     one_reading_of_data, paint,
 };
 use pixel_format::{Color, NoMemory, PixelFormat};
@@ -56,42 +57,19 @@ fn whole_at_the_last_byte(rt: HostRuntime) {
     no_data_begin_others();
 }
 
-// Judges the bytes field by field.
-fn measured_in_pieces(
-    format: &PixelFormat,
-    w: u16,
-    h: u16,
-    bytes: &[u8],
-) -> Result<usize, Measure> {
-    let mut rest = bytes;
-    let mut next = Measuring::start(w, h);
-    for _ in 0..=bytes.len() {
-        let Some(stage) = next else {
-            return Ok(bytes.len() - rest.len().min(bytes.len()));
-        };
-        let wants = stage.wants(format);
-        if rest.len() < wants {
-            return Err(Measure::NeedMore);
-        }
-        next = stage.step(format, &rest[..wants])?;
-        rest = &rest[wants..];
-    }
-    Err(Measure::NeedMore)
-}
-
 // What is answered to the bytes, whole and in pieces; `None` where the two differ, or where a
 // beginning of theirs is answered otherwise than that more is needed.
 fn answer(w: u16, h: u16, bytes: &[u8]) -> Option<Result<usize, Measure>> {
     let host = PixelFormat::host();
     for n in 0..bytes.len() {
         let whole = measure(&host, w, h, &bytes[..n]);
-        let pieces = measured_in_pieces(&host, w, h, &bytes[..n]);
+        let pieces = hextile_in_pieces(&host, w, h, &bytes[..n]);
         if whole != Err(Measure::NeedMore) || pieces != whole {
             return None;
         }
     }
     let whole = measure(&host, w, h, bytes);
-    if measured_in_pieces(&host, w, h, bytes) != whole {
+    if hextile_in_pieces(&host, w, h, bytes) != whole {
         return None;
     }
     Some(whole)
@@ -366,15 +344,7 @@ fn comes_through(
         return Ok(false);
     };
     let sheet = painted(format, w, h, data)?;
-    let mut all = colors.iter();
-    for row in 0..h {
-        for column in 0..w {
-            if Some(&sheet.color(column, row)) != all.next() {
-                return Ok(false);
-            }
-        }
-    }
-    Ok(measure(format, w, h, data) == Ok(data.len()))
+    Ok(shows(&sheet, w, h, &colors) && measure(format, w, h, data) == Ok(data.len()))
 }
 
 #[test]

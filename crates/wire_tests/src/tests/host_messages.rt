@@ -2,6 +2,8 @@
 
 ghost use Rattle.std.specs.Prelude.{◌<◌, length};
 
+use crate::tests::readers::{Reader, read_in_pieces, read_while_memory_lasts};
+use crate::tests::samples::{RED_UPDATE as RED, area};
 use pixel_format::Color;
 use rfb_wire::*;
 use std::alloc::{AllocError, Global};
@@ -9,30 +11,12 @@ use std::test::Fail;
 
 mod encodings;
 
-// One red pixel at (0, 0): an update of one Raw rectangle.
-const RED: [u8; 20] = [0, 0, 0, 1, 0, 0, 0, 0, 0, 1, 0, 1, 0, 0, 0, 0, 0, 0, 255, 0];
-
-// Feeds a piece. It promises nothing, so that a test isn't proved beside all that the reader does.
-fn feed(
-    reader: &mut ServerReader,
-    piece: &[u8],
-    messages: &mut Vec<HostMessage>,
-) -> Result<(), WireFault> {
-    reader.feed(piece, messages)
-}
-
 // What a reader of a screen of 1 by 1 makes of bytes that come in pieces of this length: its
 // messages, and its fault.
 fn read(alloc: Global, bytes: &[u8], length: usize) -> (Vec<HostMessage>, Option<WireFault>)
     requires { 0 < length }
 {
-    let mut reader = ServerReader::new(alloc, 1, 1);
-    let mut messages = Vec::new(alloc);
-    let mut fault = None;
-    for piece in bytes.chunks(length) {
-        fault = feed(&mut reader, piece, &mut messages).err();
-    }
-    (messages, fault)
+    read_in_pieces(alloc, &mut ServerReader::new(alloc, 1, 1), bytes, length)
 }
 
 #[test]
@@ -49,14 +33,8 @@ fn one_message_in_any_pieces(rt: HostRuntime) {
 #[test]
 fn rectangle_of_an_update(rt: HostRuntime) -> Result<(), Fail> {
     let message = HostMessage::from_bytes(rt.alloc(), 1, 1, &RED)?;
-    let area = Area {
-        x: 0,
-        y: 0,
-        w: 1,
-        h: 1,
-    };
     let rectangle = Rectangle {
-        area,
+        area: area(0, 0, 1, 1),
         encoding: Encoding::Raw,
         start: 16,
         end: 20,
@@ -119,7 +97,7 @@ fn a_fault_is_for_good(rt: HostRuntime) {
     // The red pixel and a byte that begins no message; and the red pixel again.
     let bytes = b"\0\0\0\x01\0\0\0\0\0\x01\0\x01\0\0\0\0\0\0\xff\0\x09".as_slice();
     for piece in [bytes, &RED] {
-        let fault = feed(&mut reader, piece, &mut messages).err();
+        let fault = reader.take(piece, &mut messages).err();
         assert!(rt; fault == Some(WireFault::UnknownType) && messages.len() == 1);
     }
 }
@@ -140,8 +118,13 @@ fn takes(alloc: Global, reader: &mut ServerReader, piece: &[u8], times: usize) -
     messages.is_empty()
 }
 
-// Whether one byte more is too long.
-fn is_full(alloc: Global, reader: &mut ServerReader) -> bool {
+// Whether a reader takes the pieces, each of them so many times, and one byte more is too long.
+fn is_filled(alloc: Global, reader: &mut ServerReader, pieces: &[(&[u8], usize)]) -> bool {
+    for (piece, times) in pieces {
+        if !takes(alloc, reader, piece, *times) {
+            return false;
+        }
+    }
     let mut messages = Vec::new(alloc);
     reader.feed(&[0], &mut messages) == Err(WireFault::TooLong) && messages.is_empty()
 }
@@ -152,10 +135,9 @@ fn too_long_at_its_byte(rt: HostRuntime) -> Result<(), Fail> {
     let mut reader = ServerReader::new(alloc, 8_192, 2_049);
     // One Raw rectangle over the whole screen: 67,141,648 bytes in all.
     let head = [0, 0, 0, 1, 0, 0, 0, 0, 32, 0, 8, 1, 0, 0, 0, 0];
-    assert!(rt; takes(alloc, &mut reader, &head, 1));
-    assert!(rt; takes(alloc, &mut reader, &zeros(alloc, 65_536)?, 1_023));
-    assert!(rt; takes(alloc, &mut reader, &zeros(alloc, 65_520)?, 1));
-    assert!(rt; is_full(alloc, &mut reader));
+    let (many, last) = (zeros(alloc, 65_536)?, zeros(alloc, 65_520)?);
+    let pieces: [(&[u8], usize); 3] = [(&head, 1), (&many, 1_023), (&last, 1)];
+    assert!(rt; is_filled(alloc, &mut reader, &pieces));
     Ok(())
 }
 
@@ -233,13 +215,16 @@ fn two_rectangles_are_too_long(rt: HostRuntime) -> Result<(), Fail> {
     // Two Raw rectangles over the whole screen: 67,108,892 bytes in all, 28 more than 2 ^ 26.
     let head = [0, 0, 0, 2];
     let rectangle = [0, 0, 0, 0, 16, 0, 8, 0, 0, 0, 0, 0];
-    assert!(rt; takes(alloc, &mut reader, &head, 1));
-    assert!(rt; takes(alloc, &mut reader, &rectangle, 1));
-    assert!(rt; takes(alloc, &mut reader, &zeros(alloc, 65_536)?, 512));
-    assert!(rt; takes(alloc, &mut reader, &rectangle, 1));
-    assert!(rt; takes(alloc, &mut reader, &zeros(alloc, 65_536)?, 511));
-    assert!(rt; takes(alloc, &mut reader, &zeros(alloc, 65_508)?, 1));
-    assert!(rt; is_full(alloc, &mut reader));
+    let (many, last) = (zeros(alloc, 65_536)?, zeros(alloc, 65_508)?);
+    let pieces: [(&[u8], usize); 6] = [
+        (&head, 1),
+        (&rectangle, 1),
+        (&many, 512),
+        (&rectangle, 1),
+        (&many, 511),
+        (&last, 1),
+    ];
+    assert!(rt; is_filled(alloc, &mut reader, &pieces));
     Ok(())
 }
 
@@ -254,13 +239,7 @@ fn messages_that_are_written(rt: HostRuntime) -> Result<(), Fail> {
     assert!(rt; is_one_message(alloc, &host, &[2]));
     // One red pixel, as a viewer of 16 bits has it.
     host.clear();
-    let area = Area {
-        x: 1,
-        y: 258,
-        w: 1,
-        h: 1,
-    };
-    write_raw_update(area, &[0, 248], &mut host)?;
+    write_raw_update(area(1, 258, 1, 1), &[0, 248], &mut host)?;
     let update = [0, 0, 0, 1, 0, 1, 1, 2, 0, 1, 0, 1, 0, 0, 0, 0, 0, 248];
     assert!(rt; host.as_slice() == update.as_slice());
     host.clear();
@@ -334,16 +313,10 @@ const STREAM: [u8; 43] = [
 #[test]
 fn reading_while_memory_lasts(rt: HostRuntime) {
     let mut reader = ServerReader::new(rt.alloc(), 1, 1);
-    let mut messages = Vec::new(rt.alloc());
-    let mut stopped = None;
-    for piece in STREAM.chunks(1) {
-        let before = messages.len();
-        let fault = feed(&mut reader, piece, &mut messages).err();
-        assert!(rt; fault.is_none() || fault == Some(WireFault::NoMemory));
-        assert!(rt; stopped.is_none() || (fault == stopped && messages.len() == before));
-        stopped = fault;
-    }
-    assert!(rt; stopped.is_some() || messages.len() == 3);
+    let Some((messages, lasts)) = read_while_memory_lasts(rt.alloc(), &mut reader, &STREAM) else {
+        panic!(rt; "another fault");
+    };
+    assert!(rt; !lasts || messages.len() == 3);
     for (message, length) in messages.iter().zip(&[1, 10, 20]) {
         assert!(rt; message.bytes().len() == *length);
     }
@@ -353,16 +326,11 @@ fn reading_while_memory_lasts(rt: HostRuntime) {
 #[test]
 fn writing_while_memory_lasts(rt: HostRuntime) {
     let mut out = Vec::new(rt.alloc());
-    let area = Area {
-        x: 0,
-        y: 0,
-        w: 1,
-        h: 1,
-    };
+    let place = area(0, 0, 1, 1);
     let color = Color { r: 0, g: 0, b: 0 };
     for _ in 0..9 {
         let before = out.len();
-        let written = write_raw_update(area, &[0, 0, 255, 0], &mut out);
+        let written = write_raw_update(place, &[0, 0, 255, 0], &mut out);
         assert!(rt; out.len() == (if written.is_ok() { before + 20 } else { before }));
         let before = out.len();
         let written = write_color_map(7, &[color], &mut out);

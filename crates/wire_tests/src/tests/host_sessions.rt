@@ -1,5 +1,7 @@
 //! Conversations with hosts, in any pieces.
 
+use crate::tests::readers::Reader;
+use crate::tests::samples::RED_UPDATE as RED;
 use client_wire::WireFault;
 use host_session::{HostFault, HostSession};
 use rfb_wire::HostMessage;
@@ -8,9 +10,6 @@ use std::test::Fail;
 
 // The version, and its newline.
 const VERSION: [u8; 12] = *b"RFB 003.008\n";
-
-// One red pixel at (0, 0): an update of one Raw rectangle.
-const RED: [u8; 20] = [0, 0, 0, 1, 0, 0, 0, 0, 0, 1, 0, 1, 0, 0, 0, 0, 0, 0, 255, 0];
 
 // A host's part of a whole handshake, and an update: version, one type, OK, ServerInit of a screen of
 // 1 by 1 whose name is x, and the red pixel. The host's own format is no valid one.
@@ -21,15 +20,6 @@ const RED_STREAM: [u8; 63] =
 // SetEncodings and a request for all of the screen; and a request for what has changed on it.
 const RED_ANSWERS: [u8; 74] =
     *b"RFB 003.008\n\x01\x01\0\0\0\0\x20\x18\0\x01\0\xff\0\xff\0\xff\x10\x08\0\0\0\0\x02\0\0\x04\0\0\0\x01\0\0\0\x05\0\0\0\x02\0\0\0\0\x03\0\0\0\0\0\0\x01\0\x01\x03\x01\0\0\0\0\0\x01\0\x01";
-
-// Feeds a piece. It promises nothing, so that a test isn't proved beside all that the session does.
-fn feed(
-    session: &mut HostSession,
-    piece: &[u8],
-    messages: &mut Vec<HostMessage>,
-) -> Result<(), HostFault> {
-    session.feed(piece, messages)
-}
 
 // A session, and what came of what it was fed.
 #[derive(Drop)]
@@ -52,7 +42,7 @@ impl Talk {
 
     // Feeds a piece, and puts out what is due.
     fn feed(&mut self, piece: &[u8]) -> Result<(), Fail> {
-        self.fault = feed(&mut self.session, piece, &mut self.messages).err();
+        self.fault = self.session.take(piece, &mut self.messages).err();
         self.session.out(&mut self.out)?;
         Ok(())
     }
@@ -307,9 +297,9 @@ fn want_of_memory(rt: HostRuntime) -> Result<(), Fail> {
     let mut messages = Vec::new(rt.alloc());
     let mut out = Vec::new(rt.alloc());
     for piece in RED_STREAM.chunks(5) {
-        if let Err(fault) = feed(&mut session, piece, &mut messages) {
+        if let Err(fault) = session.take(piece, &mut messages) {
             assert!(rt; fault == HostFault::Wire(WireFault::NoMemory));
-            let again = feed(&mut session, &[2], &mut messages);
+            let again = session.take(&[2], &mut messages);
             assert!(rt; again == Err(fault));
         }
         let before = out.len();
@@ -320,7 +310,7 @@ fn want_of_memory(rt: HostRuntime) -> Result<(), Fail> {
     }
     assert!(rt; RED_ANSWERS.starts_with(&out));
     assert!(rt; messages.len() <= 1);
-    if feed(&mut session, &[], &mut messages).is_ok() {
+    if session.take(&[], &mut messages).is_ok() {
         assert!(rt; out.len() == RED_ANSWERS.len());
         assert!(rt; messages.len() == 1);
     }

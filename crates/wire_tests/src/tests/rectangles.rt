@@ -10,37 +10,38 @@ const AREA: Area = Area {
     h: 1,
 };
 
-// The data of one red place in each encoding, and the number of the encoding.
-const ONE_PLACE: [(u32, &[u8]); 4] = [
-    (0, &[0, 0, 255, 0]),
-    (1, &[0, 1, 0, 0]),
-    (2, &[0, 0, 0, 0, 0, 0, 255, 0]),
-    (5, &[2, 0, 0, 255, 0]),
+// The data of one red place in each encoding.
+const ONE_PLACE: [(Encoding, &[u8]); 4] = [
+    (Encoding::Raw, &[0, 0, 255, 0]),
+    (Encoding::CopyRect, &[0, 1, 0, 0]),
+    (Encoding::Rre, &[0, 0, 0, 0, 0, 0, 255, 0]),
+    (Encoding::Hextile, &[2, 0, 0, 255, 0]),
 ];
 
 #[test]
-fn whole_and_one_byte_less(rt: HostRuntime) {
-    let host = PixelFormat::host();
-    for (number, data) in ONE_PLACE {
-        let Some(encoding) = Encoding::from_number(number) else {
-            panic!(rt; "no encoding {number}");
-        };
-        let whole = measure(&host, 2, 1, encoding, AREA, data);
-        assert!(rt; whole == Ok(Some(data.len())));
-        let less = measure(&host, 2, 1, encoding, AREA, &data[..data.len() - 1]);
-        assert!(rt; less == Ok(None));
+fn encodings_by_their_numbers(rt: HostRuntime) {
+    for ((encoding, _), number) in ONE_PLACE.into_iter().zip([0, 1, 2, 5]) {
+        assert!(rt; Encoding::from_number(number) == Some(encoding));
     }
     assert!(rt; Encoding::from_number(3) == None);
     assert!(rt; Encoding::from_number(4_294_967_057) == None);
 }
 
 #[test]
+fn whole_and_one_byte_less(rt: HostRuntime) {
+    let host = PixelFormat::host();
+    for (encoding, data) in ONE_PLACE {
+        let whole = measure(&host, 2, 1, encoding, AREA, data);
+        assert!(rt; whole == Ok(Some(data.len())));
+        let less = measure(&host, 2, 1, encoding, AREA, &data[..data.len() - 1]);
+        assert!(rt; less == Ok(None));
+    }
+}
+
+#[test]
 fn field_by_field(rt: HostRuntime) {
     let host = PixelFormat::host();
-    for (number, data) in ONE_PLACE {
-        let Some(encoding) = Encoding::from_number(number) else {
-            panic!(rt; "no encoding {number}");
-        };
+    for (encoding, data) in ONE_PLACE {
         let mut rest = data;
         let mut next = Judging::start(&host, encoding, AREA);
         for _ in 0..data.len() {

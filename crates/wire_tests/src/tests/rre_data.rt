@@ -6,7 +6,7 @@ ghost use Rattle.pixel_format.specs.Pixel.{IsWithin, IsScreenColor};
 
 use crate::sheet::Sheet;
 use crate::tests::samples::{
-    BLACK, EIGHT, GREEN, RED, SIXTEEN, WHITE, any_color, below, converted, pixel_of,
+    BLACK, EIGHT, GREEN, RED, SIXTEEN, WHITE, any_color, below, converted, pixel_of, shows,
 };
 use pixel_format::{Color, NoMemory, PixelFormat};
 use rre::{
@@ -195,15 +195,7 @@ fn comes_through(alloc: Global, format: &PixelFormat, picture: &[Color]) -> Resu
         return Ok(false);
     };
     let sheet = painted(format, 16, 12, data)?;
-    let mut all = colors.iter();
-    for row in 0..12 {
-        for column in 0..16 {
-            if Some(&sheet.color(column, row)) != all.next() {
-                return Ok(false);
-            }
-        }
-    }
-    Ok(measure(format, 16, 12, data) == Ok(data.len()))
+    Ok(shows(&sheet, 16, 12, &colors) && measure(format, 16, 12, data) == Ok(data.len()))
 }
 
 #[test]

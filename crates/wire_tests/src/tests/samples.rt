@@ -1,8 +1,10 @@
 //! Colours, formats and pictures that several tests share.
 
-ghost use Rattle.std.specs.Prelude.{◌≡◌, ℕ, IfOk, All, length, ◌<◌};
+ghost use Rattle.std.specs.Prelude.{◌≡◌, ℕ, IfOk, All, length, ◌<◌, ◌≤◌};
 ghost use Rattle.pixel_format.specs.Pixel.{IsWithin, IsScreenColor};
 
+use crate::sheet::Sheet;
+use client_wire::Area;
 use pixel_format::{Color, NoMemory, PixelFormat};
 use std::alloc::Global;
 
@@ -30,6 +32,13 @@ pub(crate) const EIGHT: [u8; 16] = [8, 8, 0, 1, 0, 7, 0, 7, 0, 3, 0, 3, 6, 0, 0,
 pub(crate) const RED_UPDATE: [u8; 20] = [
     0, 0, 0, 1, 0, 0, 0, 0, 0, 1, 0, 1, 0, 0, 0, 0, 0, 0, 255, 0,
 ];
+
+/// An area with this upper left corner, width and height.
+pub(crate) fn area(x: u16, y: u16, w: u16, h: u16) -> Area
+    ensures { result ≡ record { x = x; y = y; w = w; h = h } }
+{
+    Area { x, y, w, h }
+}
 
 /// The next number below a limit.
 pub(crate) fn below(seed: &mut u64, limit: u16) -> u16
@@ -81,4 +90,20 @@ pub(crate) fn converted(
         all.push(format.convert(screen_color(*color)))?;
     }
     Ok(all)
+}
+
+/// Whether a sheet has these colours in its upper left corner, by rows of so many places.
+pub(crate) fn shows(sheet: &Sheet, w: u16, h: u16, colors: &[Color]) -> bool
+    requires columns { w ≤ 320 }
+    requires rows { h ≤ 120 }
+{
+    let mut all = colors.iter();
+    for row in 0..h {
+        for column in 0..w {
+            if Some(&sheet.color(column, row)) != all.next() {
+                return false;
+            }
+        }
+    }
+    true
 }

@@ -5,7 +5,7 @@ ghost use Rattle.pixel_format.specs.Canvas.{covers};
 ghost use Rattle.pixel_format.specs.Pixel.{IsWithin, IsScreenColor};
 
 use crate::sheet::Sheet;
-use crate::tests::samples::{EIGHT, GREEN, RED, SIXTEEN, WHITE, below, converted};
+use crate::tests::samples::{EIGHT, GREEN, RED, SIXTEEN, WHITE, area, below, converted};
 use client_wire::Area;
 use hextile::Measure;
 use pixel_format::{Canvas, Color, NoMemory, PixelFormat};
@@ -117,17 +117,12 @@ fn first_of_the_list(rt: HostRuntime) {
 
 #[test]
 fn one_red_place(rt: HostRuntime) -> Result<(), Fail> {
-    let area = Area {
-        x: 0,
-        y: 0,
-        w: 1,
-        h: 1,
-    };
+    let place = area(0, 0, 1, 1);
     let red = [
         9, 0, 0, 0, 1, 0, 0, 0, 0, 0, 1, 0, 1, 0, 0, 0, 0, 0, 0, 255, 0,
     ];
     for encoding in ALL {
-        let out = update(rt.alloc(), &PixelFormat::host(), area, &[RED], encoding)?;
+        let out = update(rt.alloc(), &PixelFormat::host(), place, &[RED], encoding)?;
         assert!(rt; out.as_slice() == red.as_slice());
     }
     Ok(())
@@ -136,15 +131,10 @@ fn one_red_place(rt: HostRuntime) -> Result<(), Fail> {
 // 258 places beside one another at (770, 1), none of them high: the head, and no data.
 #[test]
 fn no_area(rt: HostRuntime) -> Result<(), Fail> {
-    let area = Area {
-        x: 770,
-        y: 1,
-        w: 258,
-        h: 0,
-    };
+    let place = area(770, 1, 258, 0);
     let head = [9, 0, 0, 0, 1, 3, 2, 0, 1, 1, 2, 0, 0, 0, 0, 0, 0];
     for encoding in ALL {
-        let out = update(rt.alloc(), &PixelFormat::host(), area, &[], encoding)?;
+        let out = update(rt.alloc(), &PixelFormat::host(), place, &[], encoding)?;
         assert!(rt; out.as_slice() == head.as_slice());
     }
     Ok(())
@@ -153,12 +143,7 @@ fn no_area(rt: HostRuntime) -> Result<(), Fail> {
 // 16 by 16 red places at (5, 7): a background alone.
 #[test]
 fn red_square(rt: HostRuntime) -> Result<(), Fail> {
-    let area = Area {
-        x: 5,
-        y: 7,
-        w: 16,
-        h: 16,
-    };
+    let place = area(5, 7, 16, 16);
     let host = PixelFormat::host();
     let rre = [
         9, 0, 0, 0, 1, 0, 5, 0, 7, 0, 16, 0, 16, 0, 0, 0, 2, 0, 0, 0, 0, 0, 0, 255, 0,
@@ -166,9 +151,9 @@ fn red_square(rt: HostRuntime) -> Result<(), Fail> {
     let hextile = [
         9, 0, 0, 0, 1, 0, 5, 0, 7, 0, 16, 0, 16, 0, 0, 0, 5, 2, 0, 0, 255, 0,
     ];
-    let raw = update(rt.alloc(), &host, area, &[RED; 256], Encoding::Raw)?;
-    let short = update(rt.alloc(), &host, area, &[RED; 256], Encoding::Rre)?;
-    let shorter = update(rt.alloc(), &host, area, &[RED; 256], Encoding::Hextile)?;
+    let raw = update(rt.alloc(), &host, place, &[RED; 256], Encoding::Raw)?;
+    let short = update(rt.alloc(), &host, place, &[RED; 256], Encoding::Rre)?;
+    let shorter = update(rt.alloc(), &host, place, &[RED; 256], Encoding::Hextile)?;
     assert!(rt; raw.len() == 1 + 1_040);
     assert!(rt; short.as_slice() == rre.as_slice());
     assert!(rt; shorter.as_slice() == hextile.as_slice());
@@ -215,13 +200,8 @@ fn is_written(
 ) -> Result<bool, Fail>
     requires { length picture.now ≡ 18 * 21 }
 {
-    let area = Area {
-        x: 3,
-        y: 11,
-        w: 21,
-        h: 18,
-    };
-    let out = update(alloc, format, area, picture, encoding)?;
+    let place = area(3, 11, 21, 18);
+    let out = update(alloc, format, place, picture, encoding)?;
     let Some(written) = out.strip_prefix(&[9]) else {
         return Ok(false);
     };

@@ -30,11 +30,11 @@ fn is_whole(alloc: Global, size: (u16, u16), bytes: &[u8]) -> bool
         let mut reader = ServerReader::new(alloc, size.0, size.1);
         let mut messages = Vec::new(alloc);
         for piece in bytes[..bytes.len() - 1].chunks(length) {
-            if feed(&mut reader, piece, &mut messages).is_err() || !messages.is_empty() {
+            if reader.take(piece, &mut messages).is_err() || !messages.is_empty() {
                 return false;
             }
         }
-        let last = feed(&mut reader, &bytes[bytes.len() - 1..], &mut messages);
+        let last = reader.take(&bytes[bytes.len() - 1..], &mut messages);
         if last.is_err() || messages.len() != 1 || messages[0].bytes() != bytes {
             return false;
         }
@@ -122,7 +122,7 @@ fn refused_behind_a_fault(rt: HostRuntime) -> Result<(), Fail> {
     let mut messages = Vec::new(alloc);
     let mask = update(alloc, 1, 1, 5, &[0])?;
     for bytes in [mask.as_slice(), &RED] {
-        let fault = feed(&mut reader, bytes, &mut messages).err();
+        let fault = reader.take(bytes, &mut messages).err();
         assert!(rt; fault == Some(WireFault::BadHextile) && messages.is_empty());
     }
     Ok(())
