@@ -204,7 +204,9 @@ impl Progress {
     }
 
     // Takes bytes and judges the fields that they end: of a rectangle's data all that are whole in
-    // the piece, where it begins with a field, and else one. Answers how many.
+    // the piece, where it begins with a field, and else one. Answers how many. It stands apart, so
+    // that a piece in which no field ends makes no room for what follows from one.
+    #[inline(never)]
     fn judge(&mut self, width: u16, height: u16, piece: &[u8]) -> Result<(usize, Ending), WireFault>
         requires field { IsInField message_limit width height self.old }
         requires some { 0 < length piece.now }
@@ -215,13 +217,12 @@ impl Progress {
         ensures goes { IfOk result (λ x. After message_limit width height self.new.bytes.items self.new x.1) }
         ensures faults { IfErr result (λ f. UnlessMemory f (message_at message_limit width height (self.old.bytes.items ++ piece.now) ≡ Bad f)) }
     {
-        if piece.len() >= self.end - self.bytes.len()
-            && let Stage::Data {
-                at,
-                begun,
-                next,
-                others,
-            } = self.stage
+        if let Stage::Data {
+            at,
+            begun,
+            next,
+            others,
+        } = self.stage
             && self.bytes.len() == at
         {
             let front = &piece[..piece.len().min(MESSAGE_LIMIT - at)];
@@ -330,6 +331,10 @@ impl Progress {
     {
         if let Some(over) = self.over {
             return Ok(self.pass(alloc, width, height, over, piece.len()));
+        }
+        if piece.len() < self.end - self.bytes.len() {
+            let kept = take(&mut self.bytes, self.end, piece)?;
+            return Ok(kept);
         }
         let (taken, ending) = self.judge(width, height, piece)?;
         match ending {

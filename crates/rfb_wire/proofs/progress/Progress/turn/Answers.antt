@@ -1,23 +1,33 @@
-use Rattle.std.proofs.Common.{◌≡◌, [], ◌∷◌, ◌++◌, ◌∙◌, sym, ap, take, subst, refl}
+use Rattle.std.proofs.Common.{◌≡◌, [], ◌∷◌, ◌++◌, ◌∙◌, sym, ap, take, subst, refl, arith}
 use Rattle.std.proofs.lemmas.List.{length-take-le}
 use Rattle.std.proofs.lemmas.Result.{err_from_is_err_and}
 use Rattle.client_wire.specs.Stream.{StandsFor, Moves}
 use Rattle.rfb_wire.specs.Host.{host_of}
-use Rattle.rfb_wire.specs.Progress.{passed_in}
-use Rattle.rfb_wire.proofs.Turns.{whole_recorded}
+use Rattle.rfb_wire.specs.Progress.{IsInField, passed_in}
+use Rattle.rfb_wire.proofs.Turns.{turn_long, whole_recorded}
 use Rattle.client_wire.proofs.Streams.{gives_one, stands_kept, stands_whole}
-use Rattle.rfb_wire.proofs.Over.{kept_stands}
+use Rattle.rfb_wire.proofs.Over.{kept_stands, in_field}
 use Rattle.rfb_wire.specs.Grammar.{message_at, Recorded, message_limit}
 use Rattle.rfb_wire.specs.Stream.{given}
 use Rattle.rfb_wire.proofs.progress.Progress.turn.Goals as goal
 
 pub returns-in_err-taken-clause-faults : goal.returns-in_err-taken-clause-faults
 returns-in_err-taken-clause-faults c =
-    let p = err_from_is_err_and c.from_residual.result c.from_residual.ensures.1 in
+    let p = err_from_is_err_and c.from_residual-in_err-taken.result c.from_residual-in_err-taken.ensures.1 in
     let s = c.args.self.now in
     rw (p.1, p.2) (λ rest stands.
     let same = stands_kept s.bytes.items (passed_in s.over) rest (ap passed_in c.in_default.is) stands in
     rw same c.in_err-taken.ensures.faults)
+
+pub returns-in_err-kept-clause-faults : goal.returns-in_err-kept-clause-faults
+returns-in_err-kept-clause-faults c =
+    let p = err_from_is_err_and c.from_residual.result c.from_residual.ensures.1 in
+    let s = c.args.self.now in
+    let at : IsInField message_limit c.args.width c.args.height s = in_field message_limit c.args.width c.args.height s c.in_default.is c.requires.at in
+    rw (p.1, p.2) (λ rest stands.
+    let same = stands_kept s.bytes.items (passed_in s.over) rest (ap passed_in c.in_default.is) stands in
+    rw same (turn_long message_limit c.args.width c.args.height s.bytes.items c.args.piece.now s.rectangles.items s.stage c.in_err-kept.field-0.0
+    at.linked (omega arith) at.unfinished c.requires.some c.in_err-kept.ensures.long))
 
 pub give-requires : goal.give-requires
 give-requires c =
