@@ -99,6 +99,9 @@ impl HostMessage {
     {
         let mut reader = ServerReader::new(alloc, width, height);
         let mut messages = Vec::new(alloc);
+        if reader.reserve(bytes.len()).is_err() {
+            return Err(BytesFault::Wire(WireFault::NoMemory));
+        }
         if let Err(fault) = reader.feed(bytes, &mut messages) {
             return Err(BytesFault::Wire(fault));
         }

@@ -8,8 +8,9 @@ ghost use Rattle.rfb_wire.specs.Reader.{IsShort};
 ghost use Rattle.rfb_wire.specs.Stream.{given};
 
 use crate::message::HostMessage;
-use crate::progress::Progress;
+use crate::progress::{MESSAGE_LIMIT, Progress};
 use client_wire::WireFault;
+use pixel_format::NoMemory;
 use std::alloc::Global;
 use std::marker::Model;
 
@@ -63,6 +64,14 @@ impl ServerReader {
         ensures { result ≡ (self.now.width, self.now.height) }
     {
         (self.width, self.height)
+    }
+
+    // Takes room for so many bytes of the message that comes, or as many as a message may have.
+    pub(crate) fn reserve(&mut self, room: usize) -> Result<(), NoMemory>
+        ensures { self.new ≡ self.old }
+    {
+        self.progress.bytes.reserve_exact(room.min(MESSAGE_LIMIT))?;
+        Ok(())
     }
 
     /// How many bytes have come of the message that isn't whole yet.
