@@ -4,9 +4,9 @@ use Rattle.drill_script.specs.declared.fault.LineFault.{LineFault}
 use Rattle.drill_script.specs.declared.fault.LineFault.TheVariants.{Bad, NoMemory}
 use Rattle.drill_script.specs.declared.words.Kind.{Kind}
 use Rattle.drill_script.specs.Grammar.{command_of, TakesMemory}
-use Rattle.drill_script.specs.Reading.{parts, ReadsInMemory, GivesLine, KindTakesMemory, word_at, kind_by, rest_at, command_at}
+use Rattle.drill_script.specs.Reading.{parts, ReadsInMemory, GivesLine, KindTakesMemory, word_at, keyword, kind_by, rest_at, command_at}
 use Rattle.drill_script.proofs.Parts.{parts_begin}
-use Rattle.drill_script.proofs.Taken.{keyword, kind_named, word_takes}
+use Rattle.drill_script.proofs.Taken.{kind_named, word_takes}
 
 -- a fault in what follows the first word
 pub rest_fails : (fault : LineFault) (it : Kind) (first : List ℕ) (words rest after : List (List ℕ)) → word_at words ≡ Some (first, rest) → kind_by first ≡ Some it

@@ -17,7 +17,7 @@ use Rattle.hex.specs.declared.error.FromHexError.{FromHexError}
 use Rattle.drill_script.specs.declared.words.Kind.{Kind}
 use Rattle.drill_script.specs.declared.words.Kind.TheVariants as kind
 use Rattle.drill_script.specs.Grammar.{Command, NewCommand, HostCommand, TakeCommand, BodyCommand, GateCommand, OpenCommand, PixelCommand, FailCommand, StopCommand, JoinCommand, NextCommand, SeekCommand, LeaveCommand, decimal, IsNumber, IsName, IsHex, IsFill, IsStart, Says}
-use Rattle.drill_script.specs.Reading.{◌>>=◌, word_at, number_of, number_at, name_at, joined_at, spelled_by, hex_at, kind_by, new_at, host_at, pixel_at, byte_told, fill_of, start_of, read_at, one_at, two_at, rest_at, ended, command_at}
+use Rattle.drill_script.specs.Reading.{◌>>=◌, word_at, number_of, number_at, name_at, joined_at, spelled_by, hex_at, kind_by, kind_among, kinds, keyword, new_at, host_at, pixel_at, byte_told, fill_of, start_of, read_at, one_at, two_at, rest_at, ended, command_at}
 use Rattle.drill_script.proofs.Steps.{bind_some, test_some, test_none, chosen}
 
 -- no word is empty
@@ -178,37 +178,17 @@ start_is word start e =
 
 -- ---- the first word
 
--- what a line of a kind begins with
-abbrev pub keyword : Kind → List ℕ
-keyword kind.New = codes "new"
-keyword kind.Host = codes "host"
-keyword kind.Take = codes "take"
-keyword kind.Body = codes "body"
-keyword kind.Gate = codes "gate"
-keyword kind.Open = codes "open"
-keyword kind.Pixel = codes "pixel"
-keyword kind.Fail = codes "fail"
-keyword kind.Stop = codes "stop"
-keyword kind.Join = codes "join"
-keyword kind.Next = codes "next"
-keyword kind.Seek = codes "seek"
-keyword kind.Leave = codes "leave"
-
 named : (word : List ℕ) (it kind : Kind) → bytes_eq word (keyword it) ≡ true → Some it ≡ Some kind → word ≡ keyword kind
 named word it kind test e = (bytes_eq-Decides word (keyword it)).0 test ∙ ap keyword (same_Some it kind e)
 
-abbrev one_of : List Kind → List ℕ → Option Kind
-one_of [] word = None
-one_of (it ∷ others) word = cond (bytes_eq word (keyword it)) (Some it) (one_of others word)
-
-one_named : (kinds : List Kind) (word : List ℕ) (kind : Kind) → one_of kinds word ≡ Some kind → word ≡ keyword kind
+one_named : (among : List Kind) (word : List ℕ) (kind : Kind) → kind_among among word ≡ Some kind → word ≡ keyword kind
 one_named [] word kind e = absurd cc
 one_named (it ∷ others) word kind e =
-    chosen (word ≡ keyword kind) (bytes_eq word (keyword it)) (Some it) (one_of others word) (Some kind) e (λ test same. named word it kind test same) (λ test same. one_named others word kind same)
+    chosen (word ≡ keyword kind) (bytes_eq word (keyword it)) (Some it) (kind_among others word) (Some kind) e (λ test same. named word it kind test same) (λ test same. one_named others word kind same)
 
 pub kind_named : (word : List ℕ) (it : Kind) → kind_by word ≡ Some it → word ≡ keyword it
 unfolding kind_by
-kind_named word it e = one_named (kind.New ∷ kind.Host ∷ kind.Take ∷ kind.Body ∷ kind.Gate ∷ kind.Open ∷ kind.Pixel ∷ kind.Fail ∷ kind.Stop ∷ kind.Join ∷ kind.Next ∷ kind.Seek ∷ kind.Leave ∷ []) word it e
+kind_named word it e = one_named kinds word it e
 
 -- ---- the rest of a line
 

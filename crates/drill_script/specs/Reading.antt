@@ -92,23 +92,34 @@ hex_at words = do
   bytes ← (if length digits.0 == 0 then None else spelled_by (decode_of digits.0))
   Some (bytes, digits.1)
 
+-- what a line of a kind begins with
+abbrev pub keyword : Kind → List ℕ
+keyword kind.New = codes "new"
+keyword kind.Host = codes "host"
+keyword kind.Take = codes "take"
+keyword kind.Body = codes "body"
+keyword kind.Gate = codes "gate"
+keyword kind.Open = codes "open"
+keyword kind.Pixel = codes "pixel"
+keyword kind.Fail = codes "fail"
+keyword kind.Stop = codes "stop"
+keyword kind.Join = codes "join"
+keyword kind.Next = codes "next"
+keyword kind.Seek = codes "seek"
+keyword kind.Leave = codes "leave"
+
+-- the first of these kinds that a word begins
+abbrev pub kind_among : List Kind → List ℕ → Option Kind
+kind_among [] word = None
+kind_among (it ∷ others) word = if bytes_eq word (keyword it) then Some it else kind_among others word
+
+-- the kinds of lines
+abbrev pub kinds : List Kind
+kinds = kind.New ∷ kind.Host ∷ kind.Take ∷ kind.Body ∷ kind.Gate ∷ kind.Open ∷ kind.Pixel ∷ kind.Fail ∷ kind.Stop ∷ kind.Join ∷ kind.Next ∷ kind.Seek ∷ kind.Leave ∷ []
+
 -- the kind of line that begins with a word
 unfoldable pub kind_by : List ℕ → Option Kind
-kind_by word =
-    if bytes_eq word (codes "new") then Some kind.New
-    else if bytes_eq word (codes "host") then Some kind.Host
-    else if bytes_eq word (codes "take") then Some kind.Take
-    else if bytes_eq word (codes "body") then Some kind.Body
-    else if bytes_eq word (codes "gate") then Some kind.Gate
-    else if bytes_eq word (codes "open") then Some kind.Open
-    else if bytes_eq word (codes "pixel") then Some kind.Pixel
-    else if bytes_eq word (codes "fail") then Some kind.Fail
-    else if bytes_eq word (codes "stop") then Some kind.Stop
-    else if bytes_eq word (codes "join") then Some kind.Join
-    else if bytes_eq word (codes "next") then Some kind.Next
-    else if bytes_eq word (codes "seek") then Some kind.Seek
-    else if bytes_eq word (codes "leave") then Some kind.Leave
-    else None
+kind_by word = kind_among kinds word
 
 -- what follows `new`
 unfoldable pub new_at : List (List ℕ) → Option (Command × List (List ℕ))
