@@ -33,24 +33,12 @@ impl fmt::Display for Refusal {
     fn fmt<W: fmt::Write>(&self, f: &mut fmt::Formatter<W>) -> fmt::Result {
         match self {
             Refusal::File => write!(f, "file 1"),
-            Refusal::Recording(fault) => {
-                let fault = Numbered(*fault);
-                write!(f, "{fault}")
-            }
-            Refusal::Create(fault) => {
-                let number = fault.number();
-                write!(f, "journal {number}")
-            }
             Refusal::Device => write!(f, "journal 3"),
-            Refusal::Host(fault) => {
-                let number = fault.number();
-                write!(f, "host {number}")
-            }
-            Refusal::Book(refusal) => {
-                let number = refusal.number();
-                write!(f, "book {number}")
-            }
             Refusal::Net => write!(f, "net 1"),
+            Refusal::Recording(fault) => write!(f, "{}", Numbered(*fault)),
+            Refusal::Create(fault) => write!(f, "journal {}", fault.number()),
+            Refusal::Host(fault) => write!(f, "host {}", fault.number()),
+            Refusal::Book(refusal) => write!(f, "book {}", refusal.number()),
         }
     }
 }

@@ -306,17 +306,12 @@ fn serve_book<M: Mark + Send + Sync, R: Threads + Wait + Clock + Sync + AllocGlo
     }
 }
 
-fn run<
-    R: Files<File = File>
-        + Net<Stream = TcpStream, Listener = TcpListener>
-        + Threads
-        + Wait
-        + Clock
-        + Sync
-        + AllocGlobal,
+fn run<R, L, O>(rt: &R, plan: Plan<'_>, listen: L, out: &mut O) -> Result<(), Stopped>
+where
+    R: AllocGlobal + Clock + Files<File = File> + Sync + Threads + Wait,
+    R: Net<Stream = TcpStream, Listener = TcpListener>,
     L: FnOnce() -> io::Result<TcpListener> + Drop,
     O: Write,
->(rt: &R, plan: Plan<'_>, listen: L, out: &mut O) -> Result<(), Stopped>
     requires { L.IsAlwaysCallable listen }
 {
     let alloc = rt.alloc();
@@ -350,18 +345,17 @@ fn run<
 /// viewers may come, and when the host has ended and all viewers have come and gone `committed`
 /// with the number of messages. Answers whether it is done; else a line on `err` says why it is
 /// refused. An error is of the two writers, or of memory.
-pub fn serve_on<
-    R: Files<File = File>
-        + Net<Stream = TcpStream, Listener = TcpListener>
-        + Threads
-        + Wait
-        + Clock
-        + Sync
-        + AllocGlobal,
+pub fn serve_on<R, L, O: Write, E: Write>(
+    rt: &R,
+    plan: Plan<'_>,
+    listen: L,
+    out: &mut O,
+    err: &mut E,
+) -> io::Result<bool>
+where
     L: FnOnce() -> io::Result<TcpListener> + Drop,
-    O: Write,
-    E: Write,
->(rt: &R, plan: Plan<'_>, listen: L, out: &mut O, err: &mut E) -> io::Result<bool>
+    R: AllocGlobal + Clock + Files<File = File> + Sync + Threads + Wait,
+    R: Net<Stream = TcpStream, Listener = TcpListener>,
     requires { L.IsAlwaysCallable listen }
 {
     match run(rt, plan, listen, out) {
@@ -375,16 +369,16 @@ pub fn serve_on<
 }
 
 /// The same with viewers who connect to this address.
-pub fn serve<
-    R: Files<File = File>
-        + Net<Stream = TcpStream, Listener = TcpListener>
-        + Threads
-        + Wait
-        + Clock
-        + Sync
-        + AllocGlobal,
-    O: Write,
-    E: Write,
->(rt: &R, plan: Plan<'_>, address: &str, out: &mut O, err: &mut E) -> io::Result<bool> {
+pub fn serve<R, O: Write, E: Write>(
+    rt: &R,
+    plan: Plan<'_>,
+    address: &str,
+    out: &mut O,
+    err: &mut E,
+) -> io::Result<bool>
+where
+    R: AllocGlobal + Clock + Files<File = File> + Sync + Threads + Wait,
+    R: Net<Stream = TcpStream, Listener = TcpListener>,
+{
     serve_on(rt, plan, || TcpListener::bind(rt, address), out, err)
 }

@@ -23,6 +23,13 @@ use Rattle.viewer_session.proofs.Views.{neither}
 corner : (width height : ℕ) (area : Area) → IsPart width height area → (x y : ℕ) → area.x ≤ x → x < area.x + area.w → area.y ≤ y → y < area.y + area.h → is_in area x y ≡ true
 corner width height area part x y l r t b = is_in_true area x y (record { left = l; right = r; top = t; bottom = b })
 
+-- a place of an area is one of an area around it
+wider : (inner outer : Area) (x y : ℕ) → outer.x ≤ inner.x → inner.x + inner.w ≤ outer.x + outer.w → outer.y ≤ inner.y → inner.y + inner.h ≤ outer.y + outer.h
+    → is_in inner x y ≡ true → is_in outer x y ≡ true
+wider inner outer x y l r t b here =
+    let place = in_is inner x y here in
+    is_in_true outer x y (record { left = omega (arith, place.left); right = omega (arith, place.right); top = omega (arith, place.top); bottom = omega (arith, place.bottom) })
+
 pub around_both : (width height : ℕ) (one other : Area) (x y right bottom : ℕ) → IsPart width height one → IsPart width height other
     → x ≡ min one.x other.x → y ≡ min one.y other.y → right ≡ max (one.x + one.w) (other.x + other.w) → bottom ≡ max (one.y + one.h) (other.y + other.h)
     → IsSmallest (λ a b. is_in one a b || is_in other a b) (record { x = x; y = y; w = right - x; h = bottom - y })
@@ -35,20 +42,8 @@ around_both width height one other x y right bottom p q x_is y_is right_is botto
     let high : y + (bottom - y) ≡ bottom = omega arith in
     record {
       holds_each = λ a b e. elim (or_parts (is_in one a b) (is_in other a b) e) [
-        | inl here ↦
-            (let place = in_is one a b here in
-            let l = place.left in
-            let r = place.right in
-            let t = place.top in
-            let u = place.bottom in
-            is_in_true (record { x = x; y = y; w = right - x; h = bottom - y }) a b (record { left = omega arith; right = omega arith; top = omega arith; bottom = omega arith }))
-        | inr here ↦
-            (let place = in_is other a b here in
-            let l = place.left in
-            let r = place.right in
-            let t = place.top in
-            let u = place.bottom in
-            is_in_true (record { x = x; y = y; w = right - x; h = bottom - y }) a b (record { left = omega arith; right = omega arith; top = omega arith; bottom = omega arith }))
+        | inl here ↦ wider one (record { x = x; y = y; w = right - x; h = bottom - y }) a b (omega arith) (omega arith) (omega arith) (omega arith) here
+        | inr here ↦ wider other (record { x = x; y = y; w = right - x; h = bottom - y }) a b (omega arith) (omega arith) (omega arith) (omega arith) here
       ];
       left = elim (cases_lt one.x other.x) [
         | inl first ↦ (one.y, or_left (is_in one x one.y) (is_in other x one.y) (corner width height one p x one.y (omega arith) (omega arith) (omega arith) (omega arith)))
