@@ -1,6 +1,6 @@
 //! The command line, run.
 
-ghost use Rattle.std.specs.Prelude.{◌≤◌, IfOk};
+ghost use Rattle.std.specs.Prelude.{◌≤◌};
 
 use crate::words::{Chosen, read_words};
 use file_commands::{Progress, create_new, keep, refuse};
@@ -43,68 +43,60 @@ fn drill_to_file<R: Files<File = File> + AllocGlobal, I: Read + Drop, O: Write, 
     Ok(ran.is_whole)
 }
 
-fn run<
-    R: Files<File = File>
-        + Net<Stream = TcpStream, Listener = TcpListener>
-        + Threads
-        + Wait
-        + Clock
-        + Sync
-        + AllocGlobal,
-    I: Read + Drop,
-    O: Write,
-    E: Write,
->(
+fn print<O: Write>(out: &mut O, text: &str) -> io::Result<bool> {
+    write!(out, "{text}")?;
+    Ok(true)
+}
+
+// The status behind a command that did its work or was refused, once all is written.
+fn status_of<O: Write>(done: io::Result<bool>, out: &mut O) -> u8
+    ensures { result ≤ 1 }
+{
+    let Ok(is_done) = done else {
+        return REFUSED;
+    };
+    match out.flush() {
+        Ok(()) if is_done => DONE,
+        _ => REFUSED,
+    }
+}
+
+/// Runs the program: the words of its command line (the first is its own name), where long work is
+/// told of, its input, and its two outputs; files and sockets are those of the runtime. Answers the
+/// exit status: 0 where it is done, 1 where it is refused, where memory for its own work is, or where
+/// a stream can't be read or written, and 2 for a bad command line.
+pub fn command<R, I: Read + Drop, O: Write, E: Write>(
     rt: &R,
     words: &[String],
     progress: Progress,
     input: I,
     out: &mut O,
     err: &mut E,
-) -> io::Result<u8>
-    ensures { IfOk result (λ status. status ≤ 2) }
-{
-    let alloc = rt.alloc();
-    let is_done = match read_words(alloc, words)? {
-        Chosen::Drill { keep: None } => drill::run(alloc, input, out)?,
-        Chosen::Drill { keep: Some(path) } => drill_to_file(rt, path, input, out, err)?,
-        Chosen::List(path) => file_commands::list(rt, path, progress, out, err)?,
-        Chosen::Check(path) => file_commands::check(rt, path, progress, out, err)?,
-        Chosen::Export(what) => file_commands::export(rt, what, progress, out, err)?,
-        Chosen::FbsCheck(path) => file_commands::fbs_check(rt, path, progress, out, err)?,
-        Chosen::Serve(plan, address) => serve::serve(rt, plan, address, out, err)?,
-        Chosen::Text(text) => {
-            write!(out, "{text}")?;
-            true
-        }
-        Chosen::Bad => {
-            writeln!(err, "recorderd: bad command line")?;
-            return Ok(BAD_WORDS);
-        }
-    };
-    out.flush()?;
-    Ok(if is_done { DONE } else { REFUSED })
-}
-
-/// Runs the program: the words of its command line (the first is its own name), where long work is
-/// told of, its input, and its two outputs; files and sockets are those of the runtime. Answers the exit status: 0 where it is done, 1 where it is refused, where memory
-/// for its own work is, or where a stream can't be read or written, and 2 for a bad command line.
-pub fn command<
-    R: Files<File = File>
-        + Net<Stream = TcpStream, Listener = TcpListener>
-        + Threads
-        + Wait
-        + Clock
-        + Sync
-        + AllocGlobal,
-    I: Read + Drop,
-    O: Write,
-    E: Write,
->(rt: &R, words: &[String], progress: Progress, input: I, out: &mut O, err: &mut E) -> u8
+) -> u8
+where
+    R: AllocGlobal + Clock + Files<File = File> + Sync + Threads + Wait,
+    R: Net<Stream = TcpStream, Listener = TcpListener>,
     ensures { result ≤ 2 }
 {
-    match run(rt, words, progress, input, out, err) {
-        Ok(status) => status,
-        Err(_) => REFUSED,
-    }
+    let alloc = rt.alloc();
+    let Ok(chosen) = read_words(alloc, words) else {
+        return REFUSED;
+    };
+    let done = match chosen {
+        Chosen::Drill { keep: None } => drill::run(alloc, input, out),
+        Chosen::Drill { keep: Some(path) } => drill_to_file(rt, path, input, out, err),
+        Chosen::List(path) => file_commands::list(rt, path, progress, out, err),
+        Chosen::Check(path) => file_commands::check(rt, path, progress, out, err),
+        Chosen::Export(what) => file_commands::export(rt, what, progress, out, err),
+        Chosen::FbsCheck(path) => file_commands::fbs_check(rt, path, progress, out, err),
+        Chosen::Serve(plan, address) => serve::serve(rt, plan, address, out, err),
+        Chosen::Text(text) => print(out, &text),
+        Chosen::Bad => {
+            return match writeln!(err, "recorderd: bad command line") {
+                Ok(()) => BAD_WORDS,
+                Err(_) => REFUSED,
+            };
+        }
+    };
+    status_of(done, out)
 }

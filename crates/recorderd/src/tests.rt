@@ -4,32 +4,57 @@ mod files;
 
 use crate::command::command;
 use file_commands::Progress;
+use std::fs::File;
 use std::io;
 use std::io::{Read, Write};
+use std::net::{Net, TcpListener, TcpStream};
+use std::rt::Files;
+use std::sync::Wait;
 use std::test::Fail;
+use std::thread::Threads;
+use std::time::Clock;
+
+// The exit status of a command line on this input, and what is printed on both outputs.
+fn ran<R>(rt: &R, line: &str, input: &str) -> Result<(u8, String, String), Fail>
+where
+    R: AllocGlobal + Clock + Files<File = File> + Sync + Threads + Wait,
+    R: Net<Stream = TcpStream, Listener = TcpListener>,
+{
+    let alloc = rt.alloc();
+    let mut words = Vec::new(alloc);
+    for word in line.split_whitespace() {
+        words.push(word.to_string(alloc)?)?;
+    }
+    let mut out = Vec::new(alloc);
+    let mut err = Vec::new(alloc);
+    let status = command(
+        rt,
+        &words,
+        Progress::silent(),
+        input.as_bytes(),
+        &mut out,
+        &mut err,
+    );
+    let out = String::from_utf8(out).ok().ok_or("output")?;
+    let err = String::from_utf8(err).ok().ok_or("error output")?;
+    Ok((status, out, err))
+}
 
 #[test]
 fn a_drill_is_run(rt: HostRuntime) -> Result<(), Fail> {
-    let alloc = rt.alloc();
-    let words = ["recorderd".to_string(alloc)?, "drill".to_string(alloc)?];
-    let mut out = Vec::new(alloc);
-    let mut err = Vec::new(alloc);
     let script =
-        b"new 1 1 4 x\nhost 0 0000 0001 0000 0000 0001 0001 00000000 0000ff00\ntake\nbody\ngate\nopen\npixel 1 0 0".as_slice();
-    assert!(rt; command(&rt, &words, Progress::silent(), script, &mut out, &mut err) == 0);
-    assert!(rt;
-        out.as_slice()
-            == b"recording 1 1 4\naccepted 0\ntaken 0 1\nwritten\ncommitted 1\nopened 1\nff0000\n".as_slice()
-    );
-    let bad = b"open\n".as_slice();
-    assert!(rt; command(&rt, &words, Progress::silent(), bad, &mut out, &mut err) == 1);
-    assert!(rt; err.as_slice() == b"".as_slice());
+        "new 1 1 4 x\nhost 0 0000 0001 0000 0000 0001 0001 00000000 0000ff00\ntake\nbody\ngate\nopen\npixel 1 0 0";
+    let answers =
+        "recording 1 1 4\naccepted 0\ntaken 0 1\nwritten\ncommitted 1\nopened 1\nff0000\n";
+    let (status, out, err) = ran(&rt, "recorderd drill", script)?;
+    assert!(rt; status == 0 && out.as_str() == answers && err.is_empty());
+    let (status, _, err) = ran(&rt, "recorderd drill", "open\n")?;
+    assert!(rt; status == 1 && err.is_empty());
     Ok(())
 }
 
 #[test]
 fn words_that_are_no_command_line(rt: HostRuntime) -> Result<(), Fail> {
-    let alloc = rt.alloc();
     for wrong in [
         "",
         "serve",
@@ -52,41 +77,13 @@ fn words_that_are_no_command_line(rt: HostRuntime) -> Result<(), Fail> {
         "serve --file r --listen a --key 4097",
         "serve --file r --listen a --from then",
     ] {
-        let mut words = Vec::new(alloc);
-        words.push("recorderd".to_string(alloc)?)?;
-        for word in wrong.split_whitespace() {
-            words.push(word.to_string(alloc)?)?;
-        }
-        let mut out = Vec::new(alloc);
-        let mut err = Vec::new(alloc);
-        assert!(rt;
-            command(
-                &rt,
-                &words,
-                Progress::silent(),
-                b"".as_slice(),
-                &mut out,
-                &mut err
-            ) == 2
-        );
-        assert!(rt; out.as_slice() == b"".as_slice());
-        assert!(rt; err.as_slice() == b"recorderd: bad command line\n".as_slice());
+        let line = format!(in rt.alloc(); "recorderd {wrong}")?;
+        let (status, out, err) = ran(&rt, &line, "")?;
+        assert!(rt; status == 2 && out.is_empty(), "{wrong}");
+        assert!(rt; err.as_str() == "recorderd: bad command line\n");
     }
-    let words = ["recorderd".to_string(alloc)?, "--help".to_string(alloc)?];
-    let mut out = Vec::new(alloc);
-    let mut err = Vec::new(alloc);
-    assert!(rt;
-        command(
-            &rt,
-            &words,
-            Progress::silent(),
-            b"".as_slice(),
-            &mut out,
-            &mut err
-        ) == 0
-    );
-    assert!(rt; out.len() > 0);
-    assert!(rt; err.as_slice() == b"".as_slice());
+    let (status, out, err) = ran(&rt, "recorderd --help", "")?;
+    assert!(rt; status == 0 && out.len() > 0 && err.is_empty());
     Ok(())
 }
 

@@ -1,11 +1,12 @@
 //! The commands on files in the folder that the tests run in, which each test leaves as it was.
 
-use super::Full;
+use super::{Full, ran};
 use crate::command::command;
 use file_commands::Progress;
 use std::fs;
 use std::fs::File;
 use std::net::{Net, TcpListener, TcpStream};
+use std::process::Abort;
 use std::rt::Files;
 use std::sync::Wait;
 use std::test::Fail;
@@ -53,33 +54,13 @@ const KEYED_ANSWERS: &str =
     "0 recording 3 1 2\naccepted 0\naccepted 1\ntaken 0 2\nwritten\ncommitted 2\naccepted 2\ntaken 2 1\nwritten\ncommitted 3\nopened 3\nff0000\n00ff00\nff0000\n";
 
 // The exit status, and behind it what is printed on both outputs.
-fn said<
-    R: Files<File = File>
-        + Net<Stream = TcpStream, Listener = TcpListener>
-        + Threads
-        + Wait
-        + Clock
-        + Sync
-        + AllocGlobal,
->(rt: &R, line: &str, script: &str) -> Result<String, Fail> {
-    let alloc = rt.alloc();
-    let mut words = Vec::new(alloc);
-    for word in line.split_whitespace() {
-        words.push(word.to_string(alloc)?)?;
-    }
-    let mut out = Vec::new(alloc);
-    let mut err = Vec::new(alloc);
-    let status = command(
-        rt,
-        &words,
-        Progress::silent(),
-        script.as_bytes(),
-        &mut out,
-        &mut err,
-    );
-    let out = String::from_utf8(out).ok().ok_or("output")?;
-    let err = String::from_utf8(err).ok().ok_or("error output")?;
-    Ok(format!(in alloc; "{status} {out}{err}")?)
+fn said<R>(rt: &R, line: &str, script: &str) -> Result<String, Fail>
+where
+    R: AllocGlobal + Clock + Files<File = File> + Sync + Threads + Wait,
+    R: Net<Stream = TcpStream, Listener = TcpListener>,
+{
+    let (status, out, err) = ran(rt, line, script)?;
+    Ok(format!(in rt.alloc(); "{status} {out}{err}")?)
 }
 
 // A file that an earlier run left is removed, or that this one leaves.
@@ -89,18 +70,29 @@ fn without(rt: &HostRuntime, paths: &[&str]) {
     }
 }
 
-// Whether a command without input says this.
-fn is_said<
-    R: Files<File = File>
-        + Net<Stream = TcpStream, Listener = TcpListener>
-        + Threads
-        + Wait
-        + Clock
-        + Sync
-        + AllocGlobal,
->(rt: &R, line: &str, answer: &str) -> Result<bool, Fail> {
-    let line = format!(in rt.alloc(); "recorderd {line}")?;
-    Ok(said(rt, &line, "")?.as_str() == answer)
+// Commands without input say these answers.
+fn say<R>(rt: &R, lines: &[(&str, &str)]) -> Result<(), Fail>
+where
+    R: Abort + AllocGlobal + Clock + Files<File = File> + Sync + Threads + Wait,
+    R: Net<Stream = TcpStream, Listener = TcpListener>,
+{
+    for (line, answer) in lines {
+        let words = format!(in rt.alloc(); "recorderd {line}")?;
+        assert!(rt; said(rt, &words, "")?.as_str() == *answer, "{line}");
+    }
+    Ok(())
+}
+
+// A command on these words is refused for this.
+fn is_refused<R>(rt: &R, command: &str, words: &str, why: &str) -> Result<bool, Fail>
+where
+    R: AllocGlobal + Clock + Files<File = File> + Sync + Threads + Wait,
+    R: Net<Stream = TcpStream, Listener = TcpListener>,
+{
+    let alloc = rt.alloc();
+    let line = format!(in alloc; "recorderd {command} {words}")?;
+    let answer = format!(in alloc; "1 recorderd: {command} refused {why}\n")?;
+    Ok(said(rt, &line, "")?.as_str() == answer.as_str())
 }
 
 // Whether a file has just these bytes.
@@ -119,30 +111,30 @@ fn a_drill_is_kept_and_exported(rt: HostRuntime) -> Result<(), Fail> {
     let mut exported = Vec::from_slice(rt.alloc(), &FRONT)?;
     exported.extend_from_slice(&BLACK)?;
     exported.extend_from_slice(&RED)?;
-    for (line, answer) in [
+    let answers = [
         ("list r", "0 block 0 first 0 messages 1 key no time 0\n"),
         ("check r", "0 recording 1 1 messages 1 blocks 1\n"),
         ("export r 0 1 o", "0 exported 1\n"),
         ("fbs-check o", "0 fbs 1 1 messages 2 rest 0\n"),
-    ] {
-        assert!(rt; is_said(&rt, line, answer)?, "{line}");
-    }
+    ];
+    say(&rt, &answers)?;
     assert!(rt; exported.len() == 120 && holds(&rt, "o", &exported)?);
     // From behind the last block: the screen as it is then, in the same file.
-    assert!(rt; is_said(&rt, "export r 1 1 o", "0 exported 0\n")?);
-    assert!(rt; is_said(&rt, "fbs-check o", "0 fbs 1 1 messages 1 rest 0\n")?);
+    let checked = ("fbs-check o", "0 fbs 1 1 messages 1 rest 0\n");
+    say(&rt, &[("export r 1 1 o", "0 exported 0\n"), checked])?;
     let end = fs::read(&rt, "o")?;
     assert!(rt; end.len() == 92 && end.ends_with(&RED));
     // A part that isn't there: nothing is created or emptied.
-    for (line, answer) in [
-        ("export r 1 0 o", "1 recorderd: export refused export 2\n"),
-        ("export r 2 1 o", "1 recorderd: export refused export 1\n"),
-        ("export r 2 1 p", "1 recorderd: export refused export 1\n"),
-        ("fbs-check o", "0 fbs 1 1 messages 1 rest 0\n"),
-        ("fbs-check p", "1 recorderd: fbs-check refused file 1\n"),
+    for (part, why) in [
+        ("1 0 o", "export 2"),
+        ("2 1 o", "export 1"),
+        ("2 1 p", "export 1"),
     ] {
-        assert!(rt; is_said(&rt, line, answer)?, "{line}");
+        let words = format!(in rt.alloc(); "r {part}")?;
+        assert!(rt; is_refused(&rt, "export", &words, why)?, "{part}");
     }
+    say(&rt, &[checked])?;
+    assert!(rt; is_refused(&rt, "fbs-check", "p", "file 1")?);
     assert!(rt; holds(&rt, "r", &RECORDING)?);
     without(&rt, &files);
     Ok(())
@@ -154,56 +146,38 @@ fn nothing_is_lost(rt: HostRuntime) -> Result<(), Fail> {
     without(&rt, &files);
     fs::write(&rt, "mine", RECORDING.as_slice())?;
     fs::hard_link(&rt, "mine", "also_mine")?;
-    for (line, answer) in [
-        (
-            "export mine 0 1 mine",
-            "1 recorderd: export refused file 1\n",
-        ),
-        (
-            "export mine 0 1 ./mine",
-            "1 recorderd: export refused file 1\n",
-        ),
-        (
-            "export mine 0 1 also_mine",
-            "1 recorderd: export refused file 1\n",
-        ),
-        (
-            "export mine 0 1 no_such_folder/o",
-            "1 recorderd: export refused file 1\n",
-        ),
-        ("drill --keep mine", "1 recorderd: drill refused file 1\n"),
-        (
-            "drill --keep no_such_folder/r",
-            "1 recorderd: drill refused file 1\n",
-        ),
-        ("check no_such_file", "1 recorderd: check refused file 1\n"),
-        ("list no_such_file", "1 recorderd: list refused file 1\n"),
+    for (command, words, why) in [
+        ("export", "mine 0 1 mine", "file 1"),
+        ("export", "mine 0 1 ./mine", "file 1"),
+        ("export", "mine 0 1 also_mine", "file 1"),
+        ("export", "mine 0 1 no_such_folder/o", "file 1"),
+        ("drill", "--keep mine", "file 1"),
+        ("drill", "--keep no_such_folder/r", "file 1"),
+        ("check", "no_such_file", "file 1"),
+        ("list", "no_such_file", "file 1"),
         // A folder is opened, and fails at the first read; a full device at the first write.
-        ("check .", "1 recorderd: check refused journal 3\n"),
-        ("fbs-check .", "1 recorderd: fbs-check refused fbs 9\n"),
-        ("export mine 0 1 .", "1 recorderd: export refused file 1\n"),
+        ("check", ".", "journal 3"),
+        ("fbs-check", ".", "fbs 9"),
+        ("export", "mine 0 1 .", "file 1"),
+        ("export", "mine 0 1 /dev/full", "export 5"),
+        ("export", "no_such_file 0 1 o", "file 1"),
         (
-            "export mine 0 1 /dev/full",
-            "1 recorderd: export refused export 5\n",
+            "serve",
+            "--file no_such_file --listen 127.0.0.1:0",
+            "file 1",
         ),
         (
-            "export no_such_file 0 1 o",
-            "1 recorderd: export refused file 1\n",
+            "serve",
+            "--file mine --listen nowhere --viewers 64 --from 0",
+            "net 1",
         ),
         (
-            "serve --file no_such_file --listen 127.0.0.1:0",
-            "1 recorderd: serve refused file 1\n",
-        ),
-        (
-            "serve --file mine --listen nowhere --viewers 64 --from 0",
-            "1 recorderd: serve refused net 1\n",
-        ),
-        (
-            "serve --file no_such_file --listen 127.0.0.1:0 --host nowhere --key 4096",
-            "1 recorderd: serve refused net 1\n",
+            "serve",
+            "--file none --listen 127.0.0.1:0 --host nowhere --key 4096",
+            "net 1",
         ),
     ] {
-        assert!(rt; is_said(&rt, line, answer)?, "{line}");
+        assert!(rt; is_refused(&rt, command, words, why)?, "{command} {words}");
     }
     assert!(rt; holds(&rt, "mine", &RECORDING)?);
     without(&rt, &files);
@@ -251,7 +225,7 @@ fn fbs_files_are_read(rt: HostRuntime) -> Result<(), Fail> {
         (&cut[..11], "1 recorderd: fbs-check refused fbs 1\n"),
     ] {
         fs::write(&rt, "fbs", file)?;
-        assert!(rt; is_said(&rt, "fbs-check fbs", answer)?, "{answer}");
+        say(&rt, &[("fbs-check fbs", answer)])?;
     }
     // A byte is changed: of the start, the version, the security type, the format, the width, the
     // type of a message.
@@ -266,8 +240,8 @@ fn fbs_files_are_read(rt: HostRuntime) -> Result<(), Fail> {
         let mut file = one.clone()?;
         file[place] = byte;
         fs::write(&rt, "fbs", file.as_slice())?;
-        let answer = format!(in alloc; "1 recorderd: fbs-check refused fbs {fault}\n")?;
-        assert!(rt; is_said(&rt, "fbs-check fbs", &answer)?, "{answer}");
+        let why = format!(in alloc; "fbs {fault}")?;
+        assert!(rt; is_refused(&rt, "fbs-check", "fbs", &why)?, "{why}");
     }
     without(&rt, &files);
     Ok(())
@@ -291,11 +265,15 @@ fn damaged_recordings(rt: HostRuntime) -> Result<(), Fail> {
         (TIMES_THAT_FALL.as_slice(), "index 4 block 0"),
     ] {
         fs::write(&rt, "damaged", file)?;
-        for command in ["list", "check", "export"] {
-            let more = if command == "export" { " 0 1 o" } else { "" };
-            let line = format!(in alloc; "{command} damaged{more}")?;
-            let answer = format!(in alloc; "1 recorderd: {command} refused {fault}\n")?;
-            assert!(rt; is_said(&rt, &line, &answer)?, "{line}: {fault}");
+        for (command, words) in [
+            ("list", "damaged"),
+            ("check", "damaged"),
+            ("export", "damaged 0 1 o"),
+        ] {
+            assert!(rt;
+                is_refused(&rt, command, words, fault)?,
+                "{command}: {fault}"
+            );
         }
     }
     without(&rt, &files);
@@ -314,7 +292,7 @@ fn key_screens_are_listed_and_judged(rt: HostRuntime) -> Result<(), Fail> {
     assert!(rt; holds(&rt, "keyed", &KEYED)?);
     let blocks =
         "0 block 0 first 0 messages 2 key no time 5\nblock 1 first 2 messages 1 key yes time 9\n";
-    assert!(rt; is_said(&rt, "list keyed", blocks)?);
+    say(&rt, &[("list keyed", blocks)])?;
     let mut green = KEYED.to_vec(alloc)?;
     green[127] = 255;
     green[128] = 0;
@@ -328,7 +306,7 @@ fn key_screens_are_listed_and_judged(rt: HostRuntime) -> Result<(), Fail> {
         (&shorter, "0 recording 3 1 messages 3 blocks 2\n"),
     ] {
         fs::write(&rt, "keyed", file.as_slice())?;
-        assert!(rt; is_said(&rt, "check keyed", answer)?, "{answer}");
+        say(&rt, &[("check keyed", answer)])?;
     }
     without(&rt, &files);
     Ok(())

@@ -1,20 +1,22 @@
 //! How a host ends, and a recording without one.
 
-use super::peers::{
-    ALL, BLACK, CHANGES, GREEN, RED, deaf_host, listener, silent_viewer, small_host, viewer,
-};
-use super::{checked, print, told};
+use super::peers::{ALL, BLACK, CHANGES, GREEN, Peer, Place, RED, listener, silent_viewer, viewer};
+use super::{Play, checked, print, recorded, told};
 use crate::Plan;
-use crate::tests::peers::{Peer, Place};
 use broadcast::Start;
+use std::alloc::Global;
 use std::fs;
+use std::fs::File;
 use std::net::{Net, TcpListener, TcpStream};
+use std::rt::Files;
+use std::sync::Wait;
 use std::test::Fail;
-use std::thread::join;
+use std::thread::{Threads, join};
+use std::time::Clock;
 
 /// How a host of the test ends.
 #[derive(Clone, Copy)]
-enum Ending {
+pub enum Ending {
     /// Within a message.
     Torn,
     /// With bytes unread, so that the system resets the connection.
@@ -24,18 +26,7 @@ enum Ending {
 }
 
 // A viewer is shown an update, and the host ends.
-fn host_ends<R: Net<Stream = TcpStream, Listener = TcpListener> + AllocGlobal>(
-    rt: &R,
-    hosts: TcpListener,
-    place: Place,
-    ending: Ending,
-) -> Result<(), Fail> {
-    let alloc = rt.alloc();
-    let host: Peer = match ending {
-        Ending::Reset => deaf_host(alloc, &hosts)?,
-        _ => small_host(alloc, &hosts)?,
-    };
-    let one = viewer(rt, place)?;
+pub fn host_ends(alloc: Global, host: Peer, one: Peer, ending: Ending) -> Result<(), Fail> {
     one.talk(alloc, &ALL, &BLACK)?;
     host.say(&RED)?;
     one.talk(alloc, &CHANGES, &RED)?;
@@ -56,9 +47,6 @@ fn host_ends<R: Net<Stream = TcpStream, Listener = TcpListener> + AllocGlobal>(
 
 #[test]
 fn a_host_ends(rt: HostRuntime) -> Result<(), Fail> {
-    let rt = &rt;
-    let file = "ended";
-    let _ = fs::remove_file(rt, file);
     for (ending, line) in [
         (Ending::Torn, "true serving\ncommitted 1\n"),
         (
@@ -70,23 +58,9 @@ fn a_host_ends(rt: HostRuntime) -> Result<(), Fail> {
             "false serving\nrecorderd: serve refused host 1\n",
         ),
     ] {
-        let (hosts, host) = listener(rt)?;
-        let (viewers, place) = listener(rt)?;
-        let address = host.address(rt.alloc())?;
-        let plan = Plan {
-            file,
-            host: Some(address.as_str()),
-            key_interval: 4,
-            viewers: 1,
-            from: Start::Live,
-        };
-        let said = told(join(
-            rt,
-            move || print(rt, plan, viewers),
-            move || { host_ends(rt, hosts, place, ending) },
-        ))?;
+        let (said, kept) = recorded(&rt, "ended", 1, Start::Live, Play::End(ending))?;
         assert!(rt; said.as_str() == line, "{said}");
-        assert!(rt; checked(rt, file)?.as_str() == "recording 1 1 messages 1 blocks 1\n");
+        assert!(rt; kept.as_str() == "recording 1 1 messages 1 blocks 1\n");
     }
     Ok(())
 }
@@ -141,12 +115,21 @@ fn a_recording_is_served_alone(rt: HostRuntime) -> Result<(), Fail> {
     Ok(())
 }
 
+// What is printed of a plan to which nobody comes.
+fn unwatched<R>(rt: &R, plan: Plan<'_>) -> Result<String, Fail>
+where
+    R: AllocGlobal + Clock + Files<File = File> + Sync + Threads + Wait,
+    R: Net<Stream = TcpStream, Listener = TcpListener>,
+{
+    let (viewers, _) = listener(rt)?;
+    told(join(rt, move || print(rt, plan, viewers), move || Ok(())))
+}
+
 #[test]
 fn what_can_t_be_served_makes_no_file(rt: HostRuntime) -> Result<(), Fail> {
     let rt = &rt;
     let file = "refused";
     let _ = fs::remove_file(rt, file);
-    let (viewers, _) = listener(rt)?;
     let (hosts, host) = listener(rt)?;
     drop(hosts);
     let address = host.address(rt.alloc())?;
@@ -158,21 +141,19 @@ fn what_can_t_be_served_makes_no_file(rt: HostRuntime) -> Result<(), Fail> {
         from: Start::Live,
     };
     let alone = Plan { host: None, ..plan };
-    let said = told(join(rt, move || print(rt, plan, viewers), move || Ok(())))?;
+    let said = unwatched(rt, plan)?;
     assert!(rt;
         said.as_str() == "false recorderd: serve refused net 1\n",
         "{said}"
     );
-    let (viewers, _) = listener(rt)?;
-    let said = told(join(rt, move || print(rt, alone, viewers), move || Ok(())))?;
+    let said = unwatched(rt, alone)?;
     assert!(rt;
         said.as_str() == "false recorderd: serve refused file 1\n",
         "{said}"
     );
     assert!(rt; fs::metadata(rt, file).is_err());
     fs::write(rt, file, b"".as_slice())?;
-    let (viewers, _) = listener(rt)?;
-    let said = told(join(rt, move || print(rt, alone, viewers), move || Ok(())))?;
+    let said = unwatched(rt, alone)?;
     assert!(rt;
         said.as_str() == "false recorderd: serve refused journal 1\n",
         "{said}"
