@@ -71,6 +71,11 @@ fn feed(session: &mut Session, piece: &[u8]) -> Result<(), SessionFault> {
     session.feed(piece)
 }
 
+// Whether this piece, and the next one, are answered by this fault.
+fn refuses(session: &mut Session, pieces: [&[u8]; 2], fault: SessionFault) -> bool {
+    feed(session, pieces[0]) == Err(fault) && feed(session, pieces[1]) == Err(fault)
+}
+
 // What is put out now.
 fn put_out(alloc: Global, session: &mut Session) -> Result<Vec<u8>, Fail> {
     let mut out = Vec::new(alloc);
@@ -119,9 +124,13 @@ fn greeting(rt: HostRuntime) -> Result<(), Fail> {
 fn another_version(rt: HostRuntime) -> Result<(), Fail> {
     let alloc = rt.alloc();
     let mut session = new_session(alloc)?;
-    for piece in [b"RFB 003.003\n\x01".as_slice(), b""] {
-        assert!(rt; feed(&mut session, piece) == Err(SessionFault::Version));
-    }
+    assert!(rt;
+        refuses(
+            &mut session,
+            [b"RFB 003.003\n\x01", b""],
+            SessionFault::Version
+        )
+    );
     session.close();
     assert!(rt; feed(&mut session, &HANDSHAKE) == Err(SessionFault::Version));
     for answer in [b"RFB 003.008\n\0\0\0\0\x10only RFB 003.008".as_slice(), b""] {
@@ -135,9 +144,13 @@ fn another_version(rt: HostRuntime) -> Result<(), Fail> {
 fn another_security(rt: HostRuntime) -> Result<(), Fail> {
     let alloc = rt.alloc();
     let mut session = new_session(alloc)?;
-    for piece in [b"RFB 003.008\n\x02".as_slice(), b"\x01"] {
-        assert!(rt; feed(&mut session, piece) == Err(SessionFault::Security));
-    }
+    assert!(rt;
+        refuses(
+            &mut session,
+            [b"RFB 003.008\n\x02", b"\x01"],
+            SessionFault::Security
+        )
+    );
     let told = put_out(alloc, &mut session)?;
     assert!(rt;
         told.as_slice() == b"RFB 003.008\n\x01\x01\0\0\0\x01\0\0\0\x09only None".as_slice()
@@ -169,9 +182,8 @@ fn faults(rt: HostRuntime) -> Result<(), Fail> {
     let alloc = rt.alloc();
     let mut session = started(alloc, 2, &BOTH)?;
     let fault = SessionFault::Wire(WireFault::UnknownType);
-    for piece in [b"\x03\0\0\0\0\0\0\x01\0\x01\x07".as_slice(), &FIRST] {
-        assert!(rt; feed(&mut session, piece) == Err(fault));
-    }
+    let pieces: [&[u8]; 2] = [b"\x03\0\0\0\0\0\0\x01\0\x01\x07", &FIRST];
+    assert!(rt; refuses(&mut session, pieces, fault));
     assert!(rt; put_out(alloc, &mut session)?.as_slice() == RED.as_slice());
     Ok(())
 }

@@ -42,11 +42,12 @@ fn below(seed: &mut u64, limit: u16) -> u16
     (*seed >> 48) as u16 % limit
 }
 
-// Bytes that are read from their front.
+// Bytes that are read from their front, with pixels in this format.
 #[derive(Drop)]
 struct Cursor<'a> {
     bytes: &'a [u8],
     at: usize,
+    format: &'a PixelFormat,
 }
 
 fn byte(cursor: &mut Cursor) -> Option<u8> {
@@ -61,12 +62,12 @@ fn number(cursor: &mut Cursor) -> Option<u16> {
     Some(u16::from_be_bytes([high, low]))
 }
 
-fn color(cursor: &mut Cursor, format: &PixelFormat) -> Option<Color> {
-    let end = cursor.at.checked_add(format.bytes())?;
+fn color(cursor: &mut Cursor) -> Option<Color> {
+    let end = cursor.at.checked_add(cursor.format.bytes())?;
     if end > cursor.bytes.len() {
         return None;
     }
-    let color = format.pixel(&cursor.bytes[cursor.at..end]);
+    let color = cursor.format.pixel(&cursor.bytes[cursor.at..end]);
     cursor.at = end;
     Some(color)
 }
@@ -96,33 +97,23 @@ fn fill(pixels: &mut [Color], area: Area, color: Color) {
     }
 }
 
-fn paint_raw(
-    cursor: &mut Cursor,
-    format: &PixelFormat,
-    area: Area,
-    pixels: &mut [Color],
-) -> Option<()> {
+fn paint_raw(cursor: &mut Cursor, area: Area, pixels: &mut [Color]) -> Option<()> {
     for y in 0..area.h {
         for x in 0..area.w {
-            let color = color(cursor, format)?;
+            let color = color(cursor)?;
             fill(pixels, part(area, x, y, 1, 1), color);
         }
     }
     Some(())
 }
 
-fn paint_rre(
-    cursor: &mut Cursor,
-    format: &PixelFormat,
-    area: Area,
-    pixels: &mut [Color],
-) -> Option<()> {
+fn paint_rre(cursor: &mut Cursor, area: Area, pixels: &mut [Color]) -> Option<()> {
     let _high = number(cursor)?;
     let count = number(cursor)?;
-    let background = color(cursor, format)?;
+    let background = color(cursor)?;
     fill(pixels, area, background);
     for _ in 0..count {
-        let color = color(cursor, format)?;
+        let color = color(cursor)?;
         let x = number(cursor)?;
         let y = number(cursor)?;
         let w = number(cursor)?;
@@ -141,7 +132,6 @@ struct Named {
 
 fn paint_tile(
     cursor: &mut Cursor,
-    format: &PixelFormat,
     tile: Area,
     before: Named,
     pixels: &mut [Color],
@@ -149,20 +139,20 @@ fn paint_tile(
     let mut named = before;
     let mask = byte(cursor)?;
     if mask & 1 != 0 {
-        paint_raw(cursor, format, tile, pixels)?;
+        paint_raw(cursor, tile, pixels)?;
         return Some(named);
     }
     if mask & 2 != 0 {
-        named.background = color(cursor, format)?;
+        named.background = color(cursor)?;
     }
     fill(pixels, tile, named.background);
     if mask & 4 != 0 {
-        named.foreground = color(cursor, format)?;
+        named.foreground = color(cursor)?;
     }
     let count = if mask & 8 != 0 { byte(cursor)? } else { 0 };
     for _ in 0..count {
         let color = if mask & 16 != 0 {
-            color(cursor, format)?
+            color(cursor)?
         } else {
             named.foreground
         };
@@ -174,12 +164,7 @@ fn paint_tile(
     Some(named)
 }
 
-fn paint_hextile(
-    cursor: &mut Cursor,
-    format: &PixelFormat,
-    area: Area,
-    pixels: &mut [Color],
-) -> Option<()> {
+fn paint_hextile(cursor: &mut Cursor, area: Area, pixels: &mut [Color]) -> Option<()> {
     let mut named = Named {
         background: BLACK,
         foreground: BLACK,
@@ -189,13 +174,13 @@ fn paint_hextile(
             let (x, y) = (column.wrapping_mul(16), row.wrapping_mul(16));
             let (w, h) = (area.w.wrapping_sub(x), area.h.wrapping_sub(y));
             let tile = part(area, x, y, w.min(16), h.min(16));
-            named = paint_tile(cursor, format, tile, named, pixels)?;
+            named = paint_tile(cursor, tile, named, pixels)?;
         }
     }
     Some(())
 }
 
-fn paint_rectangle(cursor: &mut Cursor, format: &PixelFormat, pixels: &mut [Color]) -> Option<()> {
+fn paint_rectangle(cursor: &mut Cursor, pixels: &mut [Color]) -> Option<()> {
     let area = Area {
         x: number(cursor)?,
         y: number(cursor)?,
@@ -204,9 +189,9 @@ fn paint_rectangle(cursor: &mut Cursor, format: &PixelFormat, pixels: &mut [Colo
     };
     let _high = number(cursor)?;
     match number(cursor)? {
-        0 => paint_raw(cursor, format, area, pixels),
-        2 => paint_rre(cursor, format, area, pixels),
-        5 => paint_hextile(cursor, format, area, pixels),
+        0 => paint_raw(cursor, area, pixels),
+        2 => paint_rre(cursor, area, pixels),
+        5 => paint_hextile(cursor, area, pixels),
         _ => None,
     }
 }
@@ -216,12 +201,13 @@ fn paint(update: &[u8], format: &PixelFormat, pixels: &mut [Color]) -> Option<()
     let mut cursor = Cursor {
         bytes: update,
         at: 0,
+        format,
     };
     if number(&mut cursor)? != 0 {
         return None;
     }
     for _ in 0..number(&mut cursor)? {
-        paint_rectangle(&mut cursor, format, pixels)?;
+        paint_rectangle(&mut cursor, pixels)?;
     }
     if cursor.at < update.len() {
         return None;
