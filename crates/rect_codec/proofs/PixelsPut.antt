@@ -1,14 +1,13 @@
 -- Pixels that are written one behind the other.
-use Rattle.std.proofs.Common.{◌≡◌, ℕ, ◌+◌, ◌-◌, ◌*◌, ◌<◌, ◌≤◌, List, [], ◌++◌, length, take, drop, inl, inr, sym, ap, subst, ◌∙◌, arith}
-use Rattle.std.specs.Prelude.{replicate}
+use Rattle.std.proofs.Common.{◌≡◌, ℕ, ◌+◌, ◌-◌, ◌*◌, ◌<◌, ◌≤◌, List, ◌++◌, length, take, drop, inl, inr, sym, ap, subst, ◌∙◌, arith}
 use Rattle.std.proofs.lemmas.Bool.{cases_lt}
-use Rattle.std.proofs.lemmas.List.{drop-take, drop-drop, drop_at, take_at, take_all, drop_all, length-take, length-drop, length-append, length-replicate, append-nil}
+use Rattle.std.proofs.lemmas.List.{drop-take, drop-drop, drop_at, length-take, length-drop, drop-append-le, take-append-le, get_or-take, get_or-drop}
 use Rattle.std.proofs.lemmas.Slice.{take-put_mid_below, take-put_mid}
-use Rattle.std.proofs.Math.Nat.{mul-le-mul_left}
+use Rattle.std.proofs.Math.Nat.{mul-le-mul_left, mul-sub}
 use borrow.Rule.Slice.PartMut.{put_mid}
 use Rattle.pixel_format.specs.declared.Color.{Color}
 use Rattle.pixel_format.specs.Format.{Format, pixel_bytes}
-use Rattle.pixel_format.specs.Canvas.{nth}
+use Rattle.pixel_format.specs.Canvas.{black, nth}
 use Rattle.pixel_format.specs.Appending.{Appends}
 use Rattle.rect_codec.specs.Picture.{pixel_at}
 use Rattle.rect_codec.specs.Written.{IsPixelOf, ArePixels, ShowsRaw}
@@ -51,29 +50,55 @@ pixel_more f colors pixels pixel k s e size lt whole done is j near =
           subst (λ (z : List ℕ). IsPixelOf f (nth colors j) z) same (subst (λ (i : ℕ). IsPixelOf f (nth colors i) pixel) (sym last) is)
     ]
 
--- pixels that are put into the room behind a list are appended to it
-pub pixels_appended : (f : Format) (colors : List Color) (old room all pixels : List ℕ) (held start count size : ℕ) → held ≡ length old → start ≡ held → count ≡ length colors * pixel_bytes f → size ≡ start + count
-    → room ≡ take (start + count) old ++ replicate (start + count - held) 0 → all ≡ room → length pixels ≡ length (take (length all - start) (drop start all))
-    → ((k : ℕ) → k < length colors → IsPixelOf f (nth colors k) (pixel_at f pixels k))
-    → Appends (ArePixels f colors) old
-    (take size (put_mid start (length all - start) all pixels ++ drop (length (put_mid start (length all - start) all pixels)) room))
-pixels_appended f colors old room all pixels held start count size whole_old begin many ends room_is same whole are =
-    let pad : List ℕ = replicate (start + count - held) 0 in
-    let padded : length pad ≡ start + count - held = length-replicate (start + count - held) 0 in
-    let all_is : all ≡ old ++ pad = same ∙ room_is ∙ ap (λ (xs : List ℕ). xs ++ pad) (take_all (start + count) old (omega arith)) in
-    let long : length all ≡ start + count = ap length all_is ∙ length-append old pad ∙ omega arith in
-    let front : take start all ≡ old = ap (take start) all_is ∙ take_at old pad start (omega arith) in
-    let none : drop (length all - start) (drop start all) ≡ [] = drop-drop (length all - start) start all ∙ drop_all _ all (omega arith) in
-    let many_here : length pixels ≡ count = whole ∙ simp (length-take, length-drop) (omega arith) in
-    let part : put_mid start (length all - start) all pixels ≡ old ++ pixels =
-    ap (λ (xs : List ℕ). xs ++ (pixels ++ drop (length all - start) (drop start all))) front
-    ∙ ap (λ (xs : List ℕ). old ++ (pixels ++ xs)) none ∙ ap (λ (xs : List ℕ). old ++ xs) (append-nil pixels) in
-    let ends_here : length (put_mid start (length all - start) all pixels) ≡ size = ap length part ∙ length-append old pixels ∙ omega arith in
-    record {
-      bytes = pixels;
-      is = take_at (put_mid start (length all - start) all pixels) (drop (length (put_mid start (length all - start) all pixels)) room) size ends_here ∙ part;
-      are = record { size = many_here ∙ many; pixels_are = are };
-    }
+-- what stands within a part that is written is what was written
+within_part : (at count n s : ℕ) (xs ys : List ℕ) → at ≤ length xs → n + s ≤ length ys → take s (drop (at + n) (put_mid at count xs ys)) ≡ take s (drop n ys)
+within_part at count n s xs ys fits inside =
+    let behind : List ℕ = drop count (drop at xs) in
+    let front : length (take at xs) ≡ at = simp length-take (omega arith) in
+    sym (ap (take s) (drop-drop n at (put_mid at count xs ys)) ∙ ap (λ (m : ℕ). take s (drop m (put_mid at count xs ys))) (omega arith))
+    ∙ ap (λ (zs : List ℕ). take s (drop n zs)) (drop_at (take at xs) (ys ++ behind) at front)
+    ∙ ap (take s) (drop-append-le n ys behind (omega (arith, inside)))
+    ∙ take-append-le s (drop n ys) behind (simp length-drop (omega (arith, inside)))
+
+-- how long a part is that begins and ends with a pixel
+pub part_long : (pixels : List ℕ) (count start end s : ℕ) → length pixels ≡ count * s → start ≤ end → end ≤ count → length (take (end * s - start * s) (drop (start * s) pixels)) ≡ (end - start) * s
+part_long pixels count start end s all order within =
+    let reach = mul-le-mul_left s within in
+    let parts : s * (end - start) ≡ s * end - s * start = mul-sub s end start in
+    simp (length-take, length-drop) (omega (arith, all, reach, parts))
+
+-- where the pixels in front are those of their colours, so are all up to the end of a part that is
+-- written behind them
+pub pixels_more : (f : Format) (colors : List Color) (pixels part : List ℕ) (start end count s : ℕ) → s ≡ pixel_bytes f → length pixels ≡ length colors * pixel_bytes f → start ≤ end → end ≤ length colors
+    → length part ≡ (end - start) * s
+    → ((j : ℕ) → j < start → IsPixelOf f (nth colors j) (pixel_at f pixels j))
+    → ((j : ℕ) → j < end - start → IsPixelOf f (nth (take (end - start) (drop start colors)) j) (pixel_at f part j))
+    → (j : ℕ) → j < end → IsPixelOf f (nth colors j) (pixel_at f (put_mid (start * s) count pixels part) j)
+pixels_more f colors pixels part start end count s e size order within long done here j lt =
+    let all : length pixels ≡ length colors * s = size ∙ ap (λ (n : ℕ). length colors * n) (sym e) in
+    let reach : start ≤ length colors = omega (arith, order, within) in
+    let fits : start * s ≤ length pixels = omega (arith, all, mul-le-mul_left s reach) in
+    let Is : List ℕ → ℕ → Type 0 = λ bytes size. IsPixelOf f (nth colors j) (take size (drop (j * size) bytes)) in
+    subst (Is (put_mid (start * s) count pixels part)) e
+    (elim (cases_lt j start) [
+      | inl below ↦
+          let there : j * s + s ≤ start * s = omega (arith, mul-le-mul_left s below) in
+          subst (λ (z : List ℕ). IsPixelOf f (nth colors j) z) (sym (before_part (start * s) count (j * s) s pixels part there fits))
+          (subst (Is pixels) (sym e) (done j below))
+      | inr above ↦
+          let i = j - start in
+          let inside : i < end - start = omega (arith, lt, above) in
+          let room : i * s + s ≤ length part = omega (arith, long, mul-le-mul_left s inside) in
+          let column : start + i ≡ j = omega (arith, above) in
+          let color : nth (take (end - start) (drop start colors)) i ≡ nth colors j =
+          get_or-take (end - start) (drop start colors) i black inside ∙ get_or-drop start colors i black ∙ ap (λ (n : ℕ). nth colors n) column in
+          let at : start * s + i * s ≡ j * s = omega (arith, ap (λ (n : ℕ). n * s) column) in
+          let same : take s (drop (i * s) part) ≡ take s (drop (j * s) (put_mid (start * s) count pixels part)) =
+          sym (within_part (start * s) count (i * s) s pixels part fits room) ∙ ap (λ (n : ℕ). take s (drop n (put_mid (start * s) count pixels part))) at in
+          subst (λ (z : List ℕ). IsPixelOf f (nth colors j) z) same
+          (subst (λ (c : Color). IsPixelOf f c (take s (drop (i * s) part))) color
+          (subst (λ (size : ℕ). IsPixelOf f (nth (take (end - start) (drop start colors)) i) (take size (drop (i * size) part))) (sym e) (here i inside)))
+    ])
 
 -- appended pixels show their colours, by rows
 pub pixels_show : (f : Format) (w h : ℕ) (colors : List Color) (old new : List ℕ) → length colors ≡ h * w

@@ -1,6 +1,6 @@
 //! The data of Raw rectangles.
 
-ghost use Rattle.std.specs.Prelude.{◌≡◌, ℕ, ◌+◌, ◌*◌, ◌<◌, ◌^◌, All, OnOk, OnErr, length};
+ghost use Rattle.std.specs.Prelude.{◌≡◌, ℕ, ◌+◌, ◌*◌, ◌<◌, ◌≤◌, ◌^◌, All, OnOk, OnErr, length};
 ghost use Rattle.pixel_format.specs.Format.{pixel_bytes};
 ghost use Rattle.pixel_format.specs.Pixel.{IsWithin};
 ghost use Rattle.pixel_format.specs.Canvas.{nth};
@@ -13,6 +13,9 @@ use pixel_format::{Color, NoMemory, PixelFormat};
 // How many pixels are appended at once.
 const AT_ONCE: usize = 256;
 
+// How many pixels of the host's format are written in one turn of the loop.
+const TOGETHER: usize = 8;
+
 // Writes the pixels of colours, one behind the other.
 fn put_pixels(format: &PixelFormat, colors: &[Color], pixels: &mut [u8])
     requires size { length pixels.old ≡ length colors.now * pixel_bytes format.now }
@@ -20,7 +23,7 @@ fn put_pixels(format: &PixelFormat, colors: &[Color], pixels: &mut [u8])
     ensures { (k : ℕ) → k < length colors.now → IsPixelOf format.now (nth colors.now k) (pixel_at format.now pixels.new k) }
 {
     if format.is_host() {
-        put_of_size(&PixelFormat::host(), 4, colors, pixels);
+        put_in_eights(&PixelFormat::host(), 4, colors, pixels);
         return;
     }
     match format.bytes() {
@@ -44,17 +47,45 @@ fn put_of_size(format: &PixelFormat, size: usize, colors: &[Color], pixels: &mut
     }
 }
 
-// Appends the pixels of so few colours that the room for them, which is cleared first, is near.
-fn append_some(format: &PixelFormat, colors: &[Color], out: &mut Vec<u8>) -> Result<(), NoMemory>
-    requires few { length colors.now < 2 ^ 32 }
+// The same, with so many pixels in one turn of the loop that the compiler puts them together in
+// vectors.
+#[inline(always)]
+fn put_in_eights(format: &PixelFormat, size: usize, colors: &[Color], pixels: &mut [u8])
+    requires bytes { size ≡ pixel_bytes format.now }
+    requires size { length pixels.old ≡ length colors.now * pixel_bytes format.now }
+    requires within { All (IsWithin format.now) colors.now }
+    ensures { (k : ℕ) → k < length colors.now → IsPixelOf format.now (nth colors.now k) (pixel_at format.now pixels.new k) }
+{
+    for k in 0..colors.len() / TOGETHER {
+        let (start, end) = (k * TOGETHER, k * TOGETHER + TOGETHER);
+        put_of_size(
+            format,
+            size,
+            &colors[start..end],
+            &mut pixels[start * size..end * size],
+        );
+    }
+    let put = colors.len() / TOGETHER * TOGETHER;
+    put_of_size(format, size, &colors[put..], &mut pixels[put * size..]);
+}
+
+// Appends the pixels of so few colours that the block has room for them. There they are put together
+// first: the compiler knows that it is no part of the colours.
+#[inline(always)]
+fn append_some(
+    format: &PixelFormat,
+    colors: &[Color],
+    block: &mut [u8; 4 * AT_ONCE],
+    out: &mut Vec<u8>,
+) -> Result<(), NoMemory>
+    requires few { length colors.now ≤ 256 }
     requires within { All (IsWithin format.now) colors.now }
     ensures ok { OnOk result (Appends (ArePixels format.now colors.now) out.old.items out.new.items) }
     ensures err { OnErr result (out.new.items ≡ out.old.items) }
 {
-    let start = out.len();
-    out.resize(start + colors.len() * format.bytes(), 0)?;
-    put_pixels(format, colors, &mut out[start..]);
-    Ok(())
+    let size = colors.len() * format.bytes();
+    put_pixels(format, colors, &mut block[..size]);
+    out.extend_from_slice(&block[..size])
 }
 
 /// Appends the pixels of colours, one behind the other (RFC 6143, section 7.7.1). Want of memory
@@ -71,10 +102,11 @@ pub(crate) fn append_pixels(
 {
     let start = out.len();
     out.reserve(colors.len() * format.bytes())?;
+    let mut block = [0; 4 * AT_ONCE];
     let mut rest = colors;
     while !rest.is_empty() {
         let (some, behind) = rest.split_at(rest.len().min(AT_ONCE));
-        if let Err(fault) = append_some(format, some, out) {
+        if let Err(fault) = append_some(format, some, &mut block, out) {
             out.truncate(start);
             return Err(fault);
         }
