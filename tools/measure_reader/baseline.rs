@@ -1,6 +1,7 @@
 //! The baseline that `tools/measure_reader/measure_reader` counts beside `ServerReader::feed`: plain
 //! Rust, with no proof, which takes a host's stream in pieces, judges each field once it is whole,
-//! and keeps a message's bytes and where its rectangles lie. It does the same works as `main.rt.in`.
+//! and keeps a message's bytes and where its rectangles lie; and beside `Screen::paint`, on a number
+//! for each place. It does the same works as `main.rt.in`.
 
 use std::{env, fs, process};
 
@@ -331,6 +332,113 @@ fn data(work: &str) -> Vec<u8> {
     }
 }
 
+fn pixel_at(bytes: &[u8]) -> u32 {
+    u32::from_le_bytes(bytes[..4].try_into().unwrap()) & 0xff_ffff
+}
+
+fn paint_raw(bytes: &[u8], x: usize, y: usize, w: usize, screen: &mut [u32]) {
+    for (row, pixels) in bytes.chunks_exact(4 * w).enumerate() {
+        let start = (y + row) * SCREEN + x;
+        for (place, pixel) in screen[start..start + w].iter_mut().zip(pixels.chunks_exact(4)) {
+            *place = pixel_at(pixel);
+        }
+    }
+}
+
+fn fill(screen: &mut [u32], x: usize, y: usize, w: usize, h: usize, color: u32) {
+    for row in y..y + h {
+        screen[row * SCREEN + x..row * SCREEN + x + w].fill(color);
+    }
+}
+
+fn copy(from: [usize; 2], [x, y, w, h]: [usize; 4], screen: &mut [u32]) {
+    let mut copy_row = |row: usize| {
+        let start = (from[1] + row) * SCREEN + from[0];
+        screen.copy_within(start..start + w, (y + row) * SCREEN + x);
+    };
+    if y <= from[1] {
+        (0..h).for_each(&mut copy_row);
+    } else {
+        (0..h).rev().for_each(&mut copy_row);
+    }
+}
+
+fn paint_rre(bytes: &[u8], [x, y, w, h]: [usize; 4], screen: &mut [u32]) {
+    fill(screen, x, y, w, h, pixel_at(&bytes[4..]));
+    for part in bytes[8..].chunks_exact(12) {
+        let at = |place| u16_at(part, place);
+        fill(screen, x + at(4), y + at(6), at(8), at(10), pixel_at(part));
+    }
+}
+
+// Paints a tile, and answers the bytes behind it.
+fn paint_tile<'a>(mut bytes: &'a [u8], [x, y, w, h]: [usize; 4], colors: &mut [u32; 2], screen: &mut [u32]) -> &'a [u8] {
+    let mask = bytes[0];
+    bytes = &bytes[1..];
+    if mask & 1 != 0 {
+        paint_raw(&bytes[..4 * w * h], x, y, w, screen);
+        return &bytes[4 * w * h..];
+    }
+    for (bit, color) in [2, 4].into_iter().zip(colors.iter_mut()) {
+        if mask & bit != 0 {
+            *color = pixel_at(bytes);
+            bytes = &bytes[4..];
+        }
+    }
+    fill(screen, x, y, w, h, colors[0]);
+    if mask & 8 != 0 {
+        let count = bytes[0];
+        bytes = &bytes[1..];
+        for _ in 0..count {
+            let mut color = colors[1];
+            if mask & 16 != 0 {
+                color = pixel_at(bytes);
+                bytes = &bytes[4..];
+            }
+            let (at, size) = (usize::from(bytes[0]), usize::from(bytes[1]));
+            bytes = &bytes[2..];
+            fill(screen, x + at / 16, y + at % 16, size / 16 + 1, size % 16 + 1, color);
+        }
+    }
+    bytes
+}
+
+fn paint_hextile(mut bytes: &[u8], [x, y, w, h]: [usize; 4], screen: &mut [u32]) {
+    let mut colors = [0; 2];
+    for top in (0..h).step_by(16) {
+        for left in (0..w).step_by(16) {
+            let tile = [x + left, y + top, 16.min(w - left), 16.min(h - top)];
+            bytes = paint_tile(bytes, tile, &mut colors, screen);
+        }
+    }
+}
+
+fn paint(message: &Message, screen: &mut [u32]) {
+    for it in &message.rectangles {
+        let bytes = &message.bytes[it.start..it.end];
+        let [x, y, w, _] = it.area;
+        match it.encoding {
+            0 if w > 0 => paint_raw(bytes, x, y, w, screen),
+            0 => {}
+            1 => copy([u16_at(bytes, 0), u16_at(bytes, 2)], it.area, screen),
+            2 => paint_rre(bytes, it.area, screen),
+            _ => paint_hextile(bytes, it.area, screen),
+        }
+    }
+}
+
+// A sum over the first places of a screen that shows the messages, or is black.
+fn sum_of_screen(messages: &[Message], paints: bool) -> u32 {
+    let mut screen = vec![0; SCREEN * SCREEN];
+    if paints {
+        for message in messages {
+            paint(message, &mut screen);
+        }
+    }
+    let places = screen.chunks(SCREEN).take(240).flat_map(|row| &row[..320]);
+    places.fold(0, |sum: u32, place| sum.wrapping_mul(31).wrapping_add(*place))
+}
+
 fn main() {
     let words: Vec<String> = env::args().collect();
     let stream = data(&words[2]);
@@ -338,7 +446,8 @@ fn main() {
     let mut reader = Reader::new();
     let mut messages = Vec::new();
     println!("{}", stream.len());
-    if words[1] == "feed" {
+    let how = words[1].as_str();
+    if how != "ready" {
         for piece in stream.chunks(length) {
             if reader.feed(piece, &mut messages).is_err() {
                 process::exit(1);
@@ -348,4 +457,7 @@ fn main() {
     let bytes: usize = messages.iter().map(|it| it.bytes.len()).sum();
     let ends: usize = messages.iter().flat_map(|it| &it.rectangles).map(|it| it.start + it.end + it.area[0] + it.encoding as usize).sum();
     println!("messages {} {} {}", messages.len(), bytes, ends);
+    if how == "paint" || how == "shown" {
+        println!("screen {}", sum_of_screen(&messages, how == "paint"));
+    }
 }

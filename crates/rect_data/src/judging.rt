@@ -187,6 +187,7 @@ impl Judging {
             Judging::Hextile(next) => hextile_step(format, next, field),
         }
     }
+
     /// Judges the whole fields that the bytes begin with, on a screen of this size, as `step` does
     /// one by one. Answers how many bytes they have, and the field behind them, which isn't whole
     /// in the bytes, `None` where the data end; or the fault of the first field that is refused.
