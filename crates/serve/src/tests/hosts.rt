@@ -1,22 +1,20 @@
 //! How a host ends, and a recording without one.
 
-use super::peers::{ALL, BLACK, CHANGES, GREEN, Peer, Place, RED, listener, silent_viewer, viewer};
-use super::{Play, checked, print, recorded, told};
+use super::peers::{
+    ALL, BLACK, CHANGES, GREEN, RED, deaf_host, listener, silent_viewer, small_host, viewer,
+};
+use super::{checked, print, told};
 use crate::Plan;
+use crate::tests::peers::{Peer, Place};
 use broadcast::Start;
-use std::alloc::Global;
 use std::fs;
-use std::fs::File;
 use std::net::{Net, TcpListener, TcpStream};
-use std::rt::Files;
-use std::sync::Wait;
 use std::test::Fail;
-use std::thread::{Threads, join};
-use std::time::Clock;
+use std::thread::join;
 
 /// How a host of the test ends.
 #[derive(Clone, Copy)]
-pub enum Ending {
+enum Ending {
     /// Within a message.
     Torn,
     /// With bytes unread, so that the system resets the connection.
@@ -26,7 +24,18 @@ pub enum Ending {
 }
 
 // A viewer is shown an update, and the host ends.
-pub fn host_ends(alloc: Global, host: Peer, one: Peer, ending: Ending) -> Result<(), Fail> {
+fn host_ends<R: Net<Stream = TcpStream, Listener = TcpListener> + AllocGlobal>(
+    rt: &R,
+    hosts: TcpListener,
+    place: Place,
+    ending: Ending,
+) -> Result<(), Fail> {
+    let alloc = rt.alloc();
+    let host: Peer = match ending {
+        Ending::Reset => deaf_host(alloc, &hosts)?,
+        _ => small_host(alloc, &hosts)?,
+    };
+    let one = viewer(rt, place)?;
     one.talk(alloc, &ALL, &BLACK)?;
     host.say(&RED)?;
     one.talk(alloc, &CHANGES, &RED)?;
@@ -47,6 +56,9 @@ pub fn host_ends(alloc: Global, host: Peer, one: Peer, ending: Ending) -> Result
 
 #[test]
 fn a_host_ends(rt: HostRuntime) -> Result<(), Fail> {
+    let rt = &rt;
+    let file = "ended";
+    let _ = fs::remove_file(rt, file);
     for (ending, line) in [
         (Ending::Torn, "true serving\ncommitted 1\n"),
         (
@@ -58,9 +70,23 @@ fn a_host_ends(rt: HostRuntime) -> Result<(), Fail> {
             "false serving\nrecorderd: serve refused host 1\n",
         ),
     ] {
-        let (said, kept) = recorded(&rt, "ended", 1, Start::Live, Play::End(ending))?;
+        let (hosts, host) = listener(rt)?;
+        let (viewers, place) = listener(rt)?;
+        let address = host.address(rt.alloc())?;
+        let plan = Plan {
+            file,
+            host: Some(address.as_str()),
+            key_interval: 4,
+            viewers: 1,
+            from: Start::Live,
+        };
+        let said = told(join(
+            rt,
+            move || print(rt, plan, viewers),
+            move || { host_ends(rt, hosts, place, ending) },
+        ))?;
         assert!(rt; said.as_str() == line, "{said}");
-        assert!(rt; kept.as_str() == "recording 1 1 messages 1 blocks 1\n");
+        assert!(rt; checked(rt, file)?.as_str() == "recording 1 1 messages 1 blocks 1\n");
     }
     Ok(())
 }
@@ -115,21 +141,12 @@ fn a_recording_is_served_alone(rt: HostRuntime) -> Result<(), Fail> {
     Ok(())
 }
 
-// What is printed of a plan to which nobody comes.
-fn unwatched<R>(rt: &R, plan: Plan<'_>) -> Result<String, Fail>
-where
-    R: AllocGlobal + Clock + Files<File = File> + Sync + Threads + Wait,
-    R: Net<Stream = TcpStream, Listener = TcpListener>,
-{
-    let (viewers, _) = listener(rt)?;
-    told(join(rt, move || print(rt, plan, viewers), move || Ok(())))
-}
-
 #[test]
 fn what_can_t_be_served_makes_no_file(rt: HostRuntime) -> Result<(), Fail> {
     let rt = &rt;
     let file = "refused";
     let _ = fs::remove_file(rt, file);
+    let (viewers, _) = listener(rt)?;
     let (hosts, host) = listener(rt)?;
     drop(hosts);
     let address = host.address(rt.alloc())?;
@@ -141,19 +158,21 @@ fn what_can_t_be_served_makes_no_file(rt: HostRuntime) -> Result<(), Fail> {
         from: Start::Live,
     };
     let alone = Plan { host: None, ..plan };
-    let said = unwatched(rt, plan)?;
+    let said = told(join(rt, move || print(rt, plan, viewers), move || Ok(())))?;
     assert!(rt;
         said.as_str() == "false recorderd: serve refused net 1\n",
         "{said}"
     );
-    let said = unwatched(rt, alone)?;
+    let (viewers, _) = listener(rt)?;
+    let said = told(join(rt, move || print(rt, alone, viewers), move || Ok(())))?;
     assert!(rt;
         said.as_str() == "false recorderd: serve refused file 1\n",
         "{said}"
     );
     assert!(rt; fs::metadata(rt, file).is_err());
     fs::write(rt, file, b"".as_slice())?;
-    let said = unwatched(rt, alone)?;
+    let (viewers, _) = listener(rt)?;
+    let said = told(join(rt, move || print(rt, alone, viewers), move || Ok(())))?;
     assert!(rt;
         said.as_str() == "false recorderd: serve refused journal 1\n",
         "{said}"

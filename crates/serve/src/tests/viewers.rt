@@ -1,14 +1,27 @@
 //! Viewers of a host.
 
-use super::peers::{ALL, BLACK, CHANGES, GREEN, Peer, Place, RED, silent_viewer, viewer};
-use super::{Play, recorded};
+use super::peers::{
+    ALL, BLACK, CHANGES, GREEN, RED, large_host, listener, silent_viewer, small_host, viewer,
+};
+use super::{checked, print, told};
+use crate::Plan;
+use crate::tests::peers::Place;
 use broadcast::Start;
-use std::alloc::Global;
+use std::fs;
 use std::net::{Net, TcpListener, TcpStream};
 use std::test::Fail;
+use std::thread::join;
 
 // Two viewers, who see the black screen, and then the host's update.
-pub fn two_watch(alloc: Global, host: Peer, one: Peer, other: Peer) -> Result<(), Fail> {
+fn two_watch<R: Net<Stream = TcpStream, Listener = TcpListener> + AllocGlobal>(
+    rt: &R,
+    hosts: TcpListener,
+    place: Place,
+) -> Result<(), Fail> {
+    let alloc = rt.alloc();
+    let host = small_host(alloc, &hosts)?;
+    let one = viewer(rt, place)?;
+    let other = viewer(rt, place)?;
     one.talk(alloc, &ALL, &BLACK)?;
     other.talk(alloc, &ALL, &BLACK)?;
     one.say(&CHANGES)?;
@@ -20,20 +33,37 @@ pub fn two_watch(alloc: Global, host: Peer, one: Peer, other: Peer) -> Result<()
 
 #[test]
 fn two_viewers_get_a_host_s_update(rt: HostRuntime) -> Result<(), Fail> {
-    let (said, kept) = recorded(&rt, "watched", 2, Start::Live, Play::Watch)?;
+    let rt = &rt;
+    let (hosts, host) = listener(rt)?;
+    let (viewers, place) = listener(rt)?;
+    let address = host.address(rt.alloc())?;
+    let plan = Plan {
+        file: "watched",
+        host: Some(address.as_str()),
+        key_interval: 4,
+        viewers: 2,
+        from: Start::Live,
+    };
+    let _ = fs::remove_file(rt, plan.file);
+    let said = told(join(
+        rt,
+        move || print(rt, plan, viewers),
+        move || two_watch(rt, hosts, place),
+    ))?;
     assert!(rt; said.as_str() == "true serving\ncommitted 1\n", "{said}");
-    assert!(rt; kept.as_str() == "recording 1 1 messages 1 blocks 1\n");
+    assert!(rt; checked(rt, plan.file)?.as_str() == "recording 1 1 messages 1 blocks 1\n");
     Ok(())
 }
 
 // One viewer says nothing, one is of another version, one leaves within a message, and one begins
 // behind what there is; the last one sees all.
-pub fn strangers_come<R: Net<Stream = TcpStream, Listener = TcpListener> + AllocGlobal>(
+fn strangers_come<R: Net<Stream = TcpStream, Listener = TcpListener> + AllocGlobal>(
     rt: &R,
-    host: Peer,
+    hosts: TcpListener,
     place: Place,
 ) -> Result<(), Fail> {
     let alloc = rt.alloc();
+    let host = small_host(alloc, &hosts)?;
     let silent = silent_viewer(rt, place)?;
     let old = silent_viewer(rt, place)?;
     old.hear(alloc, b"RFB 003.008\n")?;
@@ -57,9 +87,25 @@ pub fn strangers_come<R: Net<Stream = TcpStream, Listener = TcpListener> + Alloc
 
 #[test]
 fn a_viewer_s_fault_ends_it_alone(rt: HostRuntime) -> Result<(), Fail> {
-    let (said, kept) = recorded(&rt, "strangers", 5, Start::At(0), Play::Strangers)?;
+    let rt = &rt;
+    let (hosts, host) = listener(rt)?;
+    let (viewers, place) = listener(rt)?;
+    let address = host.address(rt.alloc())?;
+    let plan = Plan {
+        file: "strangers",
+        host: Some(address.as_str()),
+        key_interval: 4,
+        viewers: 5,
+        from: Start::At(0),
+    };
+    let _ = fs::remove_file(rt, plan.file);
+    let said = told(join(
+        rt,
+        move || print(rt, plan, viewers),
+        move || strangers_come(rt, hosts, place),
+    ))?;
     assert!(rt; said.as_str() == "true serving\ncommitted 2\n", "{said}");
-    assert!(rt; kept.as_str() == "recording 1 1 messages 2 blocks 2\n");
+    assert!(rt; checked(rt, plan.file)?.as_str() == "recording 1 1 messages 2 blocks 2\n");
     Ok(())
 }
 
@@ -74,7 +120,15 @@ const MORE: [u8; 10] = *b"\x03\x01\0\0\0\0\x08\0\x04\0";
 
 // A viewer doesn't read its answer while the other is shown two updates. Then it reads the answer,
 // and is shown the newest place at last.
-pub fn one_sleeps(alloc: Global, host: Peer, asleep: Peer, awake: Peer) -> Result<(), Fail> {
+fn one_sleeps<R: Net<Stream = TcpStream, Listener = TcpListener> + AllocGlobal>(
+    rt: &R,
+    hosts: TcpListener,
+    place: Place,
+) -> Result<(), Fail> {
+    let alloc = rt.alloc();
+    let host = large_host(alloc, &hosts)?;
+    let asleep = viewer(rt, place)?;
+    let awake = viewer(rt, place)?;
     asleep.say(&WHOLE)?;
     awake.talk(alloc, &ALL, &BLACK)?;
     host.talk(alloc, &RED, &MORE)?;
@@ -89,8 +143,24 @@ pub fn one_sleeps(alloc: Global, host: Peer, asleep: Peer, awake: Peer) -> Resul
 
 #[test]
 fn a_viewer_that_sleeps_holds_up_nobody(rt: HostRuntime) -> Result<(), Fail> {
-    let (said, kept) = recorded(&rt, "asleep", 2, Start::Live, Play::Sleep)?;
+    let rt = &rt;
+    let (hosts, host) = listener(rt)?;
+    let (viewers, place) = listener(rt)?;
+    let address = host.address(rt.alloc())?;
+    let plan = Plan {
+        file: "asleep",
+        host: Some(address.as_str()),
+        key_interval: 4,
+        viewers: 2,
+        from: Start::Live,
+    };
+    let _ = fs::remove_file(rt, plan.file);
+    let said = told(join(
+        rt,
+        move || print(rt, plan, viewers),
+        move || one_sleeps(rt, hosts, place),
+    ))?;
     assert!(rt; said.as_str() == "true serving\ncommitted 2\n", "{said}");
-    assert!(rt; kept.as_str() == "recording 2048 1024 messages 2 blocks 2\n");
+    assert!(rt; checked(rt, plan.file)?.as_str() == "recording 2048 1024 messages 2 blocks 2\n");
     Ok(())
 }
