@@ -1,6 +1,7 @@
 //! A viewer's place in the recording.
 
 ghost use Rattle.std.specs.Prelude.{◌≡◌};
+ghost use Rattle.broadcast.specs.Seats.{Card};
 
 use std::marker::Model;
 
@@ -38,8 +39,6 @@ pub struct Seat {
 }
 
 impl Model for Seat {
-    ghost use Rattle.broadcast.specs.Seats.{Card};
-
     ghost Value = { Card };
 
     ghost view = { λ s. record { number = s.number; position = s.place.position; fresh = s.place.fresh } };

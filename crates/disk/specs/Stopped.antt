@@ -1,7 +1,7 @@
 -- What a call leaves of a disk that stops, where it failed.
 use Rattle.std.specs.Prelude.{◌≡◌, ◌⊎◌, ℕ, List, ◌∷◌, true}
 use Rattle.disk.specs.Contents.{put}
-use Rattle.disk.specs.Memory.{Kept, IsAsBefore, noted_write}
+use Rattle.disk.specs.Memory.{Kept, IsAsBefore, history_of, noted_write}
 use Rattle.disk.specs.Wrapped.{Wrapped, Fused}
 use Rattle.disk.specs.declared.memory.Event.TheVariants.{Wrote}
 
@@ -9,6 +9,11 @@ use Rattle.disk.specs.declared.memory.Event.TheVariants.{Wrote}
 pub record IsAsBeforeStop (old new : Fused (Wrapped Kept)) : Type 0 where
   pub kept : IsAsBefore old.disk.disk new.disk.disk
   pub flag : new.ends_in_stopped_write ≡ old.ends_in_stopped_write
+
+-- All moments are as before, and the newest is a stopped write just if it was.
+abbrev pub LeavesAll : Fused (Wrapped Kept) → Fused (Wrapped Kept) → Type 0
+LeavesAll old new =
+    (history_of new.disk.disk ≡ history_of old.disk.disk) × (new.ends_in_stopped_write ≡ old.ends_in_stopped_write)
 
 -- This write is done and noted, whole, as the one that the stop met.
 pub record EndsInStoppedWrite (place : ℕ) (bytes : List ℕ) (old new : Fused (Wrapped Kept)) : Type 0 where

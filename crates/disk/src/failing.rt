@@ -10,9 +10,9 @@ use std::marker::Model;
 /// nothing. It goes on after that.
 #[derive(Drop)]
 pub struct FailingDisk<D: Disk> {
-    pub(crate) disk: D,
     switch: Switch,
     failures: u64,
+    pub(crate) disk: D,
 }
 
 impl<D: Disk> Model for FailingDisk<D> {
@@ -29,9 +29,9 @@ impl<D: Disk> FailingDisk<D> {
         ensures { result ≡ record { disk = disk; failures = 0 } }
     {
         FailingDisk {
-            disk,
             switch,
             failures: 0,
+            disk,
         }
     }
 
@@ -40,9 +40,9 @@ impl<D: Disk> FailingDisk<D> {
         ensures { result ≡ self.disk }
     {
         let FailingDisk {
-            disk,
             switch: _,
             failures: _,
+            disk,
         } = self;
         disk
     }

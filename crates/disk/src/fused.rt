@@ -79,7 +79,7 @@ impl FusedDisk {
 impl Disk for FusedDisk {
     ghost use Rattle.disk.specs.MemoryLaws.{Agrees-moments_of};
     ghost use Rattle.disk.specs.Memory.{history_of};
-    ghost use Rattle.disk.specs.Stopped.{IsAfterFault, IsAsBeforeStop, EndsInStoppedWrite};
+    ghost use Rattle.disk.specs.Stopped.{IsAfterFault, IsAsBeforeStop, EndsInStoppedWrite, LeavesAll};
 
     ghost is_modelled = { Unit {0} };
 
@@ -92,10 +92,9 @@ impl Disk for FusedDisk {
 
     fn len(&mut self) -> Result<u64, DiskFault>
         ensures length { IfOk result (λ n. n ≡ length (present (history_of self.old.disk.disk)).now) }
-        ensures same { history_of self.new.disk.disk ≡ history_of self.old.disk.disk }
+        ensures same { LeavesAll self.old self.new }
         ensures fault { OnErr result (IsAfterFault self.old self.new) }
         ensures counts { CountsFailure self.old.failures self.new.failures result }
-        ensures flag { self.new.ends_in_stopped_write ≡ self.old.ends_in_stopped_write }
     {
         if self.switch.stops_call() {
             return Err(one_more_failed(&mut self.failures));
@@ -109,10 +108,9 @@ impl Disk for FusedDisk {
         requires within { place + length buffer.old ≤ length (present (history_of self.old.disk.disk)).now }
         ensures read { OnOk result
             (buffer.new ≡ take (length buffer.old) (drop place (present (history_of self.old.disk.disk)).now)) }
-        ensures same { history_of self.new.disk.disk ≡ history_of self.old.disk.disk }
+        ensures same { LeavesAll self.old self.new }
         ensures fault { OnErr result (IsAfterFault self.old self.new) }
         ensures counts { CountsFailure self.old.failures self.new.failures result }
-        ensures flag { self.new.ends_in_stopped_write ≡ self.old.ends_in_stopped_write }
     {
         if self.switch.stops_call() {
             return Err(one_more_failed(&mut self.failures));

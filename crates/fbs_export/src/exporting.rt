@@ -1,15 +1,15 @@
 //! Writing a part of a recording as a file.
 
 ghost use Rattle.std.specs.Prelude.{Some, ◌≡◌, ◌≢◌, ◌↔◌, ◌⊎◌, ◌+◌, ◌-◌, ◌<◌, ◌≤◌, ◌^◌, ◌++◌, ℕ, List, Ok, Err, IfOk, OnOk, IfErr, IsErrOf, length};
-ghost use Rattle.std.specs.Io.KnownBytes.{Appends, Keeps};
 ghost use Rattle.disk.specs.Failures.{HasCause};
-ghost use Rattle.keyed_entries.specs.Entry.{messages_in};
-ghost use Rattle.key_index.specs.Indexed.{start_in};
-ghost use Rattle.std.specs.List.{slice_get};
-ghost use Rattle.replay.specs.Screens.{IsScreenAt};
-ghost use Rattle.painter.specs.Framebuffer.{color_at};
 ghost use Rattle.fbs_export.specs.Export.{export_text, front_text, messages_from, opening_text, screen_text, row_text};
 ghost use Rattle.fbs_export.specs.Written.{IsBadEnd, WroteFront};
+ghost use Rattle.key_index.specs.Indexed.{OnlyReads, start_in};
+ghost use Rattle.keyed_entries.specs.Entry.{messages_in};
+ghost use Rattle.painter.specs.Framebuffer.{color_at};
+ghost use Rattle.replay.specs.Screens.{IsScreenAt};
+ghost use Rattle.std.specs.Io.KnownBytes.{Appends, Keeps};
+ghost use Rattle.std.specs.List.{slice_get};
 
 use crate::fault::{ExportFault, Stop};
 use crate::judge::{NONE, VERSION};
@@ -137,10 +137,7 @@ fn next_message<D: Disk>(replay: &mut Replay, index: &mut Indexed<D>) -> Result<
     ensures painted { D.is_modelled → IsScreenAt index.old.head (messages_in index.old.blocks) replay.new.position replay.new.screen }
     ensures width { replay.new.screen.width ≡ replay.old.screen.width }
     ensures height { replay.new.screen.height ≡ replay.old.screen.height }
-    ensures history { D.is_modelled → D.history index.new.disk ≡ D.history index.old.disk }
-    ensures numbers { index.new.numbers ≡ index.old.numbers }
-    ensures head { index.new.head ≡ index.old.head }
-    ensures blocks { D.is_modelled → index.new.blocks ≡ index.old.blocks }
+    ensures only { OnlyReads D.is_modelled D.history index.old index.new }
     ensures cause { D.is_modelled → HasCause (D.failures index.old.disk) (D.failures index.new.disk) (IsErrOf result Stop.Device) }
 {
     match replay.next(index) {
@@ -169,10 +166,7 @@ fn write_messages<D: Disk, W: Write>(
         (messages_from (messages_in index.old.blocks) replay.old.position to)) }
     ensures front { D.is_modelled → WroteFront (W.contents out.old) (W.contents out.new)
         (messages_from (messages_in index.old.blocks) replay.old.position to) }
-    ensures history { D.is_modelled → D.history index.new.disk ≡ D.history index.old.disk }
-    ensures numbers { index.new.numbers ≡ index.old.numbers }
-    ensures head { index.new.head ≡ index.old.head }
-    ensures blocks { D.is_modelled → index.new.blocks ≡ index.old.blocks }
+    ensures only { OnlyReads D.is_modelled D.history index.old index.new }
     ensures cause { D.is_modelled → HasCause (D.failures index.old.disk) (D.failures index.new.disk) (IsErrOf result Stop.Device) }
 {
     let mut first = None;
@@ -201,10 +195,7 @@ fn write_file<D: Disk, W: Write>(
         (export_text index.old.head (messages_in index.old.blocks) (start_in index.old.numbers block) to)) }
     ensures front { D.is_modelled → WroteFront (W.contents out.old) (W.contents out.new)
         (export_text index.old.head (messages_in index.old.blocks) (start_in index.old.numbers block) to) }
-    ensures history { D.is_modelled → D.history index.new.disk ≡ D.history index.old.disk }
-    ensures numbers { index.new.numbers ≡ index.old.numbers }
-    ensures head { index.new.head ≡ index.old.head }
-    ensures blocks { D.is_modelled → index.new.blocks ≡ index.old.blocks }
+    ensures only { OnlyReads D.is_modelled D.history index.old index.new }
     ensures cause { D.is_modelled → HasCause (D.failures index.old.disk) (D.failures index.new.disk) (IsErrOf result Stop.Device) }
 {
     let mut replay = match from_block(alloc, index, block) {
@@ -260,10 +251,7 @@ pub fn export<D: Disk, W: Write>(
     ensures bad_end { (result ≡ Err ExportFault.BadEnd) ↔ IsBadEnd index.old.numbers block to }
     ensures nothing { (result ≡ Err ExportFault.NoBlock) ⊎ (result ≡ Err ExportFault.BadEnd)
         → Keeps (W.contents out.old) (W.contents out.new) }
-    ensures history { D.is_modelled → D.history index.new.disk ≡ D.history index.old.disk }
-    ensures numbers { index.new.numbers ≡ index.old.numbers }
-    ensures head { index.new.head ≡ index.old.head }
-    ensures blocks { D.is_modelled → index.new.blocks ≡ index.old.blocks }
+    ensures only { OnlyReads D.is_modelled D.history index.old index.new }
     ensures cause { D.is_modelled → HasCause (D.failures index.old.disk) (D.failures index.new.disk) (IsErrOf result ExportFault.Device) }
 {
     let first = first_exported(index, block, to)?;

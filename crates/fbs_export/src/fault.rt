@@ -3,9 +3,8 @@
 ghost use Rattle.std.specs.Prelude.{◌≡◌, ◌-◌, ◌<◌, Some, slice_get};
 ghost use Rattle.fbs_export.specs.Faults.{export_faults, fault_of, fbs_number};
 ghost use Rattle.fbs_export.specs.declared.fault.FbsFault.TheVariants.{NoMemory as FbsNoMemory};
-ghost use Rattle.fbs_export.specs.declared.fault.Stop.TheVariants.{NoMemory as StopNoMemory, Write as StopWrite};
+ghost use Rattle.fbs_export.specs.declared.fault.Stop.TheVariants.{NoMemory as StopNoMemory};
 
-use crate::writing::WriteFailed;
 use client_wire::WireFault;
 use std::alloc::AllocError;
 use thiserror::Error;
@@ -107,22 +106,6 @@ pub enum Stop {
     Write,
 }
 
-impl From<AllocError> for Stop {
-    ghost from_gives = { λ _ stop. stop ≡ StopNoMemory };
-
-    fn from(_: AllocError) -> Stop {
-        Stop::NoMemory
-    }
-}
-
-impl From<WriteFailed> for Stop {
-    ghost from_gives = { λ _ stop. stop ≡ StopWrite };
-
-    fn from(_: WriteFailed) -> Stop {
-        Stop::Write
-    }
-}
-
 impl From<Stop> for ExportFault {
     ghost from_gives = { λ stop fault. fault ≡ fault_of stop };
 
@@ -132,5 +115,13 @@ impl From<Stop> for ExportFault {
             Stop::NoMemory => ExportFault::NoMemory,
             Stop::Write => ExportFault::Write,
         }
+    }
+}
+
+impl From<AllocError> for Stop {
+    ghost from_gives = { λ _ stop. stop ≡ StopNoMemory };
+
+    fn from(_: AllocError) -> Stop {
+        Stop::NoMemory
     }
 }

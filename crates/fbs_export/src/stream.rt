@@ -2,12 +2,12 @@
 
 ghost use Rattle.std.specs.Prelude.{◌≡◌, ◌+◌, ◌++◌, [], ℕ, List, length, replicate, None, IfOk, OnOk, IfErr};
 ghost use Rattle.client_wire.specs.Stream.{Goes, Stops, StandsFor};
-ghost use Rattle.rfb_wire.specs.Grammar.{message_at, message_limit};
-ghost use Rattle.rfb_wire.specs.Stream.{given};
-ghost use Rattle.pixel_format.specs.Reading.{More};
 ghost use Rattle.fbs_export.specs.Opening.{opening_at};
 ghost use Rattle.fbs_export.specs.Reader.{IsDataFault, OfMessage, Stands};
 ghost use Rattle.fbs_export.specs.Summary.{Tells};
+ghost use Rattle.pixel_format.specs.Reading.{More};
+ghost use Rattle.rfb_wire.specs.Stream.{given};
+ghost use Rattle.rfb_wire.specs.Grammar.{message_at, message_limit};
 
 use crate::fault::FbsFault;
 use crate::opening::OpeningReader;

@@ -1,12 +1,15 @@
 //! Writing to the end, or to the first refusal.
+
 ghost use Rattle.std.specs.Prelude.{◌<◌, ◌≤◌, ◌^◌, length, take, ◌≡◌, OnOk};
 ghost use Rattle.std.specs.Io.KnownBytes.{Appends};
 ghost use Rattle.fbs_export.specs.Written.{WroteFront};
+ghost use Rattle.fbs_export.specs.declared.fault.Stop.TheVariants.{Write as StopWrite};
 ghost use Rattle.fbs_export.specs.Blocks.{padding_length};
 ghost use Rattle.fbs_export.specs.Export.{block_text};
 ghost use Rattle.client_wire.specs.Number.{u32_bytes};
 ghost use Rattle.rfb_wire.specs.Written.{two_bytes as u16_bytes};
 
+use crate::fault::Stop;
 use std::io::Write;
 
 /// The writer failed, or took nothing. What it took before is a beginning of what was to be written.
@@ -75,4 +78,12 @@ pub fn write_block<W: Write>(time: u32, content: &[u8], out: &mut W) -> Result<(
     write_bytes(content, out)?;
     write_bytes(&ZEROS[..padding_of(length)], out)?;
     write_bytes(&last, out)
+}
+
+impl From<WriteFailed> for Stop {
+    ghost from_gives = { λ _ stop. stop ≡ StopWrite };
+
+    fn from(_: WriteFailed) -> Stop {
+        Stop::Write
+    }
 }

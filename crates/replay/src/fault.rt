@@ -22,16 +22,6 @@ pub enum ReplayFault {
     NoMemory,
 }
 
-impl ReplayFault {
-    /// The number that programs print.
-    pub fn number(self) -> u64
-        ensures value { slice_get replay_faults (result - 1) ≡ Some self }
-        ensures some { 0 < result }
-    {
-        self as u64
-    }
-}
-
 impl From<ReadFault> for ReplayFault {
     ghost from_gives = { λ read fault. fault ≡ fault_of_read read };
 
@@ -48,5 +38,15 @@ impl From<AllocError> for ReplayFault {
 
     fn from(_: AllocError) -> ReplayFault {
         ReplayFault::NoMemory
+    }
+}
+
+impl ReplayFault {
+    /// The number that programs print.
+    pub fn number(self) -> u64
+        ensures value { slice_get replay_faults (result - 1) ≡ Some self }
+        ensures some { 0 < result }
+    {
+        self as u64
     }
 }

@@ -22,7 +22,7 @@ returns-in_err-write_front-clause-front g c = λ m.
     let played : IsScreenAt i.head all from c.in-Ok.replay.screen = subst (λ z. IsScreenAt i.head all z c.in-Ok.replay.screen) c.in-Ok.ensures.position (c.in-Ok.ensures.screen m) in
     let shown : IsScreenAt i.head all from screen = subst (IsScreenAt i.head all from) (sym c.screen.ensures) played in
     let front : WroteFront (g.W.Write.contents c.args.out.now) (g.W.Write.contents c.write_front.new.out) (front_text i.head (color_at screen)) =
-    subst (λ z. WroteFront (g.W.Write.contents c.args.out.now) (g.W.Write.contents c.write_front.new.out) (front_text z (color_at screen))) c.in-Ok.ensures.head c.write_front.ensures.front in
+    subst (λ z. WroteFront (g.W.Write.contents c.args.out.now) (g.W.Write.contents c.write_front.new.out) (front_text z (color_at screen))) c.in-Ok.ensures.only.2 c.write_front.ensures.front in
     subst (WroteFront (g.W.Write.contents c.args.out.now) (g.W.Write.contents c.write_front.new.out)) (export_is i.head all from c.args.to screen shown)
     (front_of_first _ _ (front_text i.head (color_at screen)) (messages_from all from c.args.to) front)
 
@@ -35,10 +35,10 @@ returns-in_err-write_messages-clause-front g c = λ m.
     let played : IsScreenAt i.head all from c.in-Ok.replay.screen = subst (λ z. IsScreenAt i.head all z c.in-Ok.replay.screen) c.in-Ok.ensures.position (c.in-Ok.ensures.screen m) in
     let shown : IsScreenAt i.head all from screen = subst (IsScreenAt i.head all from) (sym c.screen.ensures) played in
     let front : Appends (g.W.Write.contents c.args.out.now) (g.W.Write.contents c.write_front.new.out) (front_text i.head (color_at screen)) =
-    subst (λ z. Appends (g.W.Write.contents c.args.out.now) (g.W.Write.contents c.write_front.new.out) (front_text z (color_at screen))) c.in-Ok.ensures.head c.in_ok-write_front.ensures.all in
+    subst (λ z. Appends (g.W.Write.contents c.args.out.now) (g.W.Write.contents c.write_front.new.out) (front_text z (color_at screen))) c.in-Ok.ensures.only.2 c.in_ok-write_front.ensures.all in
     let behind : WroteFront (g.W.Write.contents c.write_front.new.out) (g.W.Write.contents c.write_messages.new.out) (messages_from all from c.args.to) =
     subst (λ z. WroteFront (g.W.Write.contents c.write_front.new.out) (g.W.Write.contents c.write_messages.new.out) (messages_from all z c.args.to)) c.in-Ok.ensures.position
-    (subst (λ z. WroteFront (g.W.Write.contents c.write_front.new.out) (g.W.Write.contents c.write_messages.new.out) (messages_from (messages_in z) c.in-Ok.replay.position c.args.to)) (c.in-Ok.ensures.blocks m) (c.write_messages.ensures.front m)) in
+    (subst (λ z. WroteFront (g.W.Write.contents c.write_front.new.out) (g.W.Write.contents c.write_messages.new.out) (messages_from (messages_in z) c.in-Ok.replay.position c.args.to)) (c.in-Ok.ensures.only.3 m) (c.write_messages.ensures.front m)) in
     subst (WroteFront (g.W.Write.contents c.args.out.now) (g.W.Write.contents c.write_messages.new.out)) (export_is i.head all from c.args.to screen shown)
     (front_of_second _ _ _ (front_text i.head (color_at screen)) (messages_from all from c.args.to) front behind)
 
@@ -51,10 +51,10 @@ returns-clause-all g c = λ m.
     let played : IsScreenAt i.head all from c.in-Ok.replay.screen = subst (λ z. IsScreenAt i.head all z c.in-Ok.replay.screen) c.in-Ok.ensures.position (c.in-Ok.ensures.screen m) in
     let shown : IsScreenAt i.head all from screen = subst (IsScreenAt i.head all from) (sym c.screen.ensures) played in
     let front : Appends (g.W.Write.contents c.args.out.now) (g.W.Write.contents c.write_front.new.out) (front_text i.head (color_at screen)) =
-    subst (λ z. Appends (g.W.Write.contents c.args.out.now) (g.W.Write.contents c.write_front.new.out) (front_text z (color_at screen))) c.in-Ok.ensures.head c.in_ok-write_front.ensures.all in
+    subst (λ z. Appends (g.W.Write.contents c.args.out.now) (g.W.Write.contents c.write_front.new.out) (front_text z (color_at screen))) c.in-Ok.ensures.only.2 c.in_ok-write_front.ensures.all in
     let behind : Appends (g.W.Write.contents c.write_front.new.out) (g.W.Write.contents c.write_messages.new.out) (messages_from all from c.args.to) =
     subst (λ z. Appends (g.W.Write.contents c.write_front.new.out) (g.W.Write.contents c.write_messages.new.out) (messages_from all z c.args.to)) c.in-Ok.ensures.position
-    (subst (λ z. Appends (g.W.Write.contents c.write_front.new.out) (g.W.Write.contents c.write_messages.new.out) (messages_from (messages_in z) c.in-Ok.replay.position c.args.to)) (c.in-Ok.ensures.blocks m) (c.in_ok-write_messages.ensures.all m)) in
+    (subst (λ z. Appends (g.W.Write.contents c.write_front.new.out) (g.W.Write.contents c.write_messages.new.out) (messages_from (messages_in z) c.in-Ok.replay.position c.args.to)) (c.in-Ok.ensures.only.3 m) (c.in_ok-write_messages.ensures.all m)) in
     subst (Appends (g.W.Write.contents c.args.out.now) (g.W.Write.contents c.write_messages.new.out)) (export_is i.head all from c.args.to screen shown)
     (Appends-trans _ _ _ (front_text i.head (color_at screen)) (messages_from all from c.args.to) front behind)
 

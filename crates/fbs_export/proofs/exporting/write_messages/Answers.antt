@@ -45,10 +45,10 @@ loop-first-preserved g c =
       high = c.in_ok-stamped.ensures.height ∙ inv.high;
       painted = λ m. subst (λ z. IsScreenAt i.head (messages_in z) c.next_message.new.replay.position c.next_message.new.replay.screen) (inv.blocks m)
           (subst (λ z. IsScreenAt z (messages_in c.loop-first.index.blocks) c.next_message.new.replay.position c.next_message.new.replay.screen) inv.head (c.in_ok-stamped.ensures.painted m));
-      numbers = c.in_ok-stamped.ensures.numbers ∙ inv.numbers;
-      head = c.in_ok-stamped.ensures.head ∙ inv.head;
-      blocks = λ m. c.in_ok-stamped.ensures.blocks m ∙ inv.blocks m;
-      history = λ m. c.in_ok-stamped.ensures.history m ∙ inv.history m;
+      numbers = c.in_ok-stamped.ensures.only.1 ∙ inv.numbers;
+      head = c.in_ok-stamped.ensures.only.2 ∙ inv.head;
+      blocks = λ m. c.in_ok-stamped.ensures.only.3 m ∙ inv.blocks m;
+      history = λ m. c.in_ok-stamped.ensures.only.0 m ∙ inv.history m;
       later = λ m. let after = (c.in_ok-stamped.ensures.cause m).later in omega (arith, inv.later m, after);
       base = base;
       wrote = λ m. subst (λ z. SoFar all from z to (g.W.Write.contents c.args.out.now) (g.W.Write.contents c.write_block.new.out)) (sym next)
