@@ -17,13 +17,13 @@ pub pixel_format_read : (bytes f rest : List ℕ) → field {E = WireFault} 19 b
 unfolding set_pixel_format_at
 pixel_format_read bytes f rest e = rw e refl
 
-pub head_short : (bytes : List ℕ) → field {E = WireFault} 3 bytes ≡ More → set_encodings_at bytes ≡ More
-unfolding set_encodings_at
-head_short bytes e = rw e refl
-
 pub head_read : (bytes f rest : List ℕ) (count : ℕ) → field {E = WireFault} 3 bytes ≡ Got f rest → u16_at f 1 ≡ count → set_encodings_at bytes ≡ encodings_at count rest
 unfolding set_encodings_at
 head_read bytes f rest count e is = rw (e, is) refl
+
+pub head_short : (bytes : List ℕ) → field {E = WireFault} 3 bytes ≡ More → set_encodings_at bytes ≡ More
+unfolding set_encodings_at
+head_short bytes e = rw e refl
 
 pub encodings_short : (count : ℕ) (bytes : List ℕ) → field {E = WireFault} (4 * count) bytes ≡ More → encodings_at count bytes ≡ More
 unfolding encodings_at

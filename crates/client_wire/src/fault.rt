@@ -41,6 +41,22 @@ pub enum WireFault {
     NoMemory,
 }
 
+impl From<AllocError> for WireFault {
+    ghost from_gives = { λ _ f. f ≡ faults.NoMemory };
+
+    fn from(_fault: AllocError) -> WireFault {
+        WireFault::NoMemory
+    }
+}
+
+impl<T: Drop> From<AllocFailed<T>> for WireFault {
+    ghost from_gives = { λ _ f. f ≡ faults.NoMemory };
+
+    fn from(_fault: AllocFailed<T>) -> WireFault {
+        WireFault::NoMemory
+    }
+}
+
 impl WireFault {
     /// The fault's number, by which it is printed: 1 to 7 in the order above, 8 for a pixel format,
     /// and 9 for want of memory.
@@ -58,21 +74,5 @@ impl WireFault {
             WireFault::BadFormat(_) => 8,
             WireFault::NoMemory => 9,
         }
-    }
-}
-
-impl From<AllocError> for WireFault {
-    ghost from_gives = { λ _ f. f ≡ faults.NoMemory };
-
-    fn from(_fault: AllocError) -> WireFault {
-        WireFault::NoMemory
-    }
-}
-
-impl<T: Drop> From<AllocFailed<T>> for WireFault {
-    ghost from_gives = { λ _ f. f ≡ faults.NoMemory };
-
-    fn from(_fault: AllocFailed<T>) -> WireFault {
-        WireFault::NoMemory
     }
 }

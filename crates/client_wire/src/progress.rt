@@ -67,8 +67,8 @@ impl Stage {
 
     /// How many bytes the field has.
     pub fn wants(self) -> usize
-        ensures value { result ≡ wants_of self }
         ensures bound { result < 2 ^ 18 }
+        ensures value { result ≡ wants_of self }
     {
         match self {
             Stage::Type => 1,

@@ -17,9 +17,9 @@ use std::marker::Model;
 /// the bytes of an input message are counted and not kept.
 #[derive(Drop)]
 pub struct ClientReader {
-    alloc: Global,
     progress: Progress,
     fault: Option<WireFault>,
+    alloc: Global,
 }
 
 impl Model for ClientReader {

@@ -180,15 +180,15 @@ bytes_subrectangle f colored s bytes b =
     ap (color_if f colored) b.bytes_are ∙ pixel_again f colored s.color b.pixel (b.corner ∷ b.size ∷ []) b.color_is in
     rw (behind, color, ← b.x_is, ← b.y_is, ← b.w_is, ← b.h_is) refl
 
+pub inside_is : (w h : ℕ) (s : Subrectangle) → LiesWithin w h s → is_inside w h s ≡ true
+unfolding is_inside
+inside_is w h s is = rw (le-leb (s.x + s.w) w is.columns, le-leb (s.y + s.h) h is.rows) refl
+
 pub within_is : (w h : ℕ) (s : Subrectangle) → is_inside w h s ≡ true → LiesWithin w h s
 unfolding is_inside
 within_is w h s e =
     let parts = and_parts _ _ e in
     record { columns = leb-true _ _ parts.0; rows = leb-true _ _ parts.1 }
-
-pub inside_is : (w h : ℕ) (s : Subrectangle) → LiesWithin w h s → is_inside w h s ≡ true
-unfolding is_inside
-inside_is w h s is = rw (le-leb (s.x + s.w) w is.columns, le-leb (s.y + s.h) h is.rows) refl
 
 pub outside_is : (w h : ℕ) (s : Subrectangle) → (LiesWithin w h s → ⊥) → is_inside w h s ≡ false
 outside_is w h s leaves = false_from_ne_true (is_inside w h s) (λ e. leaves (within_is w h s e))

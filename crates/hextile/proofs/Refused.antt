@@ -266,6 +266,9 @@ refused_read f w h bytes e =
       next = subst (λ (k : ℕ). HasForbidden (onto one.tiles []) one.rest ⊎ HasOutside f (tile_width w k) (tile_height w h k) (onto one.tiles []) one.rest) here one.next;
     }
 
+one_fault : (fault : Fault) → fault ≡ Refused
+one_fault Refused = refl
+
 pub refused_again : (f : Format) (w h : ℕ) (bytes : List ℕ) → IsRefused f w h bytes → data_at f w h bytes ≡ Bad Refused
 unfolding data_at
 refused_again f w h bytes is =
@@ -275,9 +278,6 @@ refused_again f w h bytes is =
     (subst (λ (k : ℕ). HasForbidden (onto is.tiles []) is.rest ⊎ HasOutside f (tile_width w k) (tile_height w h k) (onto is.tiles []) is.rest) here is.next)
 
 -- ---- measuring
-
-one_fault : (fault : Fault) → fault ≡ Refused
-one_fault Refused = refl
 
 pub measured_is_refused : (f : Format) (w h : ℕ) (bytes : List ℕ) → measured (length bytes) (data_at f w h bytes) ≡ Err answers.Bad → IsRefused f w h bytes
 measured_is_refused f w h bytes e =

@@ -123,16 +123,16 @@ fn append_tile(
 
 // Appends the tiles of a rectangle.
 fn append_tiles(
-    format: &PixelFormat,
     w: u16,
     h: u16,
+    format: &PixelFormat,
     colors: &[Color],
     bytes: &mut Vec<u8>,
 ) -> Result<(), NoMemory>
-    requires size { length colors.now ≡ h * w }
     requires within { All (IsWithin format.now) colors.now }
-    ensures ok { OnOk result (Appends (Shows format.now w h colors.now) bytes.old.items bytes.new.items) }
+    requires size { length colors.now ≡ h * w }
     ensures grows { Grows bytes.old.items bytes.new.items }
+    ensures ok { OnOk result (Appends (Shows format.now w h colors.now) bytes.old.items bytes.new.items) }
 {
     let mut known = NOTHING_KNOWN;
     let mut room = Parts::new();
@@ -172,6 +172,6 @@ pub fn encode(
     ensures err { OnErr result (bytes.new.items ≡ bytes.old.items) }
 {
     let start = bytes.len();
-    let appended = append_tiles(format, w, h, colors, bytes);
+    let appended = append_tiles(w, h, format, colors, bytes);
     whole_or_none(appended, start, bytes)
 }

@@ -95,19 +95,19 @@ fn paint_parts<'a, 'b, 'c, C: Canvas>(
     canvas: &'c mut C,
 ) -> &'a [u8]
     requires begin { BeginsWithParts format.now colored area.w area.h count bytes.now }
-    requires held { (pixel : List ℕ) → C.holds (pixel_color format.now pixel) }
-    requires foreground { C.holds foreground }
-    requires columns { area.x + area.w ≤ C.width canvas.old }
-    requires rows { area.y + area.h ≤ C.height canvas.old }
     requires last_column { area.x + area.w < 2 ^ 16 }
+    requires columns { area.x + area.w ≤ C.width canvas.old }
+    requires held { (pixel : List ℕ) → C.holds (pixel_color format.now pixel) }
+    requires rows { area.y + area.h ≤ C.height canvas.old }
     requires last_row { area.y + area.h < 2 ^ 16 }
-    ensures width { C.width canvas.new ≡ C.width canvas.old }
-    ensures height { C.height canvas.new ≡ C.height canvas.old }
+    requires foreground { C.holds foreground }
     ensures rest { (parts : List Subrectangle) → (rest : List ℕ)
         → subrectangles_at format.now colored area.w area.h count bytes.now ≡ Got parts rest → result.now ≡ rest }
     ensures painted { (parts : List Subrectangle) → (rest : List ℕ)
         → subrectangles_at format.now colored area.w area.h count bytes.now ≡ Got parts rest
         → PartsPainted area.x area.y area.w area.h foreground parts (C.width canvas.old) (C.height canvas.old) (C.picture canvas.old) (C.picture canvas.new) }
+    ensures width { C.width canvas.new ≡ C.width canvas.old }
+    ensures height { C.height canvas.new ≡ C.height canvas.old }
 {
     let size = pixel_size(format, colored) + 2;
     let mut rest = bytes;
@@ -131,21 +131,21 @@ fn paint_tile<'a, 'b, 'c, 'd, C: Canvas>(
     canvas: &'c mut C,
 ) -> &'a [u8]
     requires begin { BeginsWithTile format.now area.w area.h bytes.now }
-    requires held { (pixel : List ℕ) → C.holds (pixel_color format.now pixel) }
-    requires background { C.holds colors.old.background }
-    requires foreground { C.holds colors.old.foreground }
     requires columns { area.x + area.w ≤ C.width canvas.old }
-    requires rows { area.y + area.h ≤ C.height canvas.old }
     requires last_column { area.x + area.w < 2 ^ 16 }
+    requires background { C.holds colors.old.background }
+    requires held { (pixel : List ℕ) → C.holds (pixel_color format.now pixel) }
+    requires foreground { C.holds colors.old.foreground }
+    requires rows { area.y + area.h ≤ C.height canvas.old }
     requires last_row { area.y + area.h < 2 ^ 16 }
-    ensures width { C.width canvas.new ≡ C.width canvas.old }
-    ensures height { C.height canvas.new ≡ C.height canvas.old }
-    ensures background { C.holds colors.new.background }
-    ensures foreground { C.holds colors.new.foreground }
     ensures rest { (named : Named) → (tile : Tile) → (rest : List ℕ)
         → tile_at format.now named area.w area.h bytes.now ≡ Got tile rest → result.now ≡ rest }
     ensures colors { (named : Named) → (tile : Tile) → (rest : List ℕ)
         → tile_at format.now named area.w area.h bytes.now ≡ Got tile rest → colors.new ≡ carried colors.old tile }
+    ensures background { C.holds colors.new.background }
+    ensures width { C.width canvas.new ≡ C.width canvas.old }
+    ensures foreground { C.holds colors.new.foreground }
+    ensures height { C.height canvas.new ≡ C.height canvas.old }
     ensures painted { (named : Named) → (tile : Tile) → (rest : List ℕ)
         → tile_at format.now named area.w area.h bytes.now ≡ Got tile rest
         → Agree (C.width canvas.old) (C.height canvas.old) (C.picture canvas.new)

@@ -35,8 +35,8 @@ fn byte_of(mask: Mask) -> u8
 
 // Appends the pixel of a colour, if it is to be there.
 fn append_pixel_if(
-    format: &PixelFormat,
     there: bool,
+    format: &PixelFormat,
     color: Color,
     bytes: &mut Vec<u8>,
 ) -> Result<(), NoMemory>
@@ -69,8 +69,8 @@ fn append_head(
         ++ (pixel_if format.now (shown_if mask.foreground foreground) ++ (if mask.subrectangles then count ∷ [] else [])))) }
     ensures grows { Grows bytes.old.items bytes.new.items }
 {
-    append_pixel_if(format, mask.background, background, bytes)?;
-    append_pixel_if(format, mask.foreground, foreground, bytes)?;
+    append_pixel_if(mask.background, format, background, bytes)?;
+    append_pixel_if(mask.foreground, format, foreground, bytes)?;
     if mask.subrectangles {
         bytes.push(count)?;
     }
@@ -89,7 +89,7 @@ fn append_part(
     ensures written { OnOk result (bytes.new.items ≡ bytes.old.items ++ part_bytes format.now (drawn colored part)) }
     ensures grows { Grows bytes.old.items bytes.new.items }
 {
-    append_pixel_if(format, colored, part.color, bytes)?;
+    append_pixel_if(colored, format, part.color, bytes)?;
     bytes.extend_from_slice(&[part.x * 16 + part.y, (part.w - 1) * 16 + (part.h - 1)])
 }
 

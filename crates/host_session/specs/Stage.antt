@@ -27,15 +27,15 @@ wants_of (stages.Name width height n) = min n text_limit
 
 -- no more than so many fields follow
 abbrev pub rank_of : Stage → ℕ
-rank_of stages.Version = 9
-rank_of stages.Count = 8
-rank_of (stages.Types n) = 7
-rank_of stages.Outcome = 6
-rank_of stages.Size = 5
-rank_of (stages.Head width height) = 4
-rank_of (stages.Name width height n) = 3
-rank_of stages.ReasonLength = 2
 rank_of (stages.Reason n) = 1
+rank_of stages.ReasonLength = 2
+rank_of (stages.Name width height n) = 3
+rank_of (stages.Head width height) = 4
+rank_of stages.Size = 5
+rank_of stages.Outcome = 6
+rank_of (stages.Types n) = 7
+rank_of stages.Count = 8
+rank_of stages.Version = 9
 
 abbrev pub rank_at : Position → ℕ
 rank_at (positions.Field stage) = rank_of stage

@@ -210,9 +210,9 @@ fn behind_size(expected: Option<(u16, u16)>, field: &[u8]) -> Result<Step, HostF
 // The reason's length, of which no more is known to be sent.
 fn behind_length(field: &[u8]) -> Step
     requires { length field.now ≡ 4 }
+    ensures falls { IsFurther 2 result.position }
     ensures goes { (expected : Option (ℕ × ℕ))
         → IsStep expected Stage.ReasonLength field.now result }
-    ensures falls { IsFurther 2 result.position }
 {
     let count = u32::from_be_bytes([field[0], field[1], field[2], field[3]]);
     next(Stage::Reason { count })

@@ -6,7 +6,7 @@ use Rattle.pixel_format.specs.Appending.{Appends}
 use Rattle.pixel_format.specs.Canvas.{Picture, rows_of}
 use Rattle.client_wire.specs.declared.message.Area.{Area}
 use Rattle.rect_data.specs.Data.{LiesWithin}
-use Rattle.rect_codec.specs.declared.encoding.Encoding.TheVariants as encodings
+use Rattle.rect_data.specs.declared.encoding.Encoding.TheVariants as encodings
 use Rattle.rect_codec.specs.Written.{IsUpdate, IsUpdateFor}
 use Rattle.rfb_wire.specs.Grammar.{message_limit}
 use Rattle.rfb_wire.specs.Host.{Host, host_of}

@@ -6,10 +6,9 @@ use Rattle.pixel_format.specs.declared.Color.{Color}
 use Rattle.pixel_format.specs.Format.{host_format}
 use Rattle.pixel_format.specs.Canvas.{Picture}
 use Rattle.client_wire.specs.declared.message.Area.{Area}
-use Rattle.rect_data.specs.Data.{LiesWithin, AreData, number_of as wire_number}
-use Rattle.rect_codec.specs.declared.encoding.Encoding.{Encoding}
-use Rattle.rect_codec.specs.declared.encoding.Encoding.TheVariants as encodings
-use Rattle.rect_codec.specs.Encoding.{number_of, wire_of}
+use Rattle.rect_data.specs.Data.{LiesWithin, AreData, number_of}
+use Rattle.rect_data.specs.declared.encoding.Encoding.{Encoding}
+use Rattle.rect_data.specs.declared.encoding.Encoding.TheVariants as encodings
 use Rattle.rect_codec.specs.Picture.{painted_data}
 use Rattle.rect_codec.specs.Update.{HasColors}
 use Rattle.client_wire.specs.Written.{rectangle_head}
@@ -23,15 +22,11 @@ use Rattle.painter.specs.Picture.{painted_rectangles}
 use Rattle.painter.specs.Update.{PaintsColors}
 
 content_is : (width height : ℕ) (area : Area) (colors : List Color) (e : Encoding) (body : List ℕ) → Shows e host_format area.w area.h colors body
-    → AreData host_format width height (wire_of e) area body
+    → AreData host_format width height e area body
 content_is width height area colors encodings.Raw body shows = omega (arith, shows.size)
+content_is width height area colors encodings.CopyRect body shows = absurd shows
 content_is width height area colors encodings.Rre body shows = (shows.content, shows.is)
 content_is width height area colors encodings.Hextile body shows = (shows.tiles, shows.is)
-
-number_is : (e : Encoding) → wire_number (wire_of e) ≡ number_of e
-number_is encodings.Raw = refl
-number_is encodings.Rre = refl
-number_is encodings.Hextile = refl
 
 u16_back : (n : ℕ) → 256 * (n / 256) + n % 256 ≡ n
 u16_back n = omega arith
@@ -45,7 +40,7 @@ unfolding encoding_number
 number_back a number = omega arith
 
 abbrev rectangle_of : Area → Encoding → List ℕ → Rectangle
-rectangle_of area e body = record { area = area; encoding = wire_of e; start = 16; end = 16 + length body }
+rectangle_of area e body = record { area = area; encoding = e; start = 16; end = 16 + length body }
 
 is_rectangle : (width height : ℕ) (area : Area) (colors : List Color) (e : Encoding) (body : List ℕ) → LiesWithin width height area → Shows e host_format area.w area.h colors body
     → IsRectangle width height 4 (rectangle_of area e body) (rectangle_head area (number_of e) ++ body)
@@ -55,7 +50,7 @@ is_rectangle width height area colors e body inside shows = record {
   bytes_are = refl;
   header_length = refl;
   area_is = sym (area_back area (number_of e));
-  encoding_is = number_is e ∙ sym (number_back area (number_of e));
+  encoding_is = sym (number_back area (number_of e));
   within_width = inside.columns;
   within_height = inside.rows;
   content_is = content_is width height area colors e body shows;
@@ -103,11 +98,11 @@ paints_colors width height area colors e bytes u inside short =
       area_is = refl;
       recorded = message_is_read message_limit width height bytes (r ∷ []) (is_message width height area colors e bytes u inside short);
       paints = λ before.
-          let painted = one_painted bytes r before ∙ ap (λ (z : List ℕ). painted_data host_format (wire_of e) area z before) (data_of area colors e bytes u) in
+          let painted = one_painted bytes r before ∙ ap (λ (z : List ℕ). painted_data host_format e area z before) (data_of area colors e bytes u) in
           subst (λ (p : Picture). HasColors area colors before p) (sym painted) (has_colors host_format area e u.body colors before u.shows);
     }
 
 pub encoding_kept : (width height : ℕ) (area : Area) (colors : List Color) (e : Encoding) (bytes : List ℕ) (u : IsUpdate host_format area colors e bytes) (inside : LiesWithin width height area)
-    (short : length bytes ≤ message_limit) → (paints_colors width height area colors e bytes u inside short).rectangle.encoding ≡ wire_of e
+    (short : length bytes ≤ message_limit) → (paints_colors width height area colors e bytes u inside short).rectangle.encoding ≡ e
 unfolding paints_colors
 encoding_kept width height area colors e bytes u inside short = refl

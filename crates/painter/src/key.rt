@@ -6,8 +6,8 @@ ghost use Rattle.painter.specs.Key.{IsKey, IsWhole};
 
 use crate::screen::Screen;
 use pixel_format::{NoMemory, PixelFormat};
-use rect_codec::{Encoding, write_update};
-use rfb_wire::{Area, Encoding as WireEncoding, HostMessage, Rectangle};
+use rect_codec::write_update;
+use rfb_wire::{Area, Encoding, HostMessage, Rectangle};
 use std::alloc::{AllocError, Global};
 
 // Whether the rectangle is one of all places of a screen of this size, in an encoding that doesn't
@@ -17,11 +17,7 @@ fn is_whole(width: u16, height: u16, rectangle: Rectangle) -> bool
 {
     let area = rectangle.area;
     let of_all_places = area.x == 0 && area.y == 0 && area.w == width && area.h == height;
-    of_all_places
-        && matches!(
-            rectangle.encoding,
-            WireEncoding::Raw | WireEncoding::Hextile
-        )
+    of_all_places && matches!(rectangle.encoding, Encoding::Raw | Encoding::Hextile)
 }
 
 impl Screen {

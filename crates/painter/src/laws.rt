@@ -1,14 +1,14 @@
 //! A law of updates: the contract of a function that does nothing.
 
 ghost use Rattle.std.specs.Prelude.{ℕ, ◌≤◌, List, length};
-ghost use Rattle.pixel_format.specs.declared.Color.{Color};
 ghost use Rattle.pixel_format.specs.Format.{host_format};
-ghost use Rattle.client_wire.specs.declared.message.Area.{Area};
 ghost use Rattle.rect_data.specs.Data.{LiesWithin};
-ghost use Rattle.rect_codec.specs.declared.encoding.Encoding.{Encoding};
 ghost use Rattle.rect_codec.specs.Written.{IsUpdateFor};
 ghost use Rattle.rfb_wire.specs.Grammar.{message_limit};
 ghost use Rattle.painter.specs.Update.{PaintsColors};
+ghost use Rattle.pixel_format.specs.declared.Color.{Color};
+ghost use Rattle.client_wire.specs.declared.message.Area.{Area};
+ghost use Rattle.rect_data.specs.declared.encoding.Encoding.{Encoding};
 
 /// What `rect_codec::write_update` appends in the host format, for an area within the screen, is one
 /// message of one rectangle where it is no longer than a message may be. Painted over any picture, it

@@ -16,41 +16,40 @@ use Rattle.rre.proofs.Content as rre_content
 use Rattle.hextile.proofs.TilesRead as hextile_content
 use Rattle.rect_data.specs.declared.encoding.Encoding.{Encoding}
 use Rattle.rect_data.specs.declared.encoding.Encoding.TheVariants as encodings
-use Rattle.rect_data.specs.Data.{LiesWithin}
+use Rattle.rect_data.specs.Data.{LiesWithin, number_of}
 use Rattle.rect_data.specs.Grammar.{encoding_of, is_inside, data_at}
 use Rattle.rect_data.proofs.Steps.{pixels_whole}
-use Rattle.rect_codec.specs.declared.encoding.Encoding.{Encoding as Written}
-use Rattle.rect_codec.specs.declared.encoding.Encoding.TheVariants as writtens
-use Rattle.rect_codec.specs.Encoding.{number_of, wire_of}
 use Rattle.rect_codec.specs.Picture.{is_in, raw_picture, rre_shown, hextile_shown, picture_of, painted_data}
 use Rattle.client_wire.specs.Written.{rectangle_head}
 use Rattle.rect_codec.specs.Written.{Shows, update_head, IsUpdate, IsUpdateFor}
 use Rattle.rect_codec.specs.Update.{area_of, rectangle_at, rectangles_at, update_at, HasColors, DrawsColors}
 
 -- the data of a rectangle that was written are read whole
-pub data_read : (f : Format) (width height : ℕ) (area : Area) (e : Written) (body : List ℕ) (colors : List Color) → Shows e f area.w area.h colors body
-    → data_at f width height (wire_of e) area body ≡ Got tt []
+pub data_read : (f : Format) (width height : ℕ) (area : Area) (e : Encoding) (body : List ℕ) (colors : List Color) → Shows e f area.w area.h colors body
+    → data_at f width height e area body ≡ Got tt []
 unfolding data_at
-data_read f width height area writtens.Raw body colors shows =
+data_read f width height area encodings.Raw body colors shows =
     ap (data_at f width height encodings.Raw area) (sym (append-nil body)) ∙ pixels_whole f area body [] (omega (arith, shows.size))
-data_read f width height area writtens.Rre body colors shows =
+data_read f width height area encodings.CopyRect body colors shows = absurd shows
+data_read f width height area encodings.Rre body colors shows =
     rw (rre_content.data_whole f area.w area.h body shows.content shows.is) refl
-data_read f width height area writtens.Hextile body colors shows =
+data_read f width height area encodings.Hextile body colors shows =
     rw (hextile_content.data_whole f area.w area.h body shows.tiles shows.is) refl
 
 -- and show what was given
-pub data_shown : (f : Format) (area : Area) (e : Written) (body : List ℕ) (colors : List Color) (before : Picture) → Shows e f area.w area.h colors body
-    → (x y : ℕ) → x < area.w → y < area.h → picture_of f (wire_of e) area body before (area.x + x) (area.y + y) ≡ rows_of colors area.w x y
+pub data_shown : (f : Format) (area : Area) (e : Encoding) (body : List ℕ) (colors : List Color) (before : Picture) → Shows e f area.w area.h colors body
+    → (x y : ℕ) → x < area.w → y < area.h → picture_of f e area body before (area.x + x) (area.y + y) ≡ rows_of colors area.w x y
 unfolding raw_picture rre_shown hextile_shown
-data_shown f area writtens.Raw body colors before shows x y across down =
+data_shown f area encodings.Raw body colors before shows x y across down =
     let column : area.x + x - area.x ≡ x = omega arith in
     let row : area.y + y - area.y ≡ y = omega arith in
     rw (column, row) (shows.picture x y across down)
-data_shown f area writtens.Rre body colors before shows x y across down =
+data_shown f area encodings.CopyRect body colors before shows x y across down = absurd shows
+data_shown f area encodings.Rre body colors before shows x y across down =
     let column : area.x + x - area.x ≡ x = omega arith in
     let row : area.y + y - area.y ≡ y = omega arith in
     rw (rre_content.data_whole f area.w area.h body shows.content shows.is, column, row) (shows.picture x y across down)
-data_shown f area writtens.Hextile body colors before shows x y across down =
+data_shown f area encodings.Hextile body colors before shows x y across down =
     let column : area.x + x - area.x ≡ x = omega arith in
     let row : area.y + y - area.y ≡ y = omega arith in
     rw (hextile_content.data_whole f area.w area.h body shows.tiles shows.is, column, row) (shows.picture x y across down)
@@ -64,8 +63,8 @@ place_in area x y across down = rw (
   lt-ltb (area.y + y) (area.y + area.h) (omega arith),
 ) refl
 
-pub has_colors : (f : Format) (area : Area) (e : Written) (body : List ℕ) (colors : List Color) (before : Picture) → Shows e f area.w area.h colors body
-    → HasColors area colors before (painted_data f (wire_of e) area body before)
+pub has_colors : (f : Format) (area : Area) (e : Encoding) (body : List ℕ) (colors : List Color) (before : Picture) → Shows e f area.w area.h colors body
+    → HasColors area colors before (painted_data f e area body before)
 unfolding painted_data
 has_colors f area e body colors before shows = record {
   here = λ x y across down. rw (place_in area x y across down) (data_shown f area e body colors before shows x y across down);
@@ -92,46 +91,47 @@ rectangle_read f width height area number e body inside is whole =
     let kept : take (length body - 0) body ≡ body = take_all (length body - 0) body (omega arith) in
     rw (head, area_back area number, inside, number_back area number, is, whole, kept) refl
 
-encoding_is : (e : Written) → encoding_of (number_of e) ≡ Some (wire_of e)
-encoding_is writtens.Raw = refl
-encoding_is writtens.Rre = refl
-encoding_is writtens.Hextile = refl
+encoding_is : (e : Encoding) → encoding_of (number_of e) ≡ Some e
+encoding_is encodings.Raw = refl
+encoding_is encodings.CopyRect = refl
+encoding_is encodings.Rre = refl
+encoding_is encodings.Hextile = refl
 
 inside_is : (width height : ℕ) (area : Area) → LiesWithin width height area → is_inside width height area ≡ true
 unfolding is_inside
 inside_is width height area is = rw (le-leb (area.x + area.w) width is.columns, le-leb (area.y + area.h) height is.rows) refl
 
 -- an update that was written is read as its one rectangle
-update_read : (f : Format) (width height : ℕ) (area : Area) (colors : List Color) (e : Written) (bytes : List ℕ) → LiesWithin width height area → (u : IsUpdate f area colors e bytes)
-    → update_at f width height bytes ≡ Got (record { area = area; encoding = wire_of e; content = u.body } ∷ []) []
+update_read : (f : Format) (width height : ℕ) (area : Area) (colors : List Color) (e : Encoding) (bytes : List ℕ) → LiesWithin width height area → (u : IsUpdate f area colors e bytes)
+    → update_at f width height bytes ≡ Got (record { area = area; encoding = e; content = u.body } ∷ []) []
 unfolding update_at rectangles_at
 update_read f width height area colors e bytes inside u =
     let rest : List ℕ = rectangle_head area (number_of e) ++ u.body in
     let head = field-whole {E = WireFault} 4 (0 ∷ 0 ∷ 0 ∷ 1 ∷ []) rest refl in
-    let one = rectangle_read f width height area (number_of e) (wire_of e) u.body (inside_is width height area inside) (encoding_is e) (data_read f width height area e u.body colors u.shows) in
+    let one = rectangle_read f width height area (number_of e) e u.body (inside_is width height area inside) (encoding_is e) (data_read f width height area e u.body colors u.shows) in
     ap (update_at f width height) u.bytes_are ∙ rw (head, one) refl
 
-pub draws_colors : (f : Format) (width height : ℕ) (area : Area) (colors : List Color) (e : Written) (bytes : List ℕ) → LiesWithin width height area → IsUpdate f area colors e bytes
+pub draws_colors : (f : Format) (width height : ℕ) (area : Area) (colors : List Color) (e : Encoding) (bytes : List ℕ) → LiesWithin width height area → IsUpdate f area colors e bytes
     → DrawsColors f width height area colors bytes
 draws_colors f width height area colors e bytes inside u = record {
-  drawn = record { area = area; encoding = wire_of e; content = u.body };
+  drawn = record { area = area; encoding = e; content = u.body };
   area_is = refl;
   reads = update_read f width height area colors e bytes inside u;
   paints = λ before. has_colors f area e u.body colors before u.shows;
 }
 
 -- an update in Raw is one for who asked for any encoding
-pub raw_for : (f : Format) (area : Area) (colors : List Color) (asked : Written) (old new : List ℕ) → Appends (IsUpdate f area colors writtens.Raw) old new
+pub raw_for : (f : Format) (area : Area) (colors : List Color) (asked : Encoding) (old new : List ℕ) → Appends (IsUpdate f area colors encodings.Raw) old new
     → Appends (IsUpdateFor f area colors asked) old new
 raw_for f area colors asked old new a =
     let u = a.are in
     record {
       bytes = a.bytes;
-      is = a.is;
       are = record {
-        encoding = writtens.Raw;
+        encoding = encodings.Raw;
         encoding_is = inr refl;
         is = u;
-        short = omega (arith, ap length u.bytes_are, length-append (update_head area writtens.Raw) u.body, u.shows.size);
+        short = omega (arith, ap length u.bytes_are, length-append (update_head area encodings.Raw) u.body, u.shows.size);
       };
+      is = a.is;
     }

@@ -1,27 +1,21 @@
--- The encodings that updates are written in, and how a viewer's list asks for one.
-use Rattle.std.specs.Prelude.{◌≡◌, ℕ, ℤ, pos, All, List, ◌∷◌, ◌++◌}
-use Rattle.rect_data.specs.declared.encoding.Encoding.{Encoding as WireEncoding}
-use Rattle.rect_data.specs.declared.encoding.Encoding.TheVariants as wires
-use Rattle.rect_data.specs.Data.{number_of as wire_number}
-use Rattle.rect_codec.specs.declared.encoding.Encoding.{Encoding}
-use Rattle.rect_codec.specs.declared.encoding.Encoding.TheVariants as encodings
+-- Which encodings updates are written in, and how a viewer's list asks for one.
+use Rattle.std.specs.Prelude.{◌≡◌, ℤ, pos, All, List, ◌∷◌, ◌++◌}
+use Rattle.rect_data.specs.declared.encoding.Encoding.{Encoding}
+use Rattle.rect_data.specs.declared.encoding.Encoding.TheVariants as encodings
+use Rattle.rect_data.specs.Data.{number_of}
 
--- as one of the encodings of a rectangle that is read
-abbrev pub wire_of : Encoding → WireEncoding
-wire_of encodings.Raw = wires.Raw
-wire_of encodings.Rre = wires.Rre
-wire_of encodings.Hextile = wires.Hextile
-
--- the number by which a rectangle's header names an encoding (RFC 6143, section 7.7)
-abbrev pub number_of : Encoding → ℕ
-number_of encoding = wire_number (wire_of encoding)
+-- one whose data say by themselves what stands at each place: any but CopyRect (RFC 6143, section
+-- 7.7.2)
+abbrev pub IsWritten : Encoding → Type 0
+IsWritten encoding = encoding ≡ encodings.CopyRect → ⊥
 
 -- the number is that of none of them
 abbrev pub IsOther : ℤ → Type 0
-IsOther number = (encoding : Encoding) → number ≡ pos (number_of encoding) → ⊥
+IsOther number = (encoding : Encoding) → IsWritten encoding → number ≡ pos (number_of encoding) → ⊥
 
 -- the encoding's number stands in the list, and none of theirs before it
 pub record StandsFirst (numbers : List ℤ) (encoding : Encoding) : Type 0 where
+  pub written : IsWritten encoding
   pub before : List ℤ
   pub behind : List ℤ
   pub numbers_are : numbers ≡ before ++ pos (number_of encoding) ∷ behind

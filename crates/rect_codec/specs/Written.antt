@@ -9,9 +9,9 @@ use Rattle.client_wire.specs.declared.message.Area.{Area}
 use Rattle.client_wire.specs.Written.{one_rectangle_head}
 use Rattle.rre.specs.Encoded as rre
 use Rattle.hextile.specs.Encoded as hextile
-use Rattle.rect_codec.specs.declared.encoding.Encoding.{Encoding}
-use Rattle.rect_codec.specs.declared.encoding.Encoding.TheVariants as encodings
-use Rattle.rect_codec.specs.Encoding.{number_of}
+use Rattle.rect_data.specs.declared.encoding.Encoding.{Encoding}
+use Rattle.rect_data.specs.declared.encoding.Encoding.TheVariants as encodings
+use Rattle.rect_data.specs.Data.{number_of}
 use Rattle.rect_codec.specs.Picture.{pixel_at}
 
 -- the pixel of a colour, as it is written
@@ -31,9 +31,10 @@ pub record ShowsRaw (f : Format) (w h : ℕ) (colors : List Color) (bytes : List
   pub picture : Agree w h (pixel_rows f w bytes) (rows_of colors w)
 
 -- the data of a rectangle of w by h that show these colours, by rows (sections 7.7.1, 7.7.3 and
--- 7.7.4)
+-- 7.7.4); those of CopyRect show none, but name places of a screen
 abbrev pub Shows : Encoding → Format → ℕ → ℕ → List Color → List ℕ → Type 0
 Shows encodings.Raw f w h colors bytes = ShowsRaw f w h colors bytes
+Shows encodings.CopyRect f w h colors bytes = ⊥
 Shows encodings.Rre f w h colors bytes = rre.Shows f w h colors bytes
 Shows encodings.Hextile f w h colors bytes = hextile.Shows f w h colors bytes
 

@@ -5,9 +5,9 @@ ghost use Rattle.pixel_format.specs.declared.Color.{Color};
 ghost use Rattle.pixel_format.specs.Format.{Format};
 ghost use Rattle.client_wire.specs.declared.message.Area.{Area};
 ghost use Rattle.rect_data.specs.Data.{LiesWithin};
-ghost use Rattle.rect_codec.specs.declared.encoding.Encoding.{Encoding};
-ghost use Rattle.rect_codec.specs.Written.{IsUpdateFor};
+ghost use Rattle.rect_data.specs.declared.encoding.Encoding.{Encoding};
 ghost use Rattle.rect_codec.specs.Update.{DrawsColors};
+ghost use Rattle.rect_codec.specs.Written.{IsUpdateFor};
 
 /// What `write_update` appends is read whole, in its format and on any screen that holds the area,
 /// as one rectangle of that area. Painted over any picture, it gives the places of the area the

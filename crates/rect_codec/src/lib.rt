@@ -7,6 +7,6 @@ mod laws;
 mod pixels;
 mod update;
 
-pub use encoding::{Encoding, pick};
+pub use encoding::pick;
 pub use laws::written_update_is_read;
 pub use update::write_update;

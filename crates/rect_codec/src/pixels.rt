@@ -51,9 +51,9 @@ fn put_of_size(format: &PixelFormat, size: usize, colors: &[Color], pixels: &mut
 // vectors.
 #[inline(always)]
 fn put_in_eights(format: &PixelFormat, size: usize, colors: &[Color], pixels: &mut [u8])
-    requires bytes { size ≡ pixel_bytes format.now }
-    requires size { length pixels.old ≡ length colors.now * pixel_bytes format.now }
     requires within { All (IsWithin format.now) colors.now }
+    requires size { length pixels.old ≡ length colors.now * pixel_bytes format.now }
+    requires bytes { size ≡ pixel_bytes format.now }
     ensures { (k : ℕ) → k < length colors.now → IsPixelOf format.now (nth colors.now k) (pixel_at format.now pixels.new k) }
 {
     for k in 0..colors.len() / TOGETHER {

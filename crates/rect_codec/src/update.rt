@@ -5,24 +5,25 @@ ghost use Rattle.pixel_format.specs.Pixel.{IsWithin};
 ghost use Rattle.pixel_format.specs.Appending.{Appends};
 ghost use Rattle.rect_codec.specs.Written.{Shows, IsUpdate, IsUpdateFor};
 
-use crate::encoding::Encoding;
 use crate::pixels::append_pixels;
 use client_wire::{Area, write_update_head};
 use pixel_format::{Color, NoMemory, PixelFormat};
+use rect_data::Encoding;
 use std::alloc::Global;
 
 // How many bytes an update of one rectangle has before the rectangle's data.
 const HEAD_SIZE: usize = 16;
 
 // Appends the data of a rectangle, and answers whether they are there: RRE's are where they have
-// fewer bytes than the limit. Where they aren't, `out` stays as it was.
+// fewer bytes than the limit, CopyRect's never, since they show no colours. Where they aren't, `out`
+// stays as it was.
 fn append_data(
     alloc: Global,
+    encoding: Encoding,
+    limit: usize,
     format: &PixelFormat,
     area: Area,
     colors: &[Color],
-    encoding: Encoding,
-    limit: usize,
     out: &mut Vec<u8>,
 ) -> Result<bool, NoMemory>
     requires size { length colors.now ≡ area.h * area.w }
@@ -35,6 +36,7 @@ fn append_data(
 {
     match encoding {
         Encoding::Raw => append_pixels(format, colors, out)?,
+        Encoding::CopyRect => return Ok(false),
         Encoding::Rre => {
             return rre::encode_below(alloc, format, area.w, area.h, colors, limit, out);
         }
@@ -44,8 +46,8 @@ fn append_data(
 }
 
 // Appends an update in this encoding, and answers whether it is there: in RRE it is where its data
-// have fewer bytes than the limit, in the others whatever its length. Where it isn't, `out` stays as
-// it was.
+// have fewer bytes than the limit, in CopyRect never, in Raw and Hextile whatever its length. Where
+// it isn't, `out` stays as it was.
 fn append_update(
     alloc: Global,
     format: &PixelFormat,
@@ -55,17 +57,17 @@ fn append_update(
     limit: usize,
     out: &mut Vec<u8>,
 ) -> Result<bool, NoMemory>
-    requires size { length colors.now ≡ area.h * area.w }
     requires within { All (IsWithin format.now) colors.now }
+    requires size { length colors.now ≡ area.h * area.w }
+    ensures unchanged { IfOk result (λ whole. whole ≡ false → out.new.items ≡ out.old.items) }
     ensures ok { IfOk result (λ whole. whole ≡ true
         → Appends (IsUpdate format.now area colors.now encoding) out.old.items out.new.items) }
-    ensures unchanged { IfOk result (λ whole. whole ≡ false → out.new.items ≡ out.old.items) }
     ensures raw { IfOk result (λ whole. encoding ≡ Encoding.Raw → whole ≡ true) }
     ensures err { OnErr result (out.new.items ≡ out.old.items) }
 {
     let start = out.len();
     write_update_head(area, encoding.number(), out)?;
-    let written = append_data(alloc, format, area, colors, encoding, limit, out);
+    let written = append_data(alloc, encoding, limit, format, area, colors, out);
     if let Ok(true) = written {
         return Ok(true);
     }
@@ -76,8 +78,8 @@ fn append_update(
 /// Appends a FramebufferUpdate of one rectangle (RFC 6143, section 7.6.1) that gives the places of
 /// its area these colours, by rows from the top and each from the left, in a format to whose maxima
 /// they keep. It is written in the encoding that is asked for where that makes it shorter than Raw,
-/// and else in Raw: so it never has more bytes than 16 and a pixel for each place. Want of memory
-/// leaves `out` as it was.
+/// and else, as for CopyRect, in Raw: so it never has more bytes than 16 and a pixel for each place.
+/// Want of memory leaves `out` as it was.
 pub fn write_update(
     alloc: Global,
     format: &PixelFormat,

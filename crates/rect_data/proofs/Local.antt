@@ -38,12 +38,12 @@ refused_rre : (f : Format) (w h : ℕ) (bytes more : List ℕ) → rre_data.IsRe
 refused_rre f w h bytes more is = record {
   head = is.head;
   pixel = is.pixel;
-  count = is.count;
+  more = is.more ++ more;
   earlier = is.earlier;
   body = is.body;
-  outside = is.outside;
   field = is.field;
-  more = is.more ++ more;
+  count = is.count;
+  outside = is.outside;
   bytes_are =
       ap (λ z. z ++ more) is.bytes_are ∙ append_assoc is.head (is.body ++ (is.field ++ is.more)) more
       ∙ ap (λ z. is.head ++ z) (append_assoc is.body (is.field ++ is.more) more)

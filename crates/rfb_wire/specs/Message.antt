@@ -36,8 +36,8 @@ pub record IsUpdate (width height : ℕ) (bytes : List ℕ) (rs : List Rectangle
   pub high : ℕ
   pub low : ℕ
   pub body : List ℕ
-  pub bytes_are : bytes ≡ 0 ∷ padding ∷ high ∷ low ∷ body
   pub count_is : length rs ≡ 256 * high + low
+  pub bytes_are : bytes ≡ 0 ∷ padding ∷ high ∷ low ∷ body
   pub body_is : AreRectangles width height 4 rs body
 
 -- Bell: type 2 alone (section 7.6.3)

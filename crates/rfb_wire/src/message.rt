@@ -37,10 +37,10 @@ impl Model for HostMessage {
     ghost Value = { Host };
 
     ghost view = { λ m. record {
-      width = m.width;
-      height = m.height;
       bytes = m.bytes.items;
       rectangles = m.rectangles.items;
+      width = m.width;
+      height = m.height;
     } };
 
     ghost invariant = { λ m. IsRecorded message_limit (record {

@@ -186,12 +186,12 @@ impl Progress {
     ) -> Result<(usize, Ending), WireFault>
         requires field { IsInField message_limit width height self.old }
         requires some { 0 < length piece.now }
+        ensures goes { IfOk result (λ x. After message_limit width height self.new.bytes.items self.new x.1) }
+        ensures faults { IfErr result (λ f. UnlessMemory f (message_at message_limit width height (self.old.bytes.items ++ piece.now) ≡ Bad f)) }
         ensures taken { IfOk result (λ x. (0 < x.0) × (x.0 ≤ length piece.now)) }
         ensures bytes { IfOk result (λ x. self.new.bytes.items ≡ self.old.bytes.items ++ take x.0 piece.now) }
         ensures over { OnOk result (self.new.over ≡ self.old.over) }
         ensures short { OnOk result (length self.new.bytes.items ≤ message_limit) }
-        ensures goes { IfOk result (λ x. After message_limit width height self.new.bytes.items self.new x.1) }
-        ensures faults { IfErr result (λ f. UnlessMemory f (message_at message_limit width height (self.old.bytes.items ++ piece.now) ≡ Bad f)) }
     {
         let taken = take(&mut self.bytes, self.end, piece)?;
         if self.bytes.len() < self.end {
@@ -313,10 +313,10 @@ impl Progress {
     // The message is given once it is whole.
     fn turn(
         &mut self,
+        piece: &[u8],
         alloc: Global,
         width: u16,
         height: u16,
-        piece: &[u8],
         out: &mut Vec<HostMessage>,
     ) -> Result<usize, WireFault>
         requires at { IsAt message_limit width height self.old }
@@ -363,7 +363,7 @@ impl Progress {
     {
         let mut rest = piece;
         while !rest.is_empty() {
-            let taken = self.turn(alloc, width, height, rest, out)?;
+            let taken = self.turn(rest, alloc, width, height, out)?;
             rest = &rest[taken..];
         }
         Ok(())

@@ -1,10 +1,10 @@
 //! The reader of a host's stream.
 
 ghost use Rattle.std.specs.Prelude.{◌≡◌, ◌+◌, ℕ, List, [], ◌++◌, length, Option, Some, None, Ok, Err, OnOk, IfErr, OnErr};
+ghost use Rattle.rfb_wire.specs.Reader.{IsShort};
 ghost use Rattle.client_wire.specs.declared.fault.WireFault.{WireFault};
 ghost use Rattle.client_wire.specs.Stream.{StandsFor, Goes, Stops, FaultOf, Grows};
 ghost use Rattle.rfb_wire.specs.Grammar.{message_at, message_limit};
-ghost use Rattle.rfb_wire.specs.Reader.{IsShort};
 ghost use Rattle.rfb_wire.specs.Stream.{given};
 
 use crate::message::HostMessage;

@@ -135,10 +135,10 @@ fn next_text(count: u32) -> Next
 // Behind the head of a cut text.
 fn behind_text_head(field: &[u8]) -> Step
     requires { length field.now ≡ 7 }
+    ensures kind { (bytes : List ℕ) → NextIsOfKind result.next bytes }
+    ensures begins { NextBegins 8 result.next }
     ensures goes { (width height : ℕ) → (more : List ℕ)
         → resume width height Stage.TextHead (field.now ++ more) ≡ step_on width height result more }
-    ensures begins { NextBegins 8 result.next }
-    ensures kind { (bytes : List ℕ) → NextIsOfKind result.next bytes }
 {
     let count = u32::from_be_bytes([field[3], field[4], field[5], field[6]]);
     Step {
@@ -210,11 +210,11 @@ fn next_data(at: usize, begun: Begun, next: Option<Judging>, others: u16) -> Ste
 fn behind_content(
     width: u16,
     height: u16,
+    field: &[u8],
     at: usize,
     begun: Begun,
     current: Judging,
     others: u16,
-    field: &[u8],
 ) -> Result<Step, WireFault>
     requires whole { length field.now ≡ judging.wants_of host_format current }
     requires short { at + length field.now ≤ message_limit }
@@ -313,6 +313,6 @@ pub fn step(width: u16, height: u16, stage: Stage, field: &[u8]) -> Result<Step,
             begun,
             next,
             others,
-        } => behind_content(width, height, at, begun, next, others, field),
+        } => behind_content(width, height, field, at, begun, next, others),
     }
 }

@@ -57,12 +57,12 @@ AreData f w h bytes = (content : Content) × IsData f w h bytes content
 pub record IsRefused (f : Format) (w h : ℕ) (bytes : List ℕ) : Type 0 where
   pub head : List ℕ
   pub pixel : List ℕ
-  pub count : ℕ
   pub earlier : List Subrectangle
   pub body : List ℕ
-  pub outside : Subrectangle
   pub field : List ℕ
   pub more : List ℕ
+  pub count : ℕ
+  pub outside : Subrectangle
   pub bytes_are : bytes ≡ head ++ (body ++ (field ++ more))
   pub head_is : IsHead f head count pixel
   pub body_is : AreSubrectangles f w h earlier body

@@ -30,18 +30,18 @@ fn background_color(
 // aren't, and for want of memory, `bytes` stays as it was.
 fn append_few(
     alloc: Global,
-    format: &PixelFormat,
     w: u16,
     h: u16,
-    colors: &[Color],
     most: usize,
+    format: &PixelFormat,
+    colors: &[Color],
     bytes: &mut Vec<u8>,
 ) -> Result<bool, NoMemory>
-    requires size { length colors.now ≡ h * w }
     requires within { All (IsWithin format.now) colors.now }
-    ensures ok { IfOk result (λ whole. whole ≡ true → Appends (Shows format.now w h colors.now) bytes.old.items bytes.new.items) }
-    ensures unchanged { IfOk result (λ whole. whole ≡ false → bytes.new.items ≡ bytes.old.items) }
+    requires size { length colors.now ≡ h * w }
     ensures many { IfOk result (λ whole. whole ≡ false → most < h * w) }
+    ensures unchanged { IfOk result (λ whole. whole ≡ false → bytes.new.items ≡ bytes.old.items) }
+    ensures ok { IfOk result (λ whole. whole ≡ true → Appends (Shows format.now w h colors.now) bytes.old.items bytes.new.items) }
     ensures err { OnErr result (bytes.new.items ≡ bytes.old.items) }
 {
     let background = background_color(alloc, format, colors)?;
@@ -76,7 +76,7 @@ pub fn encode(
     ensures err { OnErr result (bytes.new.items ≡ bytes.old.items) }
 {
     let most = h as usize * w as usize;
-    let whole = append_few(alloc, format, w, h, colors, most, bytes)?;
+    let whole = append_few(alloc, w, h, most, format, colors, bytes)?;
     prove!(whole);
     Ok(())
 }
@@ -102,7 +102,7 @@ pub fn encode_below(
 {
     let before = bytes.len();
     let most = limit / (format.bytes() + 8);
-    let whole = append_few(alloc, format, w, h, colors, most, bytes)?;
+    let whole = append_few(alloc, w, h, most, format, colors, bytes)?;
     if bytes.len() < before.saturating_add(limit) {
         return Ok(whole);
     }

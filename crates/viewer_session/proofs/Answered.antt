@@ -84,9 +84,9 @@ sent v area colors before after are has x y e =
     let place = in_is area x y e in
     let l = place.left in
     let r = place.right in
+    let column : area.x + (x - area.x) ≡ x = omega arith in
     let t = place.top in
     let u = place.bottom in
-    let column : area.x + (x - area.x) ≡ x = omega arith in
     let row : area.y + (y - area.y) ≡ y = omega arith in
     ap (λ (n : ℕ). after n y) (sym column) ∙ ap (λ (n : ℕ). after (area.x + (x - area.x)) n) (sym row)
     ∙ has.here (x - area.x) (y - area.y) (omega arith) (omega arith)

@@ -8,7 +8,7 @@ use Rattle.replay.specs.Screens.{IsScreenAt}
 use Rattle.client_wire.specs.declared.message.Area.{Area}
 use Rattle.client_wire.specs.declared.message.ClientMessage.{ClientMessage}
 use Rattle.rect_codec.specs.Picture.{is_in}
-use Rattle.rect_codec.specs.declared.encoding.Encoding.{Encoding}
+use Rattle.rect_data.specs.declared.encoding.Encoding.{Encoding}
 use Rattle.gated_journal.specs.Recording.{Head}
 use Rattle.keyed_entries.specs.declared.entry.Stamped.{Stamped}
 use Rattle.painter.proofs.Places.{in_is, is_in_true}

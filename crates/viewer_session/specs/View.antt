@@ -10,7 +10,7 @@ use Rattle.client_wire.specs.declared.message.Area.{Area}
 use Rattle.client_wire.specs.declared.message.ClientMessage.{ClientMessage}
 use Rattle.client_wire.specs.declared.message.ClientMessage.TheVariants as messages
 use Rattle.rect_data.specs.Data.{LiesWithin}
-use Rattle.rect_codec.specs.declared.encoding.Encoding.TheVariants as encodings
+use Rattle.rect_data.specs.declared.encoding.Encoding.TheVariants as encodings
 use Rattle.rect_codec.specs.Encoding.{StandsFirst, IsOther}
 use Rattle.rect_codec.specs.Picture.{is_in}
 use Rattle.rect_codec.specs.Update.{Drawn, update_at, all_painted}

@@ -17,7 +17,7 @@ use crate::progress::Progress;
 use crate::view::{View, take_all};
 use flusher_core::Slice;
 use pixel_format::NoMemory;
-use rect_codec::Encoding;
+use rect_data::Encoding;
 use std::alloc::Global;
 use std::marker::Model;
 
@@ -135,12 +135,12 @@ impl Session {
         ensures stopped { IfErr result (λ f. self.new.fault ≡ Some f) }
         ensures for_good { (f : SessionFault) → self.old.fault ≡ Some f
             → (result ≡ Err f) × (self.new ≡ self.old) }
-        ensures right { (head : Head) → (seen : Picture) → (list : List Stamped)
-            → IsRight head self.old.view seen list → IsRight head self.new.view seen list }
-        ensures screen { self.new.view.screen ≡ self.old.view.screen }
         ensures position { self.new.view.position ≡ self.old.view.position }
+        ensures screen { self.new.view.screen ≡ self.old.view.screen }
         ensures told { (self.new.width ≡ self.old.width) × (self.new.height ≡ self.old.height)
             × (self.new.name ≡ self.old.name) }
+        ensures right { (head : Head) → (seen : Picture) → (list : List Stamped)
+            → IsRight head self.old.view seen list → IsRight head self.new.view seen list }
     {
         if let Some(fault) = self.fault {
             return Err(fault);

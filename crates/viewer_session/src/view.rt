@@ -22,7 +22,8 @@ use flusher_core::Slice;
 use key_index::Stamped;
 use painter::Screen;
 use pixel_format::{Color, NoMemory, PixelFormat};
-use rect_codec::{Encoding, pick, write_update, written_update_is_read};
+use rect_codec::{pick, write_update, written_update_is_read};
+use rect_data::Encoding;
 use rfb_wire::Rectangle;
 use std::alloc::Global;
 

@@ -9,7 +9,8 @@ use crate::tests::samples::{EIGHT, GREEN, RED, SIXTEEN, WHITE, area, below, conv
 use client_wire::Area;
 use hextile::Measure;
 use pixel_format::{Canvas, Color, NoMemory, PixelFormat};
-use rect_codec::{Encoding, pick, write_update};
+use rect_codec::{pick, write_update};
+use rect_data::Encoding;
 use std::alloc::Global;
 use std::test::Fail;
 

@@ -1,7 +1,7 @@
 use Rattle.std.proofs.Common.{subst}
 use Rattle.pixel_format.specs.Format.{Format}
 use Rattle.pixel_format.specs.Appending.{Appends}
-use Rattle.rect_codec.specs.declared.encoding.Encoding.TheVariants as encodings
+use Rattle.rect_data.specs.declared.encoding.Encoding.TheVariants as encodings
 use Rattle.rect_codec.specs.Written.{IsUpdateFor}
 use Rattle.painter.specs.Key.{whole_area}
 use Rattle.painter.proofs.Keys.{key_made}
