@@ -44,6 +44,10 @@ pub trait HostSource<T>: Drop {
 pub trait ReceiptSink<T>: Drop {
     /// Takes the receipt of what was committed.
     fn receipt(&mut self, receipt: T);
+
+    /// Takes word that memory is wanting, so that nothing was taken; it is tried again a little
+    /// later.
+    fn shortage(&mut self) {}
 }
 
 /// What a viewer wants next.
@@ -51,7 +55,7 @@ pub trait ReceiptSink<T>: Drop {
 pub enum Turn {
     /// The messages behind its position, so many at most.
     Want(u32),
-    /// To wait until there are some, the host has ended, or the viewer has left.
+    /// To wait until there are some, host and flusher have ended, or the viewer has left.
     Wait,
     /// To go on behind the first so many messages.
     Seek(u64),
@@ -60,8 +64,8 @@ pub enum Turn {
 }
 
 /// What takes a viewer's receipts. Each is of the sink's size, and has a start or begins where the
-/// sink stands.
-pub trait ViewerSink<T>: Drop {
+/// sink stands. An ending says that it has all.
+pub trait ViewerSink<T, E>: Drop {
     ghost use Rattle.std.specs.Prelude.{ℕ};
     ghost use Rattle.flusher_core.specs.declared.slice.Slice.{Slice};
 
@@ -72,6 +76,8 @@ pub trait ViewerSink<T>: Drop {
     ghost position: { Self → ℕ };
 
     ghost slice_of: { T → Slice };
+
+    ghost count_of: { E → ℕ };
 
     /// Whether the viewer has gone, so that nothing is waited for any more. It is asked under the
     /// lock, and so waits for nobody; who makes it true calls `wake` of [`Shared`](crate::Shared).
@@ -91,4 +97,19 @@ pub trait ViewerSink<T>: Drop {
         requires room { (slice_of receipt).first + length (slice_of receipt).messages.items < 2 ^ 64 }
         ensures same { (width self.new ≡ width self.old) × (height self.new ≡ height self.old) }
         ensures moved { position self.new ≡ (slice_of receipt).first + length (slice_of receipt).messages.items };
+
+    /// Takes word that it was handed all: host and flusher have ended, and it stands behind the last
+    /// committed message. It is told so at each `Wait` there, which doesn't sleep: a sink that stays
+    /// waits for its viewer by itself.
+    fn end(&mut self, ending: E)
+        requires { count_of ending ≡ position self.old }
+        ensures same { (width self.new ≡ width self.old) × (height self.new ≡ height self.old) }
+        ensures stays { position self.new ≡ position self.old };
+
+    /// Takes word that memory is wanting, so that nothing is handed to it; it is asked again a
+    /// little later.
+    fn shortage(&mut self)
+        ensures same { (width self.new ≡ width self.old) × (height self.new ≡ height self.old) }
+        ensures stays { position self.new ≡ position self.old }
+    {}
 }

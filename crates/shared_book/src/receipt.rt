@@ -1,6 +1,6 @@
-//! Receipts and tickets: what a thread was told, which all know to hold for good.
+//! Receipts, tickets and endings: what a thread was told, which all know to hold for good.
 
-ghost use Rattle.std.specs.Prelude.{◌≡◌};
+ghost use Rattle.std.specs.Prelude.{◌≡◌, length};
 
 use crate::history::Front;
 use crate::mark::Mark;
@@ -64,5 +64,35 @@ impl<M: Mark> Ticket<M> {
         ensures { result ≡ self.now.number }
     {
         self.number
+    }
+}
+
+/// Word that host and flusher have ended. It is made by [`Shared`](crate::Shared) alone, under the
+/// lock, once both have. Contracts see how many messages were committed then, and which: the
+/// recording ends there, unless a thread goes on that said it had ended.
+#[derive(Drop)]
+pub struct Ending<M: Mark> {
+    pub(crate) count: u64,
+    pub(crate) front: Front<M>,
+}
+
+impl<M: Mark> Model for Ending<M> {
+    ghost use Rattle.std.specs.Prelude.{◌≡◌, length};
+    ghost use Rattle.shared_book.specs.Receipts.{Ended};
+
+    ghost Value = { Ended };
+
+    ghost view = { λ e. record { count = e.count; committed = e.front.committed } };
+
+    ghost invariant = { λ e. M.is_modelled → e.count ≡ length e.front.committed };
+}
+
+impl<M: Mark> Ending<M> {
+    /// How many messages were committed.
+    pub fn count(&self) -> u64
+        ensures count { result ≡ self.now.count }
+        ensures committed { M.is_modelled → result ≡ length self.now.committed }
+    {
+        self.count
     }
 }
