@@ -5,11 +5,12 @@ ghost use Rattle.flusher_core.specs.State.{accepted_count};
 
 use super::{UPDATE, confirm, find, new_desk};
 use crate::{
-    Closed, HostSource, Mark, Point, Receipt, ReceiptSink, Shared, Ticket, Token, Turn, Turnstile,
-    ViewerSink, run_flusher, run_host, run_viewer,
+    Closed, Ending, HostSource, Mark, Point, Receipt, ReceiptSink, Shared, Ticket, Token, Turn,
+    Turnstile, ViewerSink, run_flusher, run_host, run_viewer,
 };
 use broadcast::{Desk, Start};
 use disk::{Disk, MemoryDisk};
+use flusher_core::HostRefusal;
 use gated_journal::NoMemory;
 use rfb_wire::HostMessage;
 use std::alloc::Global;
@@ -21,26 +22,41 @@ use std::test::Fail;
 use std::thread::{self, Threads, join, map_indices};
 use std::time::{Clock, Duration};
 
-/// Holds a viewer's first sending of a message until two messages are accepted, and the host's
-/// second message until that sending has begun. Who holds longer than 10,000 turns goes on, and is
-/// counted. It is also told where memory was wanting, so that nobody waits for what won't come.
+/// How the workers come one after another.
+#[derive(Clone, Copy, PartialEq, Eq)]
+enum Order {
+    /// All beside each other.
+    Free,
+    /// A viewer's first sending of a message is held until two messages are accepted, and the
+    /// host's second message until that sending has begun.
+    Meeting,
+    /// The flusher begins once the host has ended and a viewer waits.
+    HostFirst,
+    /// The flusher has ended before the host begins.
+    NoFlusher,
+}
+
+/// Holds workers. Who is held longer than 10,000 turns goes on, and is counted. It is also told
+/// where memory was wanting, so that nobody waits for what won't come.
 #[derive(Drop)]
 struct Gates<'a, R: Clock> {
     rt: &'a R,
-    are_open: bool,
+    order: Order,
     accepted: AtomicU64,
     sending: AtomicU64,
+    waiting: AtomicU64,
     missed: AtomicU64,
     lacked: AtomicBool,
 }
 
 impl<'a, R: Clock> Gates<'a, R> {
-    fn new(rt: &'a R, are_open: bool) -> Gates<'a, R> {
+    fn new(rt: &'a R, order: Order) -> Gates<'a, R> {
         Gates {
             rt,
-            are_open,
+            order,
             accepted: AtomicU64::new(0),
             sending: AtomicU64::new(0),
+            waiting: AtomicU64::new(0),
             missed: AtomicU64::new(0),
             lacked: AtomicBool::new(false),
         }
@@ -50,12 +66,21 @@ impl<'a, R: Clock> Gates<'a, R> {
         self.lacked.store(true, Ordering::SeqCst);
     }
 
-    fn hold_until(&self, count: &AtomicU64, least: u64) {
-        if self.are_open {
+    fn has_lacked(&self) -> bool {
+        self.lacked.load(Ordering::SeqCst)
+    }
+
+    // Whether nobody was held for too long; nor is anybody to blame for it who lacked memory.
+    fn were_passed(&self) -> bool {
+        self.missed.load(Ordering::SeqCst) == 0 || self.has_lacked()
+    }
+
+    fn hold_until(&self, order: Order, count: &AtomicU64, least: u64) {
+        if self.order != order {
             return;
         }
         for _ in 0..10_000 {
-            if count.load(Ordering::SeqCst) >= least || self.lacked.load(Ordering::SeqCst) {
+            if count.load(Ordering::SeqCst) >= least || self.has_lacked() {
                 return;
             }
             let _ = thread::sleep(self.rt, Duration::from_millis(1));
@@ -73,7 +98,7 @@ impl<'a, R: Clock> Turnstile for Gates<'a, R> {
             Point::Sending { count, .. } => {
                 if count > 0 {
                     self.sending.fetch_add(1, Ordering::SeqCst);
-                    self.hold_until(&self.accepted, 2);
+                    self.hold_until(Order::Meeting, &self.accepted, 2);
                 }
             }
             Point::Committed(_) => {}
@@ -101,7 +126,8 @@ impl<'a, M: Mark, R: Clock> HostSource<Ticket<M>> for Updates<'a, M, R> {
             return None;
         }
         if self.given == 1 {
-            self.gates.hold_until(&self.gates.sending, 1);
+            let sending = &self.gates.sending;
+            self.gates.hold_until(Order::Meeting, sending, 1);
         }
         self.given += 1;
         match HostMessage::from_bytes(self.alloc, 1, 1, &UPDATE) {
@@ -135,18 +161,23 @@ impl<'a, M: Mark, R: Clock> ReceiptSink<Receipt<M>> for Kept<'a, M, R> {
     }
 }
 
-/// A viewer that wants so many messages, and gives up after as many slices without any as its
-/// patience allows.
+/// What a viewer was told.
 #[derive(Drop)]
-struct Viewer<'a, M: Mark, R: Clock> {
-    wanted: u64,
-    position: u64,
-    patience: u32,
-    waits: bool,
-    kept: Kept<'a, M, R>,
+struct Seen<M: Mark> {
+    receipts: Vec<Receipt<M>>,
+    ending: Option<Ending<M>>,
 }
 
-impl<'a, M: Mark, R: Clock> ViewerSink<Receipt<M>> for Viewer<'a, M, R> {
+/// A viewer that waits and takes what there is, until it is told the end.
+#[derive(Drop)]
+struct Viewer<'a, M: Mark, R: Clock> {
+    gates: &'a Gates<'a, R>,
+    position: u64,
+    waits: bool,
+    seen: &'a mut Seen<M>,
+}
+
+impl<'a, M: Mark, R: Clock> ViewerSink<Receipt<M>, Ending<M>> for Viewer<'a, M, R> {
     ghost width = { λ v. 1 };
 
     ghost height = { λ v. 1 };
@@ -155,9 +186,16 @@ impl<'a, M: Mark, R: Clock> ViewerSink<Receipt<M>> for Viewer<'a, M, R> {
 
     ghost slice_of = { λ r. r };
 
+    ghost count_of = { λ e. e.count };
+
+    fn has_left(&self) -> bool {
+        self.gates.waiting.fetch_add(1, Ordering::SeqCst);
+        false
+    }
+
     fn turn(&mut self) -> Turn {
         self.waits = !self.waits;
-        if self.position >= self.wanted || self.patience == 0 {
+        if self.seen.ending.is_some() {
             Turn::Stop
         } else if self.waits {
             Turn::Wait
@@ -168,12 +206,13 @@ impl<'a, M: Mark, R: Clock> ViewerSink<Receipt<M>> for Viewer<'a, M, R> {
 
     fn slice(&mut self, receipt: Receipt<M>) {
         self.position = receipt.slice().end();
-        if receipt.slice().messages.is_empty() {
-            self.patience = self.patience.saturating_sub(1);
+        if self.seen.receipts.push(receipt).is_err() {
+            self.gates.lacks();
         }
-        if !receipt.slice().messages.is_empty() || receipt.slice().start.is_some() {
-            self.kept.receipt(receipt);
-        }
+    }
+
+    fn end(&mut self, ending: Ending<M>) {
+        self.seen.ending = Some(ending);
     }
 }
 
@@ -194,8 +233,9 @@ fn host<D: Disk, M: Mark, R: Wait + Clock>(
         count,
         tickets: &mut tickets,
     };
-    if run_host(rt, shared, source, gates).is_err() {
-        gates.lacks();
+    match run_host(rt, shared, source, gates) {
+        Ok(()) | Err(HostRefusal::Backlog) => {}
+        Err(_) => gates.lacks(),
     }
     tickets
 }
@@ -222,25 +262,23 @@ fn view<D: Disk, M: Mark, R: Wait + Clock>(
     alloc: Global,
     shared: &Shared<D, M>,
     gates: &Gates<R>,
-    wanted: u64,
-) -> Vec<Receipt<M>>
+) -> Seen<M>
     requires { (M.head.width ≡ 1) × (M.head.height ≡ 1) }
 {
-    let mut receipts = Vec::new(alloc);
+    let mut seen = Seen {
+        receipts: Vec::new(alloc),
+        ending: None,
+    };
     let viewer = Viewer {
-        wanted,
+        gates: &*gates,
         position: 0,
-        patience: 100_000,
         waits: false,
-        kept: Kept {
-            gates: &*gates,
-            receipts: &mut receipts,
-        },
+        seen: &mut seen,
     };
     if run_viewer(rt, shared, Start::At(0), viewer, gates).is_err() {
         gates.lacks();
     }
-    receipts
+    seen
 }
 
 /// What the workers were told.
@@ -248,7 +286,7 @@ fn view<D: Disk, M: Mark, R: Wait + Clock>(
 struct Told<M: Mark> {
     tickets: Vec<Ticket<M>>,
     committed: Vec<Receipt<M>>,
-    seen: Vec<Vec<Receipt<M>>>,
+    seen: Vec<Seen<M>>,
 }
 
 fn view_all<D: Disk + Send, M: Mark + Send + Sync, R: Threads + Wait + Clock + Sync>(
@@ -256,22 +294,21 @@ fn view_all<D: Disk + Send, M: Mark + Send + Sync, R: Threads + Wait + Clock + S
     alloc: Global,
     shared: &Shared<D, M>,
     gates: &Gates<R>,
-    count: u64,
     viewers: usize,
-) -> Result<Vec<Vec<Receipt<M>>>, NoMemory>
+) -> Result<Vec<Seen<M>>, NoMemory>
     requires { (M.head.width ≡ 1) × (M.head.height ≡ 1) }
 {
     map_indices(
         rt,
         alloc,
         viewers,
-        &|_| -> Vec<Receipt<M>>
+        &|_| -> Seen<M>
             requires { (M.head.width ≡ 1) × (M.head.height ≡ 1) }
-        { view(rt, alloc, shared, gates, count) },
+        { view(rt, alloc, shared, gates) },
     )
 }
 
-// A host of so many updates and a flusher, each in a thread of its own.
+// A host of so many updates and a flusher, each in a thread of its own where the order allows.
 fn record<D: Disk + Send, M: Mark + Send + Sync, R: Threads + Wait + Clock + Sync>(
     rt: &R,
     alloc: Global,
@@ -281,13 +318,26 @@ fn record<D: Disk + Send, M: Mark + Send + Sync, R: Threads + Wait + Clock + Syn
 ) -> (Vec<Ticket<M>>, Vec<Receipt<M>>)
     requires { (M.head.width ≡ 1) × (M.head.height ≡ 1) }
 {
-    join(
-        rt,
-        move || -> Vec<Ticket<M>>
-            requires { (M.head.width ≡ 1) × (M.head.height ≡ 1) }
-        { host(rt, alloc, shared, gates, count) },
-        move || flush(rt, alloc, shared, gates),
-    )
+    match gates.order {
+        Order::Free | Order::Meeting => join(
+            rt,
+            move || -> Vec<Ticket<M>>
+                requires { (M.head.width ≡ 1) × (M.head.height ≡ 1) }
+            { host(rt, alloc, shared, gates, count) },
+            move || flush(rt, alloc, shared, gates),
+        ),
+        Order::HostFirst => {
+            let tickets = host(rt, alloc, shared, gates, count);
+            gates.waiting.store(0, Ordering::SeqCst);
+            shared.wake(rt);
+            gates.hold_until(Order::HostFirst, &gates.waiting, 1);
+            (tickets, flush(rt, alloc, shared, gates))
+        }
+        Order::NoFlusher => {
+            shared.end_flusher(rt);
+            (host(rt, alloc, shared, gates, count), Vec::new(alloc))
+        }
+    }
 }
 
 // Both, and so many viewers.
@@ -306,9 +356,9 @@ fn work<D: Disk + Send, M: Mark + Send + Sync, R: Threads + Wait + Clock + Sync>
         move || -> (Vec<Ticket<M>>, Vec<Receipt<M>>)
             requires { (M.head.width ≡ 1) × (M.head.height ≡ 1) }
         { record(rt, alloc, shared, gates, count) },
-        move || -> Result<Vec<Vec<Receipt<M>>>, NoMemory>
+        move || -> Result<Vec<Seen<M>>, NoMemory>
             requires { (M.head.width ≡ 1) × (M.head.height ≡ 1) }
-        { view_all(rt, alloc, shared, gates, count, viewers) },
+        { view_all(rt, alloc, shared, gates, viewers) },
     );
     Ok(Told {
         tickets,
@@ -330,8 +380,8 @@ fn are_apart<D: Disk, M: Mark, R: Wait + Abort>(
     }
 }
 
-// All receipts are confirmed, and all tickets found. Where memory was ample, so many messages are
-// committed, and handed to each viewer.
+// All receipts are confirmed, all tickets found, and the recording ended where viewers were told the
+// end. Where memory was ample, so many messages are committed, and handed to each viewer.
 fn settle<D: Disk + Drop, M: Mark, R: Wait + Abort>(
     rt: &R,
     closed: Closed<D, M>,
@@ -342,9 +392,16 @@ fn settle<D: Disk + Drop, M: Mark, R: Wait + Abort>(
     find(rt, &mut closed, &told.tickets)?;
     confirm(rt, &mut closed, &told.committed)?;
     assert!(rt; due.unwrap_or(closed.committed()) == closed.committed());
-    for receipts in &told.seen {
-        let handed = confirm(rt, &mut closed, receipts)?;
+    for seen in &told.seen {
+        let handed = confirm(rt, &mut closed, &seen.receipts)?;
         assert!(rt; due.unwrap_or(handed) == handed);
+        match &seen.ending {
+            Some(ending) => {
+                closed.ended(rt, ending);
+                assert!(rt; ending.count() == closed.committed());
+            }
+            None => assert!(rt; due.is_none()),
+        }
     }
     are_apart(rt, &mut closed, told.tickets);
     Ok(())
@@ -369,13 +426,12 @@ fn share<D: Disk + Send + Drop, M: Mark + Send + Sync, R: Threads + Wait + Clock
 {
     let shared = Shared::<D, M>::new(rt, token, desk);
     let told = work(rt, alloc, &shared, gates, count, viewers)?;
-    let is_ample = !gates.lacked.load(Ordering::SeqCst);
-    settle(
-        rt,
-        shared.finish(),
-        told,
-        if is_ample { Some(count) } else { None },
-    )
+    let due = match gates.order {
+        _ if gates.has_lacked() => None,
+        Order::NoFlusher => Some(0),
+        Order::Free | Order::Meeting | Order::HostFirst => Some(count),
+    };
+    settle(rt, shared.finish(), told, due)
 }
 
 fn shared_by_workers<R: Threads + Wait + Clock + Abort + Sync>(
@@ -392,14 +448,31 @@ fn shared_by_workers<R: Threads + Wait + Clock + Abort + Sync>(
 
 #[test]
 fn the_host_goes_on_while_a_viewer_is_served(rt: HostRuntime) -> Result<(), Fail> {
-    let gates = Gates::new(&rt, false);
+    let gates = Gates::new(&rt, Order::Meeting);
     shared_by_workers(&rt, rt.alloc(), &gates, 2, 1)?;
-    assert!(&rt; gates.missed.load(Ordering::SeqCst) == 0 || gates.lacked.load(Ordering::SeqCst));
+    assert!(&rt; gates.were_passed());
     Ok(())
 }
 
 #[test]
 fn eight_viewers_are_handed_ten_thousand_messages(rt: HostRuntime) -> Result<(), Fail> {
-    let gates = Gates::new(&rt, true);
+    let gates = Gates::new(&rt, Order::Free);
     shared_by_workers(&rt, rt.alloc(), &gates, 10_000, 8)
+}
+
+#[test]
+fn a_viewer_is_told_the_end_behind_the_last_commit(rt: HostRuntime) -> Result<(), Fail> {
+    let gates = Gates::new(&rt, Order::HostFirst);
+    shared_by_workers(&rt, rt.alloc(), &gates, 300, 2)?;
+    assert!(&rt; gates.were_passed());
+    Ok(())
+}
+
+#[test]
+fn a_backlog_that_stays_ends_the_host(rt: HostRuntime) -> Result<(), Fail> {
+    let gates = Gates::new(&rt, Order::NoFlusher);
+    shared_by_workers(&rt, rt.alloc(), &gates, 1_030, 1)?;
+    let accepted = gates.accepted.load(Ordering::SeqCst);
+    assert!(&rt; accepted == 1_024 || gates.has_lacked());
+    Ok(())
 }

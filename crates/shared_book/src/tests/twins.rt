@@ -36,6 +36,8 @@ enum Line {
     Next,
     Seek(u64),
     Leave,
+    Committed,
+    KeyBefore(u64),
 }
 
 /// What a call is answered: a slice by its first number, the colour of its start, and how many
@@ -47,6 +49,7 @@ enum Told {
     Done,
     Seated(u32, u64),
     Handed(u64, Option<Color>, usize),
+    Count(u64),
     Refused(u64),
 }
 
@@ -161,6 +164,8 @@ fn at_desk<D: Disk>(
         Line::Next => Ok(next_at_desk(desk, seats.last_mut().ok_or("no seat")?)),
         Line::Seek(n) => Ok(told_seek(desk.seek(seats.last_mut().ok_or("no seat")?, n))),
         Line::Leave => Ok(told_leave(desk.leave(seats.pop().ok_or("no seat")?))),
+        Line::Committed => Ok(Told::Count(desk.committed())),
+        Line::KeyBefore(n) => Ok(Told::Count(desk.key_before(n))),
     }
 }
 
@@ -252,6 +257,8 @@ fn at_lock<D: Disk, M: Mark, R: Wait>(
             let seat = kept.seats.pop().ok_or("no seat")?;
             Ok(told_leave(shared.leave(rt, seat)))
         }
+        Line::Committed => Ok(Told::Count(shared.committed(rt))),
+        Line::KeyBefore(n) => Ok(Told::Count(shared.key_before(rt, n))),
     }
 }
 
@@ -343,6 +350,28 @@ fn are_twins<R: Wait + Abort>(rt: &R, alloc: Global, lines: &[Line]) -> Result<(
     Err("a fault was met each time".into())
 }
 
+// The replies to so many bells, and then to these lines, through the lock and at a desk.
+fn are_answered<R: Wait + Abort>(
+    rt: &R,
+    alloc: Global,
+    bells: usize,
+    row: &[(Line, Told)],
+) -> Result<(), Fail> {
+    let mut lines = Vec::new(alloc);
+    for _ in 0..bells {
+        lines.push(Line::Bell)?;
+    }
+    for (line, _) in row {
+        lines.push(*line)?;
+    }
+    let replies = lock_replies(rt, alloc, &lines, None)?;
+    assert!(rt; replies.len() == lines.len());
+    for (reply, (_, want)) in replies.iter().skip(bells).zip(row) {
+        assert!(rt; reply == want);
+    }
+    are_twins(rt, alloc, &lines)
+}
+
 /// What is committed on one thread is what seats are handed.
 const ROW: [(Line, Told); 13] = [
     (Line::Update, Told::Accepted(0)),
@@ -358,6 +387,19 @@ const ROW: [(Line, Told); 13] = [
     (Line::Body, Told::Done),
     (Line::Gate, Told::Handed(1, None, 1)),
     (Line::Join(Start::Live), Told::Seated(2, 2)),
+];
+
+/// The second block begins with a key screen.
+const KEYS: [(Line, Told); 9] = [
+    (Line::Take, Told::Taken(0, 256)),
+    (Line::Body, Told::Done),
+    (Line::Gate, Told::Handed(0, None, 256)),
+    (Line::Take, Told::Taken(256, 44)),
+    (Line::Body, Told::Done),
+    (Line::Gate, Told::Handed(256, None, 44)),
+    (Line::Committed, Told::Count(300)),
+    (Line::KeyBefore(255), Told::Count(0)),
+    (Line::KeyBefore(1_000), Told::Count(256)),
 ];
 
 /// A seat that reads between the steps of a commit, and is moved.
@@ -380,17 +422,10 @@ const READING: [Line; 13] = [
 #[test]
 fn a_call_through_the_lock_answers_as_the_desk(rt: HostRuntime) -> Result<(), Fail> {
     let alloc = rt.alloc();
-    let mut lines = Vec::new(alloc);
-    for (line, _) in &ROW {
-        lines.push(*line)?;
-    }
-    let replies = lock_replies(&rt, alloc, &lines, None)?;
-    assert!(&rt; replies.len() == ROW.len());
-    for (reply, (_, want)) in replies.iter().zip(&ROW) {
-        assert!(&rt; reply == want);
-    }
+    are_answered(&rt, alloc, 0, &ROW)?;
+    are_answered(&rt, alloc, 300, &KEYS)?;
     are_twins(&rt, alloc, &READING)?;
-    lines.clear();
+    let mut lines = Vec::new(alloc);
     for _ in 0..1025 {
         lines.push(Line::Bell)?;
     }
