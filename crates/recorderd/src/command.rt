@@ -74,7 +74,7 @@ pub fn command<R, I: Read + Drop, O: Write, E: Write>(
     err: &mut E,
 ) -> u8
 where
-    R: AllocGlobal + Clock + Files<File = File> + Sync + Threads + Wait,
+    R: AllocGlobal + Clock + Eprint + Files<File = File> + Sync + Threads + Wait,
     R: Net<Stream = TcpStream, Listener = TcpListener>,
     ensures { result ≤ 2 }
 {
@@ -89,7 +89,7 @@ where
         Chosen::Check(path) => file_commands::check(rt, path, progress, out, err),
         Chosen::Export(what) => file_commands::export(rt, what, progress, out, err),
         Chosen::FbsCheck(path) => file_commands::fbs_check(rt, path, progress, out, err),
-        Chosen::Serve(plan, address) => serve::serve(rt, plan, address, out, err),
+        Chosen::Serve(plan) => serve::serve(rt, plan, out, err),
         Chosen::Text(text) => print(out, &text),
         Chosen::Bad => {
             return match writeln!(err, "recorderd: bad command line") {

@@ -17,7 +17,7 @@ use std::time::Clock;
 // The exit status of a command line on this input, and what is printed on both outputs.
 fn ran<R>(rt: &R, line: &str, input: &str) -> Result<(u8, String, String), Fail>
 where
-    R: AllocGlobal + Clock + Files<File = File> + Sync + Threads + Wait,
+    R: AllocGlobal + Clock + Eprint + Files<File = File> + Sync + Threads + Wait,
     R: Net<Stream = TcpStream, Listener = TcpListener>,
 {
     let alloc = rt.alloc();

@@ -4,7 +4,7 @@ use broadcast::Start;
 use clap::error::ErrorKind;
 use clap::{Arg, ArgAction, ArgMatches, Command};
 use file_commands::Extract;
-use serve::Plan;
+use serve::{Audience, Plan, Stop};
 use std::alloc::{AllocError, Global};
 use std::io;
 
@@ -16,8 +16,7 @@ pub enum Chosen<'a> {
     Check(&'a str),
     Export(Extract<'a>),
     FbsCheck(&'a str),
-    /// What is to be served, to viewers that connect to this address.
-    Serve(Plan<'a>, &'a str),
+    Serve(Plan<'a>),
     /// Text to be printed: help, or the version.
     Text(String),
     /// The words are no command line.
@@ -80,8 +79,36 @@ fn option<'a>(alloc: Global, name: &'a str, value: &'a str, help: &'a str) -> Ar
         .action(ArgAction::Set)
 }
 
+fn flag<'a>(alloc: Global, name: &'a str, help: &'a str) -> Arg<'a> {
+    Arg::new(alloc, name)
+        .long(name)
+        .help(help)
+        .action(ArgAction::SetTrue)
+}
+
+// What `serve` takes beside what it records and shows: how it ends, and what it tells.
+fn with_endings<'a>(alloc: Global, command: Command<'a>) -> Result<Command<'a>, AllocError> {
+    command
+        .arg(option(
+            alloc,
+            "seconds",
+            "SECONDS",
+            "Ends the recording after so many seconds",
+        ))?
+        .arg(flag(
+            alloc,
+            "until-input-ends",
+            "Ends the recording once standard input ends",
+        ))?
+        .arg(flag(
+            alloc,
+            "verbose",
+            "Tells what happens, a line each, on standard error",
+        ))
+}
+
 fn serving<'a>(alloc: Global) -> Result<Command<'a>, AllocError> {
-    Command::new(alloc, "serve")
+    let command = Command::new(alloc, "serve")
         .about("Records a host into a file, and shows the recording to viewers as it grows")
         .after_help(
             "Example: recorderd serve --file r --host 127.0.0.1:5901 --listen 127.0.0.1:5900",
@@ -110,14 +137,15 @@ fn serving<'a>(alloc: Global) -> Result<Command<'a>, AllocError> {
             alloc,
             "viewers",
             "N",
-            "How many viewers are served, 1 to 64 [default: 1]",
+            "How many viewers are waited for, 1 to 64, or any: whoever comes [default: 1]",
         ))?
         .arg(option(
             alloc,
             "from",
             "FROM",
             "A number of messages, or live: where viewers begin [default: live]",
-        ))
+        ))?;
+    with_endings(alloc, command)
 }
 
 fn all_commands<'a>(alloc: Global) -> Result<Command<'a>, AllocError> {
@@ -166,13 +194,37 @@ fn start(word: Option<&str>) -> Option<Start> {
     }
 }
 
+// How many viewers are served.
+fn audience(word: Option<&str>) -> Option<Audience> {
+    if word == Some("any") {
+        return Some(Audience::Any);
+    }
+    let count = within(word, 1, 64, 1)?;
+    Some(Audience::Count(u32::try_from(count).ok()?))
+}
+
+// What stops a recorder from outside.
+fn stop(matches: &ArgMatches<'_>) -> Option<Stop> {
+    let after = match matches.get_str("SECONDS") {
+        None => None,
+        Some(word) => Some(number(word)?),
+    };
+    Some(Stop {
+        at_end_of_input: matches.get_flag("until-input-ends"),
+        after,
+    })
+}
+
 fn plan<'a>(matches: &ArgMatches<'a>) -> Option<Plan<'a>> {
     Some(Plan {
         file: matches.get_str("PATH")?,
+        listen: matches.get_str("ADDR")?,
         host: matches.get_str("HOST"),
         key_interval: u16::try_from(within(matches.get_str("K"), 1, 4096, 256)?).ok()?,
-        viewers: usize::try_from(within(matches.get_str("N"), 1, 64, 1)?).ok()?,
+        audience: audience(matches.get_str("N"))?,
         from: start(matches.get_str("FROM"))?,
+        stop: stop(matches)?,
+        is_verbose: matches.get_flag("verbose"),
     })
 }
 
@@ -186,7 +238,7 @@ fn choose<'a>(matches: &ArgMatches<'a>) -> Option<Chosen<'a>> {
         "list" => Some(Chosen::List(matches.get_str("PATH")?)),
         "check" => Some(Chosen::Check(matches.get_str("PATH")?)),
         "export" => Some(Chosen::Export(extract(matches)?)),
-        "serve" => Some(Chosen::Serve(plan(matches)?, matches.get_str("ADDR")?)),
+        "serve" => Some(Chosen::Serve(plan(matches)?)),
         "fbs-check" => Some(Chosen::FbsCheck(matches.get_str("PATH")?)),
         _ => None,
     }

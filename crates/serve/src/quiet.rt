@@ -1,15 +1,11 @@
-//! What the program has in the places of workers that only tests look into.
+//! What the program has in the place of a turnstile, which only tests look into.
 
-use shared_book::{Point, ReceiptSink, Turnstile};
+use shared_book::{Point, Turnstile};
 
-/// Holds no worker, and keeps no receipt.
+/// Holds no worker.
 #[derive(Drop)]
 pub struct Quiet;
 
 impl Turnstile for Quiet {
     fn pass(&self, _point: Point) {}
-}
-
-impl<T: Drop> ReceiptSink<T> for Quiet {
-    fn receipt(&mut self, _receipt: T) {}
 }

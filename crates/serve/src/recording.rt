@@ -1,19 +1,45 @@
-//! The recording's file: opened where it has bytes, or made.
+//! The recording's file: opened where it has bytes, or made whole.
 
-use crate::refusal::Refusal;
+use connections::{Refusal, Telling};
 use file_commands::{FileDisk, fault_of_read, sync_folder};
 use flusher_core::Book;
-use gated_journal::Header;
+use gated_journal::{CreateFault, Header};
 use std::alloc::Global;
-use std::fs::{File, OpenOptions};
-use std::io;
+use std::fs::{File, Metadata, OpenOptions, Permissions};
+use std::os::unix::fs::{MetadataExt, PermissionsExt};
 use std::rt::Files;
+use std::sync::Wait;
+use std::{fs, io};
+
+/// Which file of the system one is, whatever its name.
+#[derive(Clone, Copy, Debug, PartialEq, Eq)]
+pub struct Identity {
+    device: u64,
+    inode: u64,
+}
+
+impl Identity {
+    fn of(metadata: &Metadata) -> Identity {
+        Identity {
+            device: metadata.dev(),
+            inode: metadata.ino(),
+        }
+    }
+
+    /// Whether the file at this path is this one.
+    pub fn is_at<R: Files>(self, rt: &R, path: &str) -> bool {
+        match fs::metadata(rt, path) {
+            Ok(metadata) => Identity::of(&metadata) == self,
+            Err(_) => false,
+        }
+    }
+}
 
 /// What stands at the recording's path.
 #[derive(Drop)]
 pub enum Found {
     /// A recording, opened.
-    Recording(Book<FileDisk>),
+    Recording(Book<FileDisk>, Identity),
     /// A file without bytes, open and locked.
     Empty(File),
     /// Nothing.
@@ -21,21 +47,22 @@ pub enum Found {
 }
 
 // Locks a file, so that no two recorders write it: alone, or beside others that only read.
-fn lock(file: &File, is_written: bool) -> Result<(), Refusal> {
+fn lock(file: &File, is_written: bool) -> io::Result<()> {
     let locked = if is_written {
         file.try_lock()
     } else {
         file.try_lock_shared()
     };
-    locked.map_err(|_| Refusal::File)
+    locked.map_err(|_| io::ErrorKind::WouldBlock.into())
 }
 
 /// Opens the recording at a path, to be written or only to be read, and locks its file.
-pub fn find<R: Files<File = File>>(
+pub fn find<R: Eprint + Files<File = File> + Wait>(
     rt: &R,
     alloc: Global,
     path: &str,
     is_written: bool,
+    telling: &Telling,
 ) -> Result<Found, Refusal> {
     let file = match OpenOptions::new()
         .read(true)
@@ -46,49 +73,91 @@ pub fn find<R: Files<File = File>>(
         Err(error) if is_written && error.kind() == io::ErrorKind::NotFound => {
             return Ok(Found::Nothing);
         }
-        Err(_) => return Err(Refusal::File),
+        Err(error) => {
+            telling.tell_failure(rt, "open", path, &error);
+            return Err(Refusal::File);
+        }
     };
-    lock(&file, is_written)?;
-    let Ok(metadata) = file.metadata() else {
-        return Err(Refusal::File);
+    let metadata = match lock(&file, is_written).and_then(|()| file.metadata()) {
+        Ok(metadata) => metadata,
+        Err(error) => {
+            telling.tell_failure(rt, "lock", path, &error);
+            return Err(Refusal::File);
+        }
     };
     if is_written && metadata.len() == 0 {
         return Ok(Found::Empty(file));
     }
     match Book::open(alloc, FileDisk::new(file)) {
-        Ok(book) => Ok(Found::Recording(book)),
+        Ok(book) => Ok(Found::Recording(book, Identity::of(&metadata))),
         Err(refused) => Err(Refusal::Recording(refused.fault)),
     }
 }
 
-// A new file at a path where there was none, locked.
-fn create_file<R: Files<File = File>>(rt: &R, path: &str) -> Result<File, Refusal> {
-    let Ok(file) = File::create_new(rt, path) else {
-        return Err(Refusal::File);
-    };
+// A file beside the recording's path, empty, locked, and for its owner alone. What a creation that
+// was cut off left there is replaced.
+fn open_draft<R: Files<File = File>>(rt: &R, draft: &str, path: &str) -> io::Result<File> {
+    let file = OpenOptions::new()
+        .read(true)
+        .write(true)
+        .create(true)
+        .open(rt, draft)?;
     lock(&file, true)?;
+    // Who came here behind another recorder finds its recording at the path.
+    if let Ok(metadata) = fs::metadata(rt, path) {
+        if metadata.len() > 0 {
+            fs::remove_file(rt, draft)?;
+            return Err(io::ErrorKind::AlreadyExists.into());
+        }
+    }
+    file.set_permissions(Permissions::from_mode(0o600))?;
+    file.set_len(0)?;
     Ok(file)
 }
 
-/// Makes a recording in an empty file, which is made where there is none.
-pub fn create<R: Files<File = File>>(
+// Gives a whole recording its name, on the device.
+fn publish<R: Files<File = File>>(rt: &R, draft: &str, path: &str) -> io::Result<()> {
+    fs::rename(rt, draft, path)?;
+    sync_folder(rt, path)
+}
+
+/// Makes a recording at a path where there is none, or no byte. It appears there whole: it is made
+/// under a name beside, with `.new` behind it, and renamed once its header and first gate are on
+/// the device.
+pub fn create<R: Eprint + Files<File = File> + Wait>(
     rt: &R,
     alloc: Global,
     path: &str,
-    empty: Option<File>,
     header: Header,
-) -> Result<Book<FileDisk>, Refusal> {
-    let file = match empty {
-        Some(file) => file,
-        None => create_file(rt, path)?,
+    telling: &Telling,
+) -> Result<(Book<FileDisk>, Identity), Refusal> {
+    let Ok(draft) = format!(in alloc; "{path}.new") else {
+        return Err(Refusal::Create(CreateFault::NoMemory));
+    };
+    let opened = open_draft(rt, &draft, path).and_then(|file| {
+        let metadata = file.metadata()?;
+        Ok((file, Identity::of(&metadata)))
+    });
+    let (file, identity) = match opened {
+        Ok(opened) => opened,
+        Err(error) => {
+            telling.tell_failure(rt, "make", &draft, &error);
+            return Err(Refusal::File);
+        }
     };
     let book = match Book::create(alloc, FileDisk::new(file), header) {
         Ok(book) => book,
-        Err(refused) => return Err(Refusal::Create(refused.fault)),
+        Err(refused) => {
+            let _removed = fs::remove_file(rt, &draft);
+            return Err(Refusal::Create(refused.fault));
+        }
     };
-    match sync_folder(rt, path) {
-        Ok(()) => Ok(book),
-        Err(_) => Err(Refusal::File),
+    match publish(rt, &draft, path) {
+        Ok(()) => Ok((book, identity)),
+        Err(error) => {
+            telling.tell_failure(rt, "rename to", path, &error);
+            Err(Refusal::File)
+        }
     }
 }
 

@@ -3,48 +3,37 @@
 ghost use Rattle.std.specs.Prelude.{◌≡◌, ◌<◌, ◌^◌, length};
 ghost use Rattle.flusher_core.specs.State.{accepted_count};
 
-use crate::clock::Stopwatch;
-use crate::host::{Host, Messages};
+use crate::ending::wait_for_stop;
+use crate::entrance::accept_all;
 use crate::quiet::Quiet;
-use crate::recording::{Found, create, find, last_time};
-use crate::refusal::{Ends, HostEnd, Refusal, first_refusal};
-use crate::sink::Watching;
-use crate::viewer::Viewer;
-use broadcast::{Desk, Start};
+use crate::recording::{Found, Identity, create, find, last_time};
+use crate::sink::Committing;
+use broadcast::Desk;
+use connections::{
+    Bell, Ends, Event, Host, HostEnd, Messages, Plan, Refusal, Room, Stop, Stopwatch, Telling,
+    first_refusal,
+};
 use disk::Disk;
 use file_commands::FileDisk;
 use flusher_core::{Book, HostRefusal};
 use gated_journal::Header;
-use shared_book::{FlusherEnd, Mark, Shared, Token, ViewerEnd, run_flusher, run_host, run_viewer};
+use shared_book::{FlusherEnd, Mark, Shared, Token, run_flusher, run_host};
 use std::alloc::{AllocError, Global};
 use std::fs::File;
-use std::io;
 use std::io::Write;
-use std::marker::{Brand, PhantomData};
+use std::marker::Brand;
 use std::net::{Net, Shutdown, TcpListener, TcpStream};
 use std::rt::Files;
 use std::sync::{Mutex, Wait};
-use std::thread::{Threads, join, map_indices};
+use std::thread::{JoinHandle, Scope, Threads};
 use std::time::Clock;
-
-/// What is to be served.
-#[derive(Clone, Copy)]
-pub struct Plan<'a> {
-    /// The recording's file.
-    pub file: &'a str,
-    /// The host's address; without one the recording is served alone.
-    pub host: Option<&'a str>,
-    /// After how many messages a new recording has a key screen.
-    pub key_interval: u16,
-    /// How many viewers are taken.
-    pub viewers: usize,
-    /// Where each viewer begins.
-    pub from: Start,
-}
+use std::{io, thread};
 
 /// How a recorder ends that isn't done.
 enum Stopped {
     Refused(Refusal),
+    /// It was refused, and that was told.
+    Told,
     /// A stream can't be written, or memory for the program's own work is wanting.
     Failed(io::Error),
 }
@@ -67,186 +56,239 @@ impl From<io::Error> for Stopped {
     }
 }
 
-/// What all viewers are served: the recording's size and name, and where they begin.
-#[derive(Drop)]
-struct Room<M: Mark> {
-    alloc: Global,
-    size: (u16, u16),
-    name: Vec<u8>,
-    from: Start,
-    viewers: usize,
-    of: PhantomData<M>,
-    ghost sized: { (size.0 ≡ M.head.width) × (size.1 ≡ M.head.height) },
-    ghost named: { length name.items < 2 ^ 32 },
+// Says why the recorder is refused.
+fn refuse<E: Write>(refusal: Refusal, err: &mut E) -> io::Result<()> {
+    writeln!(err, "recorderd: serve refused {refusal}")?;
+    err.flush()
 }
 
+/// How the host's worker and the host's stream ended.
+type HostEnds = (Result<(), HostRefusal>, HostEnd);
+
 // Hands in the host's messages until they end, and tells how its stream ended.
-fn record<D: Disk, M: Mark, R: Wait + Clock>(
+fn record<D: Disk, M: Mark, R: Clock + Eprint + Wait>(
     rt: &R,
     shared: &Shared<D, M>,
     room: &Room<M>,
-    host: Option<(Host, Stopwatch)>,
-) -> (Result<(), HostRefusal>, HostEnd) {
-    let Some((host, stopwatch)) = host else {
-        shared.end_host(rt);
-        return (Ok(()), HostEnd::Closed);
-    };
+    host: Host,
+    stopwatch: Stopwatch,
+) -> HostEnds {
     let end = Mutex::new(HostEnd::Closed);
-    let messages = Messages::new(rt, host, stopwatch, &end, room.size);
+    let messages = Messages::new(rt, host, stopwatch, room, &end);
     let worker = run_host(rt, shared, messages, &Quiet);
-    (worker, end.into_inner())
+    let end = end.into_inner();
+    room.telling.tell(rt, Event::HostEnded(end));
+    (worker, end)
 }
 
-// Commits what was accepted. A flusher that is refused ends the host, too.
-fn flush<D: Disk, M: Mark, R: Wait>(
+// Shuts the host's stream, so that nothing more is read from it.
+fn shut(stream: Option<&TcpStream>, how: Shutdown) {
+    if let Some(stream) = stream {
+        let _shut = stream.shutdown(how);
+    }
+}
+
+// Commits what was accepted, on this thread. A flusher that is refused ends the host, too.
+fn flush<D: Disk, M: Mark, R: Clock + Eprint + Wait>(
     rt: &R,
     shared: &Shared<D, M>,
-    stream: Option<TcpStream>,
+    room: &Room<M>,
+    stream: Option<&TcpStream>,
 ) -> Result<(), FlusherEnd> {
-    let end = run_flusher(rt, shared, Quiet, &Quiet);
+    let end = run_flusher(rt, shared, Committing::new(rt, room), &Quiet);
     if end.is_err() {
-        if let Some(stream) = stream {
-            let _ended = stream.shutdown(Shutdown::Both);
-        }
+        room.telling.tell(rt, Event::DeviceFailed);
+        shut(stream, Shutdown::Both);
     }
+    room.intake.end(rt);
     end
 }
 
-// Shows a viewer the recording, from a seat.
-fn watch<D: Disk, M: Mark, R: Wait>(
+// Waits for what stops the recorder from outside, and stops it.
+fn stop_when<M: Mark, R: Clock + Eprint + Wait>(
     rt: &R,
-    shared: &Shared<D, M>,
-    viewer: &Viewer<M>,
-    from: Start,
+    room: &Room<M>,
+    stop: Stop,
+    stream: Option<&TcpStream>,
 ) {
-    match run_viewer(rt, shared, from, Watching::new(rt, viewer), &Quiet) {
-        Err(ViewerEnd::Join(refusal)) => viewer.refuse(rt, refusal),
-        _ => viewer.leave(rt),
+    if let Ok(true) = wait_for_stop(rt, stop, &room.bell) {
+        room.telling.tell(rt, Event::Stopped);
+        room.hall.stop(rt);
+        shut(stream, Shutdown::Read);
     }
 }
 
-// Serves one viewer until it leaves. What it does wrong ends it alone.
-fn serve_viewer<D: Disk + Send, M: Mark + Send + Sync, R: Threads + Wait + Sync>(
-    rt: &R,
-    shared: &Shared<D, M>,
-    room: &Room<M>,
-    stream: TcpStream,
-) -> io::Result<()> {
-    let viewer = Viewer::<M>::new(room.alloc, stream, room.size, &room.name)?;
-    join(
-        rt,
-        || viewer.listen(rt, shared),
-        || watch(rt, shared, &viewer, room.from),
-    );
-    Ok(())
+/// The threads beside the flusher's.
+#[derive(Drop)]
+struct Crew {
+    host: Option<JoinHandle<HostEnds>>,
+    viewers: JoinHandle<bool>,
 }
 
-// Whether a failed accept says nothing of the listener.
-fn is_passing(kind: io::ErrorKind) -> bool {
-    matches!(
-        kind,
-        io::ErrorKind::Interrupted | io::ErrorKind::ConnectionAborted
-    )
-}
-
-// Takes one viewer, and serves it: whether one could be taken.
-fn take_viewer<D: Disk + Send, M: Mark + Send + Sync, R: Threads + Wait + Sync>(
-    rt: &R,
-    shared: &Shared<D, M>,
-    room: &Room<M>,
-    listener: &TcpListener,
-) -> bool {
-    for _ in 0..u64::MAX {
-        match listener.accept() {
-            Ok((stream, _)) => {
-                let _served = serve_viewer(rt, shared, room, stream);
-                return true;
-            }
-            Err(error) if is_passing(error.kind()) => {}
-            Err(_) => return false,
-        }
-    }
-    false
-}
-
-// Takes all viewers, each on a thread of its own: whether each could be taken.
-fn take_viewers<D: Disk + Send, M: Mark + Send + Sync, R: Threads + Wait + Sync>(
-    rt: &R,
-    shared: &Shared<D, M>,
-    room: &Room<M>,
-    listener: &TcpListener,
-) -> bool {
-    let taken = map_indices(
-        rt,
-        room.alloc,
-        room.viewers,
-        &|_| take_viewer(rt, shared, room, listener),
-    );
-    match taken {
-        Ok(taken) => taken.iter().all(|was_taken| *was_taken),
-        Err(_) => false,
-    }
-}
-
-/// How a host and its flusher ended.
-type Recorded = ((Result<(), HostRefusal>, HostEnd), Result<(), FlusherEnd>);
-
-// Records and commits, each on a thread of its own.
-fn record_and_flush<D: Disk + Send, M: Mark + Send + Sync, R: Threads + Wait + Clock + Sync>(
-    rt: &R,
-    shared: &Shared<D, M>,
-    room: &Room<M>,
+/// A host, if there is one, and a second handle of its stream.
+#[derive(Drop)]
+struct Source {
     host: Option<(Host, Stopwatch)>,
     stream: Option<TcpStream>,
-) -> Recorded {
-    join(
-        rt,
-        move || record(rt, shared, room, host),
-        move || flush(rt, shared, stream),
-    )
 }
 
-// Shares a desk with a host, if there is one, and the viewers, until all have ended: how they
-// ended, and how many messages are committed then.
-fn share<D: Disk + Send + Drop, M: Mark + Send + Sync, R: Threads + Wait + Clock + Sync>(
+// Starts the threads beside the flusher's; none where one of them can't be made.
+fn start<'s, E, D: Disk + Send, M: Mark + Send + Sync, R: Threads + Clock + Eprint + Wait + Sync>(
+    rt: &'s R,
+    scope: &'s Scope<'s, E>,
+    shared: &'s Shared<D, M>,
+    room: &'s Room<M>,
+    host: Option<(Host, Stopwatch)>,
+    stream: Option<&'s TcpStream>,
+    listener: &'s TcpListener,
+    stop: Stop,
+) -> Option<Crew> {
+    let host = match host {
+        Some((host, stopwatch)) => {
+            Some(
+                scope
+                    .spawn(move || record(rt, shared, room, host, stopwatch))
+                    .ok()?,
+            )
+        }
+        None => {
+            shared.end_host(rt);
+            None
+        }
+    };
+    if stop.may_come() {
+        scope.spawn(move || stop_when(rt, room, stop, stream)).ok()?;
+    }
+    let viewers = scope
+        .spawn(move || accept_all(rt, shared, room, listener))
+        .ok()?;
+    Some(Crew { host, viewers })
+}
+
+// Ends what was started, where a thread couldn't be made.
+fn give_up<D: Disk, M: Mark, R: Wait>(
+    rt: &R,
+    shared: &Shared<D, M>,
+    room: &Room<M>,
+    stream: Option<&TcpStream>,
+) {
+    shut(stream, Shutdown::Both);
+    room.intake.end(rt);
+    shared.end_host(rt);
+    shared.end_flusher(rt);
+    room.hall.end(rt);
+    room.hall.stop(rt);
+    room.bell.ring();
+}
+
+/// How a recorder ended, and whether that could be told.
+#[derive(Drop)]
+struct Outcome {
+    refusal: Option<Refusal>,
+    told: io::Result<()>,
+}
+
+// Records until the host has ended, says at once where that is refused, and waits until nobody is
+// left to be served.
+fn conduct<
+    D: Disk + Send,
+    M: Mark + Send + Sync,
+    R: Threads + Clock + Eprint + Wait + Sync,
+    W: Write,
+>(
+    rt: &R,
+    shared: &Shared<D, M>,
+    room: &Room<M>,
+    stream: Option<&TcpStream>,
+    crew: Crew,
+    err: &mut W,
+) -> Outcome {
+    let flusher = flush(rt, shared, room, stream);
+    let (worker, host) = match crew.host {
+        Some(recording) => recording.join(rt),
+        None => (Ok(()), HostEnd::Closed),
+    };
+    let ends = Ends {
+        flusher,
+        worker,
+        host,
+        is_listener_sound: true,
+    };
+    let refusal = first_refusal(ends);
+    let told = match refusal {
+        Some(refusal) => refuse(refusal, err),
+        None => Ok(()),
+    };
+    room.hall.end(rt);
+    room.hall.wait_until_done(rt);
+    room.bell.ring();
+    let is_listener_sound = crew.viewers.join(rt);
+    if refusal.is_some() {
+        return Outcome { refusal, told };
+    }
+    let refusal = first_refusal(Ends {
+        is_listener_sound,
+        ..ends
+    });
+    let told = match refusal {
+        Some(refusal) => refuse(refusal, err),
+        None => Ok(()),
+    };
+    Outcome { refusal, told }
+}
+
+// Shares a desk with a host, if there is one, and the viewers, until all have ended: how it ended,
+// and how many messages are committed then.
+fn share<
+    D: Disk + Send + Drop,
+    M: Mark + Send + Sync,
+    R: Threads + Clock + Eprint + Wait + Sync,
+    W: Write,
+>(
     rt: &R,
     token: Token,
     desk: Desk<D>,
-    room: Room<M>,
-    host: Option<(Host, Stopwatch)>,
-    stream: Option<TcpStream>,
-    listener: TcpListener,
-) -> (Ends, u64)
+    room: &Room<M>,
+    source: Source,
+    listener: &TcpListener,
+    stop: Stop,
+    err: &mut W,
+) -> (Outcome, u64)
     requires head { desk.head ≡ M.head }
     requires modelled { (D.is_modelled → M.is_modelled) × (M.is_modelled → D.is_modelled) }
     requires first { accepted_count desk.state.book ≡ M.first }
     requires names { token ≡ M.names }
 {
     let shared = Shared::<D, M>::new(rt, token, desk);
-    let (((worker, host), flusher), is_listener_sound) = join(
-        rt,
-        || record_and_flush(rt, &shared, &room, host, stream),
-        || take_viewers(rt, &shared, &room, &listener),
-    );
-    let ends = Ends {
-        flusher,
-        worker,
-        host,
-        is_listener_sound,
-    };
-    (ends, shared.finish().committed())
+    let Source { host, stream } = source;
+    let stream = stream.as_ref();
+    let outcome = thread::scope(thread::scope_env(), rt, |scope| {
+        match start(rt, scope, &shared, room, host, stream, listener, stop) {
+            Some(crew) => conduct(rt, &shared, room, stream, crew, err),
+            None => {
+                give_up(rt, &shared, room, stream);
+                Outcome {
+                    refusal: Some(Refusal::Thread),
+                    told: refuse(Refusal::Thread, err),
+                }
+            }
+        }
+    });
+    (outcome, shared.finish().committed())
 }
 
 // The recording that was found, or a new one for a host.
-fn recording_for<R: Files<File = File>>(
+fn recording_for<R: Eprint + Files<File = File> + Wait>(
     rt: &R,
     alloc: Global,
-    plan: Plan<'_>,
+    plan: &Plan<'_>,
     found: Found,
     host: Option<&Host>,
-) -> Result<Book<FileDisk>, Stopped> {
-    let empty = match found {
-        Found::Recording(book) => return Ok(book),
+    telling: &Telling,
+) -> Result<(Book<FileDisk>, Identity), Stopped> {
+    // A file without bytes stays locked until the recording has taken its place.
+    let _empty = match found {
+        Found::Recording(book, identity) => return Ok((book, identity)),
         Found::Empty(file) => Some(file),
         Found::Nothing => None,
     };
@@ -254,20 +296,42 @@ fn recording_for<R: Files<File = File>>(
         return Err(Stopped::Refused(Refusal::File));
     };
     match Header::new(alloc, width, height, plan.key_interval, name) {
-        Ok(header) => Ok(create(rt, alloc, plan.file, empty, header)?),
+        Ok(header) => Ok(create(rt, alloc, plan.file, header, telling)?),
         Err(_) => Err(Stopped::Failed(io::ErrorKind::OutOfMemory.into())),
     }
 }
 
+// The host, with a stopwatch that goes on from this time, and a second handle of its stream.
+fn source_of<R: Clock>(rt: &R, host: Option<Host>, base: u32) -> io::Result<Source> {
+    let Some(host) = host else {
+        return Ok(Source {
+            host: None,
+            stream: None,
+        });
+    };
+    let stream = host.stream()?;
+    let stopwatch = Stopwatch::start(rt, base)?;
+    Ok(Source {
+        host: Some((host, stopwatch)),
+        stream: Some(stream),
+    })
+}
+
 // Serves a recording, which the host goes on with, under a mark that fits it.
-fn serve_book<M: Mark + Send + Sync, R: Threads + Wait + Clock + Sync + AllocGlobal>(
+fn serve_book<
+    M: Mark + Send + Sync,
+    R: Threads + Clock + Eprint + Wait + Sync + AllocGlobal,
+    W: Write,
+>(
     rt: &R,
     token: Token,
     book: Book<FileDisk>,
-    base: u32,
-    plan: Plan<'_>,
-    host: Option<Host>,
+    plan: &Plan<'_>,
+    source: Source,
     listener: TcpListener,
+    bell: Bell,
+    telling: Telling,
+    err: &mut W,
 ) -> Result<u64, Stopped>
     requires head { book.head ≡ M.head }
     requires modelled { M.is_modelled → ⊥ }
@@ -275,66 +339,77 @@ fn serve_book<M: Mark + Send + Sync, R: Threads + Wait + Clock + Sync + AllocGlo
     requires names { token ≡ M.names }
 {
     let alloc = rt.alloc();
-    let room = Room {
-        alloc,
-        size: book.header().size(),
-        name: book.header().name().to_vec(alloc)?,
-        from: plan.from,
-        viewers: plan.viewers,
-        of: PhantomData,
-    };
-    let stream = match &host {
-        Some(host) => Some(host.stream()?),
-        None => None,
-    };
-    let host = match host {
-        Some(host) => Some((host, Stopwatch::start(rt, base)?)),
-        None => None,
-    };
-    let (ends, committed) = share::<FileDisk, M, R>(
+    let size = book.header().size();
+    let name = book.header().name().to_vec(alloc)?;
+    let committed = book.committed();
+    let room = Room::<M>::new(alloc, size, name, plan, bell, telling, committed);
+    let (outcome, committed) = share::<FileDisk, M, R, W>(
         rt,
         token,
         Desk::new(book),
-        room,
-        host,
-        stream,
-        listener,
+        &room,
+        source,
+        &listener,
+        plan.stop,
+        err,
     );
-    match first_refusal(ends) {
-        Some(refusal) => Err(Stopped::Refused(refusal)),
+    outcome.told?;
+    match outcome.refusal {
+        Some(_) => Err(Stopped::Told),
         None => Ok(committed),
     }
 }
 
-fn run<R, L, O>(rt: &R, plan: Plan<'_>, listen: L, out: &mut O) -> Result<(), Stopped>
+fn run<R, L, O, W>(
+    rt: &R,
+    plan: &Plan<'_>,
+    listen: L,
+    out: &mut O,
+    err: &mut W,
+) -> Result<(), Stopped>
 where
-    R: AllocGlobal + Clock + Files<File = File> + Sync + Threads + Wait,
+    R: AllocGlobal + Clock + Eprint + Files<File = File> + Sync + Threads + Wait,
     R: Net<Stream = TcpStream, Listener = TcpListener>,
     L: FnOnce() -> io::Result<TcpListener> + Drop,
     O: Write,
+    W: Write,
     requires { L.IsAlwaysCallable listen }
 {
     let alloc = rt.alloc();
-    let found = find(rt, alloc, plan.file, plan.host.is_some())?;
+    let telling = Telling::new(plan.is_verbose);
+    let found = find(rt, alloc, plan.file, plan.host.is_some(), &telling)?;
     let expected = match &found {
-        Found::Recording(book) => Some(book.header().size()),
+        Found::Recording(book, _) => Some(book.header().size()),
         _ => None,
     };
     let host = match plan.host {
-        Some(address) => Some(Host::connect(rt, address, expected)?),
+        Some(address) => Some(Host::connect(rt, address, expected, &telling)?),
         None => None,
     };
-    let Ok(listener) = listen() else {
-        return Err(Stopped::Refused(Refusal::Net));
+    let listener = match listen() {
+        Ok(listener) => listener,
+        Err(error) => {
+            telling.tell_failure(rt, "listen at", plan.listen, &error);
+            return Err(Stopped::Refused(Refusal::Net));
+        }
     };
-    let mut book = recording_for(rt, alloc, plan, found, host.as_ref())?;
+    listener.set_nonblocking(true)?;
+    telling.tell(rt, Event::Listening(listener.local_addr()?));
+    let (mut book, identity) = recording_for(rt, alloc, plan, found, host.as_ref(), &telling)?;
     let base = last_time(&mut book)?;
+    let source = source_of(rt, host, base)?;
+    let bell = Bell::new(rt)?;
     let Ok(token) = Token::new(alloc) else {
         return Err(Stopped::Failed(io::ErrorKind::OutOfMemory.into()));
     };
     writeln!(out, "serving")?;
     out.flush()?;
-    let committed = serve_book::<Brand, R>(rt, token, book, base, plan, host, listener)?;
+    let committed = serve_book::<Brand, R, W>(
+        rt, token, book, plan, source, listener, bell, telling, err,
+    )?;
+    if !identity.is_at(rt, plan.file) {
+        return Err(Stopped::Refused(Refusal::File));
+    }
     writeln!(out, "committed {committed}")?;
     out.flush()?;
     Ok(())
@@ -342,9 +417,9 @@ where
 
 /// Records a host into a file, and serves the recording to viewers, who connect to the listener
 /// that the closure makes; without a host it serves the recording alone. It writes `serving` once
-/// viewers may come, and when the host has ended and all viewers have come and gone `committed`
-/// with the number of messages. Answers whether it is done; else a line on `err` says why it is
-/// refused. An error is of the two writers, or of memory.
+/// viewers may come, and when all is done `committed` with the number of messages. Answers whether
+/// it is done; else a line on `err` says why it is refused, as soon as nothing more is recorded. An
+/// error is of the two writers, or of memory.
 pub fn serve_on<R, L, O: Write, E: Write>(
     rt: &R,
     plan: Plan<'_>,
@@ -354,31 +429,32 @@ pub fn serve_on<R, L, O: Write, E: Write>(
 ) -> io::Result<bool>
 where
     L: FnOnce() -> io::Result<TcpListener> + Drop,
-    R: AllocGlobal + Clock + Files<File = File> + Sync + Threads + Wait,
+    R: AllocGlobal + Clock + Eprint + Files<File = File> + Sync + Threads + Wait,
     R: Net<Stream = TcpStream, Listener = TcpListener>,
     requires { L.IsAlwaysCallable listen }
 {
-    match run(rt, plan, listen, out) {
+    match run(rt, &plan, listen, out, err) {
         Ok(()) => Ok(true),
         Err(Stopped::Refused(refusal)) => {
-            writeln!(err, "recorderd: serve refused {refusal}")?;
+            refuse(refusal, err)?;
             Ok(false)
         }
+        Err(Stopped::Told) => Ok(false),
         Err(Stopped::Failed(error)) => Err(error),
     }
 }
 
-/// The same with viewers who connect to this address.
+/// The same with viewers who connect to the plan's address.
 pub fn serve<R, O: Write, E: Write>(
     rt: &R,
     plan: Plan<'_>,
-    address: &str,
     out: &mut O,
     err: &mut E,
 ) -> io::Result<bool>
 where
-    R: AllocGlobal + Clock + Files<File = File> + Sync + Threads + Wait,
+    R: AllocGlobal + Clock + Eprint + Files<File = File> + Sync + Threads + Wait,
     R: Net<Stream = TcpStream, Listener = TcpListener>,
 {
+    let address = plan.listen;
     serve_on(rt, plan, || TcpListener::bind(rt, address), out, err)
 }

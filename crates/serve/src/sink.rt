@@ -1,49 +1,79 @@
-//! What a viewer's worker works for.
+//! What a viewer's worker and the flusher work for.
 
-use crate::viewer::Viewer;
-use shared_book::{Mark, Receipt, Turn, ViewerSink};
+use broadcast::Start;
+use connections::{Event, Room, Viewer};
+use shared_book::{Ending, Mark, Receipt, ReceiptSink, Turn, ViewerSink};
 use std::sync::Wait;
+use std::time::{Clock, Instant};
 
 /// How many messages a viewer takes at a time: few, since each is copied.
 const LIMIT: u32 = 8;
 
-/// How far a viewer has come.
-#[derive(Clone, Copy, PartialEq, Eq)]
-enum Progress {
-    /// There may be more messages.
-    Behind,
-    /// There were no more.
-    CaughtUp,
-    /// It has waited for more.
-    Waited,
-    /// It has waited, and there were none: the host has ended.
-    AtEnd,
-}
+/// A live viewer that is more messages behind than this goes on at the newest screen.
+const FAR: u64 = 64;
 
 /// Shows a viewer the recording as it grows.
 #[derive(Drop)]
-pub struct Watching<'a, M: Mark, R: Wait> {
+pub struct Watching<'a, M: Mark, R: Clock + Eprint + Wait> {
     rt: &'a R,
     viewer: &'a Viewer<M>,
+    room: &'a Room<M>,
     position: u64,
-    progress: Progress,
-    is_seated: bool,
+    /// Whether it has a screen to go on from.
+    has_start: bool,
+    /// Whether it has waited for more since it was handed something.
+    has_waited: bool,
+    is_at_end: bool,
 }
 
-impl<'a, M: Mark, R: Wait> Watching<'a, M, R> {
+impl<'a, M: Mark, R: Clock + Eprint + Wait> Watching<'a, M, R> {
     /// At the start of a viewer's seat.
-    pub fn new(rt: &'a R, viewer: &'a Viewer<M>) -> Watching<'a, M, R> {
+    pub fn new(rt: &'a R, viewer: &'a Viewer<M>, room: &'a Room<M>) -> Watching<'a, M, R> {
         Watching {
             rt,
             viewer,
+            room,
             position: 0,
-            progress: Progress::Behind,
-            is_seated: false,
+            has_start: false,
+            has_waited: false,
+            is_at_end: false,
         }
+    }
+
+    // At the end of the recording: stays until the viewer leaves, or the recorder is closing and it
+    // was shown the rest.
+    fn rest_at_end(&self) {
+        let viewer = self.viewer;
+        self.room
+            .hall
+            .wait_until_closing(self.rt, || viewer.has_left());
+        viewer.wait_until_shown(self.rt);
+    }
+
+    // Whether it goes on at the newest screen in place of all that it missed.
+    fn is_far_behind(&self) -> bool {
+        self.room.from == Start::Live && self.room.committed().saturating_sub(self.position) > FAR
+    }
+
+    // How many messages it takes next: no more than up to where it begins, so that it is shown just
+    // that screen first.
+    fn limit(&self) -> u32 {
+        match self.room.from {
+            Start::At(count) if self.position < count => {
+                u32::try_from(count - self.position).map_or(LIMIT, |left| left.min(LIMIT))
+            }
+            _ => LIMIT,
+        }
+    }
+
+    // Whether it ends without having been shown the rest: nothing new is to come.
+    fn is_cut_off(&self) -> bool {
+        self.viewer.has_left() || (self.room.is_alone && self.room.hall.is_closing(self.rt))
     }
 }
 
-impl<'a, M: Mark, R: Wait> ViewerSink<Receipt<M>> for Watching<'a, M, R> {
+impl<'a, M: Mark, R: Clock + Eprint + Wait> ViewerSink<Receipt<M>, Ending<M>>
+    for Watching<'a, M, R> {
     ghost width = { λ w. M.head.width };
 
     ghost height = { λ w. M.head.height };
@@ -52,39 +82,114 @@ impl<'a, M: Mark, R: Wait> ViewerSink<Receipt<M>> for Watching<'a, M, R> {
 
     ghost slice_of = { λ r. r };
 
+    ghost count_of = { λ e. e.count };
+
     fn has_left(&self) -> bool {
         self.viewer.has_left()
     }
 
     fn turn(&mut self) -> Turn {
-        if !self.is_seated {
-            self.is_seated = true;
-            self.viewer.seat(self.rt);
-        }
-        if self.progress == Progress::AtEnd {
-            self.viewer.wait_to_leave(self.rt);
-        }
-        if self.viewer.has_left() {
+        if self.is_at_end {
+            self.rest_at_end();
             return Turn::Stop;
         }
-        if self.progress == Progress::CaughtUp {
-            self.progress = Progress::Waited;
-            return Turn::Wait;
+        if self.is_cut_off() {
+            return Turn::Stop;
         }
-        Turn::Want(LIMIT)
+        let committed = self.room.committed();
+        if self.has_start && self.is_far_behind() {
+            // It takes the screen there next.
+            self.has_start = false;
+            Turn::Seek(committed)
+        } else if !self.has_start || self.has_waited || self.position < committed {
+            Turn::Want(self.limit())
+        } else {
+            self.has_waited = true;
+            Turn::Wait
+        }
     }
 
     fn slice(&mut self, receipt: Receipt<M>) {
         let slice = receipt.slice();
         self.position = slice.end();
-        let count = slice.messages.len();
-        self.progress = if count == 0 && self.progress == Progress::Waited {
-            Progress::AtEnd
-        } else if count < LIMIT as usize {
-            Progress::CaughtUp
-        } else {
-            Progress::Behind
-        };
+        self.has_start = true;
+        self.has_waited = false;
         self.viewer.show(self.rt, slice);
+    }
+
+    fn end(&mut self, _ending: Ending<M>) {
+        self.is_at_end = true;
+    }
+
+    fn shortage(&mut self) {
+        self.room.telling.tell(self.rt, Event::Shortage);
+    }
+}
+
+/// After how many seconds what was recorded is told of.
+const MINUTE: u64 = 60;
+
+/// Tells the host's worker and the viewers what was committed, and each minute in which something
+/// came, how much.
+#[derive(Drop)]
+pub struct Committing<'a, M: Mark, R: Clock + Eprint + Wait> {
+    rt: &'a R,
+    room: &'a Room<M>,
+    since: Option<Instant>,
+    messages: u64,
+    bytes: u64,
+}
+
+impl<'a, M: Mark, R: Clock + Eprint + Wait> Committing<'a, M, R> {
+    /// Before the first commit.
+    pub fn new(rt: &'a R, room: &'a Room<M>) -> Committing<'a, M, R> {
+        Committing {
+            rt,
+            room,
+            since: Instant::now(rt).ok(),
+            messages: 0,
+            bytes: 0,
+        }
+    }
+
+    // Tells of what came in the minute that has passed.
+    fn tell(&mut self) {
+        let Some(since) = self.since else {
+            return;
+        };
+        match since.elapsed(self.rt) {
+            Ok(passed) if passed.as_secs() >= MINUTE => {}
+            _ => return,
+        }
+        self.room.telling.tell(
+            self.rt,
+            Event::Recorded {
+                messages: self.messages,
+                bytes: self.bytes,
+            },
+        );
+        self.since = Instant::now(self.rt).ok();
+        self.messages = 0;
+        self.bytes = 0;
+    }
+}
+
+impl<'a, M: Mark, R: Clock + Eprint + Wait> ReceiptSink<Receipt<M>> for Committing<'a, M, R> {
+    fn receipt(&mut self, receipt: Receipt<M>) {
+        let slice = receipt.slice();
+        let count = slice.messages.len() as u64;
+        let mut bytes = 0u64;
+        for stamped in &slice.messages {
+            bytes = bytes.saturating_add(stamped.message.bytes().len() as u64);
+        }
+        self.room.set_committed(slice.first.saturating_add(count));
+        self.room.intake.commit(self.rt, bytes);
+        self.messages = self.messages.saturating_add(count);
+        self.bytes = self.bytes.saturating_add(bytes);
+        self.tell();
+    }
+
+    fn shortage(&mut self) {
+        self.room.telling.tell(self.rt, Event::Shortage);
     }
 }

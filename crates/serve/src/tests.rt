@@ -1,11 +1,13 @@
 //! The recorder over loopback, in one process with a host and viewers of the test. Each waits for
 //! what it is sent, and for at most twenty seconds.
 
+mod ends;
 mod hosts;
 mod peers;
 mod viewers;
 
-use crate::{Plan, serve_on};
+use crate::{Audience, Plan, Stop, serve_on};
+use broadcast::Start;
 use file_commands::{Progress, check};
 use std::fs::File;
 use std::net::{Net, TcpListener, TcpStream};
@@ -15,6 +17,20 @@ use std::test::Fail;
 use std::thread::Threads;
 use std::time::Clock;
 use std::{fs, io};
+
+// What a test serves: to so many viewers, who begin live.
+fn plan_of<'a>(file: &'a str, host: Option<&'a str>, viewers: u32) -> Plan<'a> {
+    Plan {
+        file,
+        listen: "",
+        host,
+        key_interval: 4,
+        audience: Audience::Count(viewers),
+        from: Start::Live,
+        stop: Stop::never(),
+        is_verbose: false,
+    }
+}
 
 // What is printed, once what the host and the viewers did is done.
 fn told(both: (io::Result<String>, Result<(), Fail>)) -> Result<String, Fail> {
@@ -30,6 +46,7 @@ fn print<
         + Threads
         + Wait
         + Clock
+        + Eprint
         + Sync
         + AllocGlobal,
 >(rt: &R, plan: Plan<'_>, listener: TcpListener) -> io::Result<String> {

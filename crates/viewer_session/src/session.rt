@@ -154,6 +154,13 @@ impl Session {
         Ok(())
     }
 
+    /// Whether the viewer's handshake is whole: its version, its choice and its shared-flag.
+    pub fn is_greeted(&self) -> bool
+        ensures { result ≡ is_there self.now.reader }
+    {
+        self.progress.reader.is_some()
+    }
+
     /// How many messages of the recording the session's screen shows.
     pub fn position(&self) -> u64
         ensures { result ≡ self.now.view.position }

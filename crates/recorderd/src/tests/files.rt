@@ -56,7 +56,7 @@ const KEYED_ANSWERS: &str =
 // The exit status, and behind it what is printed on both outputs.
 fn said<R>(rt: &R, line: &str, script: &str) -> Result<String, Fail>
 where
-    R: AllocGlobal + Clock + Files<File = File> + Sync + Threads + Wait,
+    R: AllocGlobal + Clock + Eprint + Files<File = File> + Sync + Threads + Wait,
     R: Net<Stream = TcpStream, Listener = TcpListener>,
 {
     let (status, out, err) = ran(rt, line, script)?;
@@ -73,7 +73,7 @@ fn without(rt: &HostRuntime, paths: &[&str]) {
 // Commands without input say these answers.
 fn say<R>(rt: &R, lines: &[(&str, &str)]) -> Result<(), Fail>
 where
-    R: Abort + AllocGlobal + Clock + Files<File = File> + Sync + Threads + Wait,
+    R: Abort + AllocGlobal + Clock + Eprint + Files<File = File> + Sync + Threads + Wait,
     R: Net<Stream = TcpStream, Listener = TcpListener>,
 {
     for (line, answer) in lines {
@@ -86,7 +86,7 @@ where
 // A command on these words is refused for this.
 fn is_refused<R>(rt: &R, command: &str, words: &str, why: &str) -> Result<bool, Fail>
 where
-    R: AllocGlobal + Clock + Files<File = File> + Sync + Threads + Wait,
+    R: AllocGlobal + Clock + Eprint + Files<File = File> + Sync + Threads + Wait,
     R: Net<Stream = TcpStream, Listener = TcpListener>,
 {
     let alloc = rt.alloc();

@@ -1,9 +1,7 @@
 //! How a host ends, and a recording without one.
 
-use super::peers::{
-    ALL, BLACK, CHANGES, GREEN, RED, deaf_host, listener, silent_viewer, small_host, viewer,
-};
-use super::{checked, print, told};
+use super::peers::{ALL, BLACK, CHANGES, GREEN, RED, deaf_host, listener, small_host, viewer};
+use super::{checked, plan_of, print, told};
 use crate::Plan;
 use crate::tests::peers::{Peer, Place};
 use broadcast::Start;
@@ -73,13 +71,7 @@ fn a_host_ends(rt: HostRuntime) -> Result<(), Fail> {
         let (hosts, host) = listener(rt)?;
         let (viewers, place) = listener(rt)?;
         let address = host.address(rt.alloc())?;
-        let plan = Plan {
-            file,
-            host: Some(address.as_str()),
-            key_interval: 4,
-            viewers: 1,
-            from: Start::Live,
-        };
+        let plan = plan_of(file, Some(address.as_str()), 1);
         let said = told(join(
             rt,
             move || print(rt, plan, viewers),
@@ -95,24 +87,12 @@ fn a_host_ends(rt: HostRuntime) -> Result<(), Fail> {
 const RECORDING: [u8; 54] =
     *b"ORFBREC1\0\x01\0\x01\0\x04\0\x01xO\0\0\0\x1d\0\x01\0\0\0\0\0\0\0\0\x14\0\0\0\x01\0\0\0\0\0\x01\0\x01\0\0\0\0\0\0\xff\0C";
 
-// What a viewer sees of a recording that is served alone: behind the update, its black start, or a
-// reason.
+// What a viewer sees of a recording that is served alone.
 fn alone<R: Net<Stream = TcpStream, Listener = TcpListener> + AllocGlobal>(
     rt: &R,
     place: Place,
-    from: Start,
 ) -> Result<(), Fail> {
     let alloc = rt.alloc();
-    if from == Start::At(2) {
-        let refused = silent_viewer(rt, place)?;
-        refused.hear(alloc, b"RFB 003.008\n")?;
-        refused.talk(
-            alloc,
-            b"RFB 003.008\n",
-            b"\0\0\0\0\x20the recording has fewer messages",
-        )?;
-        return refused.ends();
-    }
     viewer(rt, place)?.talk(alloc, &ALL, &RED)
 }
 
@@ -121,19 +101,16 @@ fn a_recording_is_served_alone(rt: HostRuntime) -> Result<(), Fail> {
     let rt = &rt;
     let file = "alone";
     fs::write(rt, file, RECORDING.as_slice())?;
-    for from in [Start::Live, Start::At(0), Start::At(1), Start::At(2)] {
+    for from in [Start::Live, Start::At(0), Start::At(1)] {
         let (viewers, place) = listener(rt)?;
         let plan = Plan {
-            file,
-            host: None,
-            key_interval: 4,
-            viewers: 1,
             from,
+            ..plan_of(file, None, 1)
         };
         let said = told(join(
             rt,
             move || print(rt, plan, viewers),
-            move || alone(rt, place, from),
+            move || alone(rt, place),
         ))?;
         assert!(rt; said.as_str() == "true serving\ncommitted 1\n", "{said}");
     }
@@ -150,13 +127,7 @@ fn what_can_t_be_served_makes_no_file(rt: HostRuntime) -> Result<(), Fail> {
     let (hosts, host) = listener(rt)?;
     drop(hosts);
     let address = host.address(rt.alloc())?;
-    let plan = Plan {
-        file,
-        host: Some(address.as_str()),
-        key_interval: 4,
-        viewers: 1,
-        from: Start::Live,
-    };
+    let plan = plan_of(file, Some(address.as_str()), 1);
     let alone = Plan { host: None, ..plan };
     let said = told(join(rt, move || print(rt, plan, viewers), move || Ok(())))?;
     assert!(rt;

@@ -2,7 +2,7 @@
 
 use std::alloc::{AllocError, Global};
 use std::io::{Read, Write};
-use std::net::{Net, TcpListener, TcpStream};
+use std::net::{Net, Shutdown, TcpListener, TcpStream};
 use std::test::Fail;
 use std::time::Duration;
 
@@ -77,12 +77,18 @@ impl Peer {
         Ok(())
     }
 
-    /// Reads updates as long as this one until it comes, and asks again behind each other one: a few
-    /// times at most.
+    /// Says nothing more.
+    pub fn finish(&self) -> Result<(), Fail> {
+        self.stream.shutdown(Shutdown::Write)?;
+        Ok(())
+    }
+
+    /// Reads updates as long as this one until it comes, and asks again behind each other one: a
+    /// thousand times at most.
     pub fn hear_at_last(&self, alloc: Global, update: &[u8], ask: &[u8]) -> Result<(), Fail> {
         let mut came = Vec::new(alloc);
         came.resize(update.len(), 0)?;
-        for _ in 0..3 {
+        for _ in 0..1000 {
             (&mut &self.stream).read_exact(&mut came)?;
             if came.as_slice() == update {
                 return Ok(());

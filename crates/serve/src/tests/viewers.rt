@@ -3,7 +3,7 @@
 use super::peers::{
     ALL, BLACK, CHANGES, GREEN, RED, large_host, listener, silent_viewer, small_host, viewer,
 };
-use super::{checked, print, told};
+use super::{checked, plan_of, print, told};
 use crate::Plan;
 use crate::tests::peers::Place;
 use broadcast::Start;
@@ -37,13 +37,7 @@ fn two_viewers_get_a_host_s_update(rt: HostRuntime) -> Result<(), Fail> {
     let (hosts, host) = listener(rt)?;
     let (viewers, place) = listener(rt)?;
     let address = host.address(rt.alloc())?;
-    let plan = Plan {
-        file: "watched",
-        host: Some(address.as_str()),
-        key_interval: 4,
-        viewers: 2,
-        from: Start::Live,
-    };
+    let plan = plan_of("watched", Some(address.as_str()), 2);
     let _ = fs::remove_file(rt, plan.file);
     let said = told(join(
         rt,
@@ -92,11 +86,8 @@ fn a_viewer_s_fault_ends_it_alone(rt: HostRuntime) -> Result<(), Fail> {
     let (viewers, place) = listener(rt)?;
     let address = host.address(rt.alloc())?;
     let plan = Plan {
-        file: "strangers",
-        host: Some(address.as_str()),
-        key_interval: 4,
-        viewers: 5,
         from: Start::At(0),
+        ..plan_of("strangers", Some(address.as_str()), 3)
     };
     let _ = fs::remove_file(rt, plan.file);
     let said = told(join(
@@ -147,13 +138,7 @@ fn a_viewer_that_sleeps_holds_up_nobody(rt: HostRuntime) -> Result<(), Fail> {
     let (hosts, host) = listener(rt)?;
     let (viewers, place) = listener(rt)?;
     let address = host.address(rt.alloc())?;
-    let plan = Plan {
-        file: "asleep",
-        host: Some(address.as_str()),
-        key_interval: 4,
-        viewers: 2,
-        from: Start::Live,
-    };
+    let plan = plan_of("asleep", Some(address.as_str()), 2);
     let _ = fs::remove_file(rt, plan.file);
     let said = told(join(
         rt,

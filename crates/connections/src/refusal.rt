@@ -13,7 +13,8 @@ use std::fmt;
 /// Why `serve` is refused. Its text is the part that refused it, and the number there.
 #[derive(Clone, Copy, Debug, PartialEq, Eq)]
 pub enum Refusal {
-    /// The recording's file can't be opened or made, or another recorder has it.
+    /// The recording's file can't be opened or made, another recorder has it, or it isn't there any
+    /// more in the end.
     File,
     /// The recording isn't opened.
     Recording(IndexFault),
@@ -27,6 +28,8 @@ pub enum Refusal {
     Book(HostRefusal),
     /// A socket failed.
     Net,
+    /// A thread can't be made.
+    Thread,
 }
 
 impl fmt::Display for Refusal {
@@ -35,6 +38,7 @@ impl fmt::Display for Refusal {
             Refusal::File => write!(f, "file 1"),
             Refusal::Device => write!(f, "journal 3"),
             Refusal::Net => write!(f, "net 1"),
+            Refusal::Thread => write!(f, "thread 1"),
             Refusal::Recording(fault) => write!(f, "{}", Numbered(*fault)),
             Refusal::Create(fault) => write!(f, "journal {}", fault.number()),
             Refusal::Host(fault) => write!(f, "host {}", fault.number()),

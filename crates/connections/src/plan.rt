@@ -1,0 +1,75 @@
+//! What is to be served, and for how long.
+
+ghost use Rattle.std.specs.Prelude.{◌≡◌, ◌≤◌, ℕ, Some};
+ghost use Rattle.reception.specs.State.{viewers_of};
+
+use broadcast::Start;
+use reception::Term;
+
+/// How many viewers are served.
+#[derive(Clone, Copy, Debug, PartialEq, Eq)]
+pub enum Audience {
+    /// So many, 1 to 64, each of which is waited for.
+    Count(u32),
+    /// Whoever comes, up to 64 at a time. Nobody is waited for.
+    Any,
+}
+
+/// What is to be served.
+#[derive(Clone, Copy)]
+pub struct Plan<'a> {
+    /// The recording's file.
+    pub file: &'a str,
+    /// Where viewers connect to.
+    pub listen: &'a str,
+    /// The host's address; without one the recording is served alone.
+    pub host: Option<&'a str>,
+    /// After how many messages a new recording has a key screen.
+    pub key_interval: u16,
+    /// How many viewers are served.
+    pub audience: Audience,
+    /// Where each viewer begins.
+    pub from: Start,
+    /// What ends it beside the host.
+    pub stop: Stop,
+    /// Whether what happens is told on standard error.
+    pub is_verbose: bool,
+}
+
+/// When a recorder is stopped. The host isn't read from any more then; what it sent is committed
+/// and shown to the viewers who are there.
+#[derive(Clone, Copy, Debug, PartialEq, Eq)]
+pub struct Stop {
+    /// Once standard input has ended.
+    pub at_end_of_input: bool,
+    /// After so many seconds.
+    pub after: Option<u64>,
+}
+
+impl Stop {
+    /// Never.
+    pub fn never() -> Stop {
+        Stop {
+            at_end_of_input: false,
+            after: None,
+        }
+    }
+
+    /// Whether it may ever come.
+    pub fn may_come(self) -> bool {
+        self.at_end_of_input || self.after.is_some()
+    }
+}
+
+impl Plan<'_> {
+    /// What the recorder waits for before it ends: for 64 viewers at most.
+    pub fn term(&self) -> Term
+        ensures { (n : ℕ) → viewers_of result ≡ Some n → n ≤ 64 }
+    {
+        match self.audience {
+            Audience::Count(all) => Term::Viewers(all.min(64)),
+            Audience::Any if self.host.is_some() => Term::Recording,
+            Audience::Any => Term::Stop,
+        }
+    }
+}

@@ -1,0 +1,210 @@
+//! What the threads of a recorder share beside its book.
+
+ghost use Rattle.std.specs.Prelude.{◌≡◌, ◌≤◌, ◌<◌, ◌^◌, ℕ, Some, length};
+ghost use Rattle.reception.specs.State.{viewers_of};
+
+use crate::bell::Bell;
+use crate::plan::Plan;
+use crate::telling::Telling;
+use broadcast::Start;
+use reception::{Arrival, Backlog, Reception, Term};
+use shared_book::Mark;
+use std::alloc::Global;
+use std::marker::PhantomData;
+use std::sync::atomic::{AtomicU64, Ordering};
+use std::sync::{Condvar, Mutex, Wait};
+
+/// Who watches, under a lock. Whoever waits here waits for the recorder to close or to be done, or
+/// for a viewer to have left, and is woken at each of them.
+#[derive(Drop)]
+pub struct Hall {
+    reception: Mutex<Reception>,
+    changed: Condvar,
+}
+
+impl Hall {
+    /// One that nobody came to yet.
+    pub fn new(term: Term) -> Hall
+        requires { (n : ℕ) → viewers_of term ≡ Some n → n ≤ 64 }
+    {
+        Hall {
+            reception: Mutex::new(Reception::new(term)),
+            changed: Condvar::new(),
+        }
+    }
+
+    /// Receives a connection.
+    pub fn arrive<R: Wait>(&self, rt: &R) -> Arrival {
+        self.reception.lock(rt).arrive()
+    }
+
+    /// Ends a handshake without a viewer.
+    pub fn give_up<R: Wait>(&self, rt: &R) {
+        self.reception.lock(rt).give_up();
+    }
+
+    /// Ends a handshake that is whole: whether the viewer takes a seat.
+    pub fn seat<R: Wait>(&self, rt: &R) -> bool {
+        self.reception.lock(rt).seat()
+    }
+
+    /// Frees a viewer's seat.
+    pub fn leave<R: Wait>(&self, rt: &R) {
+        self.reception.lock(rt).leave();
+        self.changed.notify_all();
+    }
+
+    /// Says that nothing more is recorded.
+    pub fn end<R: Wait>(&self, rt: &R) {
+        self.reception.lock(rt).end();
+        self.changed.notify_all();
+    }
+
+    /// Asks the recorder to end.
+    pub fn stop<R: Wait>(&self, rt: &R) {
+        self.reception.lock(rt).stop();
+        self.changed.notify_all();
+    }
+
+    /// Whether those who are there are only shown the rest.
+    pub fn is_closing<R: Wait>(&self, rt: &R) -> bool {
+        self.reception.lock(rt).is_closing()
+    }
+
+    /// Wakes those who wait here for a viewer to have left.
+    pub fn wake<R: Wait>(&self, rt: &R) {
+        // Who looked before is asleep once the lock is free, and is woken.
+        drop(self.reception.lock(rt));
+        self.changed.notify_all();
+    }
+
+    /// Waits until nothing is left to wait for.
+    pub fn wait_until_done<R: Wait>(&self, rt: &R) {
+        let _done = self.changed.wait_while(
+            rt,
+            self.reception.lock(rt),
+            |reception| !reception.is_done(),
+        );
+    }
+
+    /// Waits until the recorder is closing, or a viewer has left.
+    pub fn wait_until_closing<R: Wait, F: Fn() -> bool>(&self, rt: &R, has_left: F)
+        requires { F.IsAlwaysCallable has_left }
+    {
+        let _closing = self.changed.wait_while(
+            rt,
+            self.reception.lock(rt),
+            |reception| !reception.is_closing() && !has_left(),
+        );
+    }
+}
+
+/// How much waits to be committed, under a lock. The host's worker waits here for room.
+#[derive(Drop)]
+pub struct Intake {
+    state: Mutex<IntakeState>,
+    changed: Condvar,
+}
+
+#[derive(Drop)]
+struct IntakeState {
+    backlog: Backlog,
+    is_over: bool,
+}
+
+impl Intake {
+    /// Nothing waits.
+    pub fn new() -> Intake {
+        Intake {
+            state: Mutex::new(IntakeState {
+                backlog: Backlog::new(),
+                is_over: false,
+            }),
+            changed: Condvar::new(),
+        }
+    }
+
+    /// A message of so many bytes was accepted.
+    pub fn accept<R: Wait>(&self, rt: &R, bytes: u64) {
+        self.state.lock(rt).backlog.accept(bytes);
+    }
+
+    /// Messages of so many bytes were committed.
+    pub fn commit<R: Wait>(&self, rt: &R, bytes: u64) {
+        self.state.lock(rt).backlog.commit(bytes);
+        self.changed.notify_all();
+    }
+
+    /// Says that nothing more is committed, so that nobody waits for it.
+    pub fn end<R: Wait>(&self, rt: &R) {
+        self.state.lock(rt).is_over = true;
+        self.changed.notify_all();
+    }
+
+    /// Waits until the host may be asked for more, or nothing more is committed.
+    pub fn wait_for_room<R: Wait>(&self, rt: &R) {
+        let _room = self.changed.wait_while(rt, self.state.lock(rt), |state| {
+            !state.backlog.has_room() && !state.is_over
+        });
+    }
+}
+
+/// What all threads of a recorder share: the recording's size and name, where viewers begin, who
+/// watches, what waits, and how far the recording is committed.
+#[derive(Drop)]
+pub struct Room<M: Mark> {
+    pub alloc: Global,
+    pub size: (u16, u16),
+    pub name: Vec<u8>,
+    pub from: Start,
+    /// Whether there is no host: nothing is recorded.
+    pub is_alone: bool,
+    pub hall: Hall,
+    pub intake: Intake,
+    pub bell: Bell,
+    pub telling: Telling,
+    committed: AtomicU64,
+    of: PhantomData<M>,
+    ghost sized: { (size.0 ≡ M.head.width) × (size.1 ≡ M.head.height) },
+    ghost named: { length name.items < 2 ^ 32 },
+}
+
+impl<M: Mark> Room<M> {
+    /// The room of a recording of this size and name, of which so much is committed.
+    pub fn new(
+        alloc: Global,
+        size: (u16, u16),
+        name: Vec<u8>,
+        plan: &Plan<'_>,
+        bell: Bell,
+        telling: Telling,
+        committed: u64,
+    ) -> Room<M>
+        requires sized { (size.0 ≡ M.head.width) × (size.1 ≡ M.head.height) }
+        requires named { length name.items < 2 ^ 32 }
+    {
+        Room {
+            alloc,
+            size,
+            name,
+            from: plan.from,
+            is_alone: plan.host.is_none(),
+            hall: Hall::new(plan.term()),
+            intake: Intake::new(),
+            bell,
+            telling,
+            committed: AtomicU64::new(committed),
+            of: PhantomData,
+        }
+    }
+
+    /// How many messages are committed, as far as viewers were told.
+    pub fn committed(&self) -> u64 {
+        self.committed.load(Ordering::SeqCst)
+    }
+
+    /// Tells viewers that so many messages are committed.
+    pub fn set_committed(&self, count: u64) {
+        self.committed.store(count, Ordering::SeqCst);
+    }
+}

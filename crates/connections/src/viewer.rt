@@ -1,0 +1,269 @@
+//! The connection to a viewer, which two threads share.
+
+ghost use Rattle.std.specs.Prelude.{◌≡◌, ◌<◌, ◌≤◌, ◌^◌, ◌+◌, IfOk, length};
+ghost use Rattle.shared_book.specs.Receipts.{IsOfSize};
+
+use crate::bell::{Bell, Woken};
+use crate::limits::{ANSWER, FAREWELL, HANDSHAKE, time_left, watch_over, write_within};
+use crate::room::Hall;
+use disk::Disk;
+use flusher_core::Slice;
+use shared_book::{Mark, Shared};
+use std::alloc::Global;
+use std::io;
+use std::io::Read;
+use std::marker::PhantomData;
+use std::net::{Shutdown, TcpStream};
+use std::os::fd::AsRawFd;
+use std::sync::atomic::{AtomicBool, Ordering};
+use std::sync::{Condvar, Mutex, Wait};
+use std::time::{Clock, Duration, Instant};
+use viewer_session::Session;
+
+/// How many bytes are read at a time.
+const PIECE: usize = 4096;
+
+/// How many bytes are read at a time while the handshake is under way.
+const GREETING: usize = 64;
+
+/// The version that is spoken, and its newline.
+const VERSION: [u8; 12] = *b"RFB 003.008\n";
+
+/// A viewer's session of the recording's size.
+#[derive(Drop)]
+struct Talk<M: Mark> {
+    session: Session,
+    /// The first message count that the viewer is shown.
+    shows_from: u64,
+    of: PhantomData<M>,
+    ghost sized: { (session.view.screen.width ≡ M.head.width) × (session.view.screen.height ≡ M.head.height) },
+}
+
+impl<M: Mark> Talk<M> {
+    // Takes a piece of the viewer's stream: whether it goes on.
+    fn feed(&mut self, piece: &[u8]) -> bool {
+        self.session.feed(piece).is_ok()
+    }
+
+    // Goes on by a slice that begins where the session stands, or has a start: whether it does.
+    fn advance(&mut self, slice: &Slice) -> bool
+        requires sized { IsOfSize M.head.width M.head.height slice.now }
+        requires room { slice.now.first + length slice.now.messages.items < 2 ^ 64 }
+    {
+        if slice.start.is_none() && slice.first != self.session.position() {
+            return false;
+        }
+        self.session.advance(slice);
+        true
+    }
+
+    // Writes what is due, with an update where one is, within the time that an answer may take. A
+    // viewer that has not come to where it begins isn't answered yet.
+    fn answer<R: Clock>(&mut self, rt: &R, alloc: Global, stream: &TcpStream) -> io::Result<()> {
+        if self.session.position() < self.shows_from {
+            return Ok(());
+        }
+        let mut due = Vec::new(alloc);
+        self.session.answer(&mut due)?;
+        write_within(rt, stream, &due, ANSWER)
+    }
+
+    // Whether the viewer asks for what changes next, so that it was shown all that there is.
+    fn is_shown(&self) -> bool {
+        self.session.wants()
+    }
+}
+
+/// A viewer's connection: its socket, its session under a lock, and whether it has gone. Bytes are
+/// written under the lock, so that they keep their order. A viewer that doesn't read holds up its
+/// own two threads alone.
+#[derive(Drop)]
+pub struct Viewer<M: Mark> {
+    alloc: Global,
+    stream: TcpStream,
+    talk: Mutex<Talk<M>>,
+    changed: Condvar,
+    has_left: AtomicBool,
+}
+
+impl<M: Mark> Viewer<M> {
+    /// A viewer behind this socket, of the recording's size and name.
+    pub fn new(
+        alloc: Global,
+        stream: TcpStream,
+        size: (u16, u16),
+        name: &[u8],
+    ) -> io::Result<Viewer<M>>
+        requires size { (size.0 ≡ M.head.width) × (size.1 ≡ M.head.height) }
+        requires name { length name.now < 2 ^ 32 }
+    {
+        watch_over(&stream)?;
+        let session = Session::new(alloc, size.0, size.1, name)?;
+        Ok(Viewer {
+            alloc,
+            stream,
+            talk: Mutex::new(Talk {
+                session,
+                shows_from: 0,
+                of: PhantomData,
+            }),
+            changed: Condvar::new(),
+            has_left: AtomicBool::new(false),
+        })
+    }
+
+    /// Whether the viewer has gone.
+    pub fn has_left(&self) -> bool {
+        self.has_left.load(Ordering::SeqCst)
+    }
+
+    /// Ends the connection. A write that waits for the viewer fails then.
+    pub fn leave<R: Wait>(&self, rt: &R) {
+        self.has_left.store(true, Ordering::SeqCst);
+        let _ended = self.stream.shutdown(Shutdown::Both);
+        // Who looked before is asleep once the lock is free, and is woken.
+        drop(self.talk.lock(rt));
+        self.changed.notify_all();
+    }
+
+    /// Says that the viewer is shown nothing before it stands at this count. Its handshake is over.
+    pub fn show_from<R: Wait>(&self, rt: &R, count: u64) {
+        self.talk.lock(rt).shows_from = count;
+    }
+
+    /// Goes on by a slice, and answers what is due.
+    pub fn show<R: Clock + Wait>(&self, rt: &R, slice: &Slice)
+        requires sized { IsOfSize M.head.width M.head.height slice.now }
+        requires room { slice.now.first + length slice.now.messages.items < 2 ^ 64 }
+    {
+        let mut talk = self.talk.lock(rt);
+        let is_shown = talk.advance(slice) && talk.answer(rt, self.alloc, &self.stream).is_ok();
+        drop(talk);
+        if !is_shown {
+            self.leave(rt);
+        }
+    }
+
+    /// Waits until the viewer was shown all that there is, has gone, or doesn't ask for a while.
+    pub fn wait_until_shown<R: Clock + Wait>(&self, rt: &R) {
+        let _shown = self.changed.wait_timeout_while(
+            rt,
+            self.talk.lock(rt),
+            Duration::from_secs(FAREWELL),
+            |talk| !talk.is_shown() && !self.has_left(),
+        );
+    }
+
+    // Takes a piece of the viewer's stream, and answers what is due: whether the viewer goes on.
+    fn hear<R: Clock + Wait>(&self, rt: &R, piece: &[u8]) -> bool {
+        let mut talk = self.talk.lock(rt);
+        let goes_on = talk.feed(piece);
+        let is_answered = talk.answer(rt, self.alloc, &self.stream).is_ok();
+        drop(talk);
+        self.changed.notify_all();
+        is_answered && goes_on
+    }
+
+    // Reads a piece, at most as long as the buffer: how many bytes came, and none at the end.
+    fn read(&self, buffer: &mut [u8]) -> io::Result<usize>
+        ensures { IfOk result (λ count. count ≤ length buffer.old) }
+    {
+        for _ in 0..u64::MAX {
+            match (&mut &self.stream).read(buffer) {
+                Err(error) if error.kind() == io::ErrorKind::Interrupted => {}
+                outcome => return outcome,
+            }
+        }
+        Ok(0)
+    }
+
+    /// Hears the viewer's handshake, for 30 seconds at most, or until the bell rings: whether it is
+    /// whole.
+    pub fn greet<R: Clock + Wait>(&self, rt: &R, bell: &Bell) -> io::Result<bool> {
+        let started = Instant::now(rt)?;
+        let mut buffer = [0u8; GREETING];
+        if !self.hear(rt, &[]) {
+            return Ok(false);
+        }
+        for _ in 0..u64::MAX {
+            if self.talk.lock(rt).session.is_greeted() {
+                return Ok(true);
+            }
+            let left = time_left(rt, started, HANDSHAKE)?;
+            match bell.wait(Some(self.stream.as_raw_fd()), Some(left)) {
+                Woken::Rung => return Ok(false),
+                Woken::TimedOut => {}
+                Woken::Ready => {
+                    let count = self.read(&mut buffer)?;
+                    if count == 0 || !self.hear(rt, &buffer[..count]) {
+                        return Ok(false);
+                    }
+                }
+            }
+        }
+        Ok(false)
+    }
+
+    // Reads what the viewer sends, until it ends, or the socket fails.
+    fn hear_all<R: Clock + Wait>(&self, rt: &R) -> io::Result<()> {
+        let mut buffer = Vec::new(self.alloc);
+        buffer.resize(PIECE, 0)?;
+        for _ in 0..u64::MAX {
+            let count = self.read(&mut buffer)?;
+            if count == 0 || !self.hear(rt, &buffer[..count]) {
+                return Ok(());
+            }
+        }
+        Ok(())
+    }
+
+    /// Hears a viewer that has a seat to its end, and has that noticed.
+    pub fn listen<D: Disk, R: Clock + Wait>(&self, rt: &R, shared: &Shared<D, M>, hall: &Hall) {
+        let _heard = self.hear_all(rt);
+        self.leave(rt);
+        shared.wake(rt);
+        hall.wake(rt);
+    }
+}
+
+// Reads over the version of a connection, until the bell rings: whether it came.
+fn hear_version<R: Clock>(rt: &R, stream: &TcpStream, bell: &Bell) -> io::Result<bool> {
+    let started = Instant::now(rt)?;
+    let mut version = [0u8; VERSION.len()];
+    let mut heard = 0;
+    for _ in 0..u64::MAX {
+        if heard >= VERSION.len() {
+            return Ok(true);
+        }
+        let left = time_left(rt, started, HANDSHAKE)?;
+        match bell.wait(Some(stream.as_raw_fd()), Some(left)) {
+            Woken::Rung => return Ok(false),
+            Woken::TimedOut => {}
+            Woken::Ready => match (&mut &*stream).read(&mut version[heard..])? {
+                0 => return Ok(false),
+                count => heard += count,
+            },
+        }
+    }
+    Ok(false)
+}
+
+/// Tells a connection why it is turned away, by no security type and a reason: RFC 6143, section
+/// 7.1.2. It may take 30 seconds, or until the bell rings.
+pub fn turn_away<R: Clock>(
+    rt: &R,
+    stream: &TcpStream,
+    bell: &Bell,
+    reason: &str,
+) -> io::Result<()> {
+    let Ok(count) = u32::try_from(reason.len()) else {
+        return Err(io::ErrorKind::InvalidInput.into());
+    };
+    write_within(rt, stream, &VERSION, HANDSHAKE)?;
+    if !hear_version(rt, stream, bell)? {
+        return Ok(());
+    }
+    write_within(rt, stream, &[0], HANDSHAKE)?;
+    write_within(rt, stream, &count.to_be_bytes(), HANDSHAKE)?;
+    write_within(rt, stream, reason.as_bytes(), HANDSHAKE)
+}

@@ -1,0 +1,175 @@
+//! Who may watch, and when a recorder is done.
+
+ghost use Rattle.std.specs.Prelude.{◌≡◌, ◌≤◌, ◌<◌, ◌+◌, ◌-◌, ◌^◌, ℕ, true, false, Some};
+ghost use Rattle.reception.specs.State.{viewers_of, free_places, is_closing, is_done, arrival_at, takes_seat};
+
+use crate::term::{Arrival, Reason, Term};
+use std::marker::Model;
+
+/// How many handshakes may be under way at a time.
+const HANDSHAKES: u32 = 64;
+
+/// How many viewers may have a seat at a time.
+const SEATS: u32 = 64;
+
+/// Counts those who come to watch a recorder, and knows when it has nothing left to wait for.
+/// Contracts see the counts.
+#[derive(Drop)]
+pub struct Reception {
+    term: Term,
+    greeting: u32,
+    watching: u32,
+    gone: u64,
+    has_ended: bool,
+    is_stopped: bool,
+}
+
+impl Model for Reception {
+    ghost use Rattle.std.specs.Prelude.{◌≡◌, ◌≤◌, ◌+◌, ℕ, Some};
+    ghost use Rattle.reception.specs.State.{State, viewers_of};
+
+    ghost Value = { State };
+
+    ghost view = { λ r. record {
+      term = r.term;
+      greeting = r.greeting;
+      watching = r.watching;
+      gone = r.gone;
+      ended = r.has_ended;
+      stopped = r.is_stopped;
+    } };
+
+    ghost invariant = { λ r. (r.greeting ≤ 64) × (r.watching ≤ 64)
+        × ((n : ℕ) → viewers_of r.term ≡ Some n → (n ≤ 64) × (r.watching + r.gone ≤ n)) };
+}
+
+impl Reception {
+    /// One that nobody came to yet, of a recorder that goes on for so long: for 64 viewers at most,
+    /// where it is for a number of them.
+    pub fn new(term: Term) -> Reception
+        requires { (n : ℕ) → viewers_of term ≡ Some n → n ≤ 64 }
+        ensures { result ≡ record { term = term; greeting = 0; watching = 0; gone = 0; ended = false; stopped = false } }
+    {
+        Reception {
+            term,
+            greeting: 0,
+            watching: 0,
+            gone: 0,
+            has_ended: false,
+            is_stopped: false,
+        }
+    }
+
+    /// Does nothing: its contract is what always holds. No more than 64 handshakes are under way and
+    /// 64 viewers are there; and where a recorder serves so many viewers, no more ever had a seat.
+    pub fn known(&self)
+        ensures greeting { self.now.greeting ≤ 64 }
+        ensures watching { self.now.watching ≤ 64 }
+        ensures all { (n : ℕ) → viewers_of self.now.term ≡ Some n → self.now.watching + self.now.gone ≤ n }
+    {
+        let _watching = self.watching;
+    }
+
+    // How many viewers may still take a seat.
+    fn free_places(&self) -> u32
+        ensures { result ≡ free_places self.now }
+    {
+        match self.term {
+            Term::Viewers(all) => all - (self.watching + self.gone as u32),
+            Term::Recording | Term::Stop => SEATS - self.watching,
+        }
+    }
+
+    /// Whether no more viewers are taken, and those who are there are only shown the rest.
+    pub fn is_closing(&self) -> bool
+        ensures { result ≡ is_closing self.now }
+    {
+        self.is_stopped || (self.has_ended && self.term == Term::Recording)
+    }
+
+    /// Whether nothing is left to wait for: nothing more is recorded, nobody watches, and no viewer
+    /// is to come.
+    pub fn is_done(&self) -> bool
+        ensures { result ≡ is_done self.now }
+    {
+        if !self.has_ended || self.watching != 0 {
+            return false;
+        }
+        match self.term {
+            Term::Viewers(all) => self.is_closing() || self.gone == u64::from(all),
+            Term::Recording | Term::Stop => self.is_closing(),
+        }
+    }
+
+    /// Receives a connection. Unless it is dropped its handshake is under way then.
+    pub fn arrive(&mut self) -> Arrival
+        ensures result { result ≡ arrival_at self.old }
+        ensures dropped { result ≡ Arrival.Dropped → self.new ≡ self.old }
+        ensures received { self.old.greeting < 64 → self.new ≡ record self.old { greeting = self.old.greeting + 1 } }
+    {
+        if self.greeting == HANDSHAKES {
+            return Arrival::Dropped;
+        }
+        self.greeting += 1;
+        if self.is_closing() {
+            Arrival::TurnedAway(Reason::Closing)
+        } else if self.free_places() == 0 {
+            Arrival::TurnedAway(Reason::Full)
+        } else {
+            Arrival::Greeted
+        }
+    }
+
+    /// Ends a handshake without a viewer, which takes up nothing. Where none is under way it does
+    /// nothing.
+    pub fn give_up(&mut self)
+        ensures { self.new ≡ record self.old { greeting = self.old.greeting - 1 } }
+    {
+        self.greeting = self.greeting.saturating_sub(1);
+    }
+
+    /// Ends a handshake that is whole: whether the viewer takes a seat. It does where one is free,
+    /// also when others came first since it arrived.
+    pub fn seat(&mut self) -> bool
+        ensures taken { result ≡ takes_seat self.old }
+        ensures seated { result ≡ true → self.new ≡ record self.old { greeting = self.old.greeting - 1; watching = self.old.watching + 1 } }
+        ensures refused { result ≡ false → self.new ≡ record self.old { greeting = self.old.greeting - 1 } }
+    {
+        self.give_up();
+        if self.is_closing() || self.free_places() == 0 {
+            return false;
+        }
+        self.watching += 1;
+        true
+    }
+
+    /// Frees the seat of a viewer who left. Where nobody watches it does nothing. More than
+    /// 2^64 - 1 who left aren't counted.
+    pub fn leave(&mut self)
+        ensures nobody { self.old.watching ≡ 0 → self.new ≡ self.old }
+        ensures left { 0 < self.old.watching → self.old.gone + 1 < 2 ^ 64
+            → self.new ≡ record self.old { watching = self.old.watching - 1; gone = self.old.gone + 1 } }
+        ensures uncounted { 0 < self.old.watching → self.old.gone + 1 ≡ 2 ^ 64
+            → self.new ≡ record self.old { watching = self.old.watching - 1 } }
+    {
+        if self.watching == 0 {
+            return;
+        }
+        self.watching -= 1;
+        self.gone = self.gone.saturating_add(1);
+    }
+
+    /// Says that nothing more is recorded.
+    pub fn end(&mut self)
+        ensures { self.new ≡ record self.old { ended = true } }
+    {
+        self.has_ended = true;
+    }
+
+    /// Asks the recorder to end.
+    pub fn stop(&mut self)
+        ensures { self.new ≡ record self.old { stopped = true } }
+    {
+        self.is_stopped = true;
+    }
+}

@@ -1,0 +1,32 @@
+//! How long a recorder goes on, and how a connection is received.
+
+/// What a recorder waits for before it ends.
+#[derive(Clone, Copy, Debug, PartialEq, Eq)]
+pub enum Term {
+    /// The end of its recording, and so many viewers who came and went.
+    Viewers(u32),
+    /// The end of its recording. Viewers come and go; those who are there then are shown the rest.
+    Recording,
+    /// Being stopped.
+    Stop,
+}
+
+/// Why a connection is turned away.
+#[derive(Clone, Copy, Debug, PartialEq, Eq)]
+pub enum Reason {
+    /// No seat is free.
+    Full,
+    /// No more viewers are taken: the recorder is about to end.
+    Closing,
+}
+
+/// How a connection is received.
+#[derive(Clone, Copy, Debug, PartialEq, Eq)]
+pub enum Arrival {
+    /// Its handshake begins.
+    Greeted,
+    /// It is told why it is turned away.
+    TurnedAway(Reason),
+    /// It is closed at once: as many handshakes as may be are under way.
+    Dropped,
+}

@@ -1,0 +1,145 @@
+//! What viewers are shown of a host's end, and who is taken.
+
+use super::peers::{
+    ALL, BLACK, CHANGES, GREEN, Peer, Place, RED, listener, silent_viewer, small_host, viewer,
+};
+use super::{checked, plan_of, print, told};
+use crate::{Audience, Plan};
+use broadcast::Start;
+use std::alloc::Global;
+use std::fs;
+use std::net::{Net, TcpListener, TcpStream};
+use std::test::Fail;
+use std::thread::join;
+
+/// An update of the one place in blue.
+const BLUE: [u8; 20] = *b"\0\0\0\x01\0\0\0\0\0\x01\0\x01\0\0\0\0\xff\0\0\0";
+
+/// A version, and the refusal of a viewer for whom there is no seat.
+const NO_SEAT: &[u8; 36] = b"RFB 003.008\n\0\0\0\0\x13all seats are taken";
+
+// Sends 300 updates and a blue one in one piece, and ends.
+fn burst(alloc: Global, host: &Peer) -> Result<(), Fail> {
+    let mut bytes = Vec::new(alloc);
+    for _ in 0..300 {
+        bytes.extend_from_slice(&RED)?;
+    }
+    bytes.extend_from_slice(&BLUE)?;
+    host.say(&bytes)?;
+    host.finish()
+}
+
+// One viewer comes and goes, a second is there, a third finds no seat, and one says nothing; then
+// the host ends, and the second is shown the end.
+fn the_end_is_shown<R: Net<Stream = TcpStream, Listener = TcpListener> + AllocGlobal>(
+    rt: &R,
+    hosts: TcpListener,
+    place: Place,
+    stays: bool,
+) -> Result<(), Fail> {
+    let alloc = rt.alloc();
+    let host = small_host(alloc, &hosts)?;
+    let first = viewer(rt, place)?;
+    first.talk(alloc, &ALL, &BLACK)?;
+    if stays {
+        let refused = silent_viewer(rt, place)?;
+        refused.say(b"RFB 003.008\n")?;
+        refused.hear(alloc, NO_SEAT)?;
+        refused.ends()?;
+        burst(alloc, &host)?;
+        return first.hear_at_last(alloc, &BLUE, &CHANGES);
+    }
+    drop(first);
+    let silent = silent_viewer(rt, place)?;
+    let second = viewer(rt, place)?;
+    second.talk(alloc, &ALL, &BLACK)?;
+    second.say(&CHANGES)?;
+    burst(alloc, &host)?;
+    second.hear_at_last(alloc, &BLUE, &CHANGES)?;
+    second.say(&CHANGES)?;
+    second.ends()?;
+    silent.hear(alloc, b"RFB 003.008\n")?;
+    silent.ends()
+}
+
+#[test]
+fn a_viewer_is_shown_the_end(rt: HostRuntime) -> Result<(), Fail> {
+    let rt = &rt;
+    let file = "shown";
+    for audience in [Audience::Any, Audience::Count(1)] {
+        let (hosts, host) = listener(rt)?;
+        let (viewers, place) = listener(rt)?;
+        let address = host.address(rt.alloc())?;
+        let plan = Plan {
+            audience,
+            ..plan_of(file, Some(address.as_str()), 1)
+        };
+        let _ = fs::remove_file(rt, file);
+        let stays = audience == Audience::Count(1);
+        let said = told(join(
+            rt,
+            move || print(rt, plan, viewers),
+            move || { the_end_is_shown(rt, hosts, place, stays) },
+        ))?;
+        assert!(rt; said.as_str() == "true serving\ncommitted 301\n", "{said}");
+    }
+    fs::remove_file(rt, file)?;
+    Ok(())
+}
+
+// Two updates come in one piece, and then one with a fault behind it; one who begins behind what
+// there is is told so.
+fn pieces_come<R: Net<Stream = TcpStream, Listener = TcpListener> + AllocGlobal>(
+    rt: &R,
+    hosts: TcpListener,
+    place: Place,
+) -> Result<(), Fail> {
+    let alloc = rt.alloc();
+    let host = small_host(alloc, &hosts)?;
+    let early = silent_viewer(rt, place)?;
+    early.say(b"RFB 003.008\n")?;
+    early.hear(
+        alloc,
+        b"RFB 003.008\n\0\0\0\0\x20the recording has fewer messages",
+    )?;
+    let mut piece = Vec::from_slice(alloc, &RED)?;
+    piece.extend_from_slice(&GREEN)?;
+    host.say(&piece)?;
+    host.hear(alloc, &CHANGES)?;
+    host.hear(alloc, &CHANGES)?;
+    let one = viewer(rt, place)?;
+    one.say(&ALL)?;
+    one.hear_at_last(alloc, &GREEN, &CHANGES)?;
+    let mut piece = Vec::from_slice(alloc, &BLUE)?;
+    piece.push(9)?;
+    host.say(&piece)?;
+    one.say(&CHANGES)?;
+    one.hear_at_last(alloc, &BLUE, &CHANGES)
+}
+
+#[test]
+fn messages_in_one_piece_keep_their_order(rt: HostRuntime) -> Result<(), Fail> {
+    let rt = &rt;
+    let file = "pieces";
+    let (hosts, host) = listener(rt)?;
+    let (viewers, place) = listener(rt)?;
+    let address = host.address(rt.alloc())?;
+    let plan = Plan {
+        from: Start::At(1),
+        ..plan_of(file, Some(address.as_str()), 1)
+    };
+    let _ = fs::remove_file(rt, file);
+    let said = told(join(
+        rt,
+        move || print(rt, plan, viewers),
+        move || pieces_come(rt, hosts, place),
+    ))?;
+    let refused = "false serving\nrecorderd: serve refused host 1\n";
+    assert!(rt; said.as_str() == refused, "{said}");
+    let said = checked(rt, file)?;
+    assert!(rt;
+        said.as_str().starts_with("recording 1 1 messages 3 "),
+        "{said}"
+    );
+    Ok(())
+}
