@@ -1,0 +1,32 @@
+-- The areas: the word of each, and which numbers its refusals have.
+use Rattle.std.specs.Prelude.{◌≡◌, ◌≤◌, ◌⊎◌, ℕ, List, codes}
+use Rattle.explanations.specs.declared.area.Area.{Area}
+use Rattle.explanations.specs.declared.area.Area.TheVariants as area
+
+-- the word that names an area in a refusal's line
+abbrev pub word_of : Area → List ℕ
+word_of area.Journal = codes "journal"
+word_of area.Index = codes "index"
+word_of area.Replay = codes "replay"
+word_of area.Export = codes "export"
+word_of area.Fbs = codes "fbs"
+word_of area.Wire = codes "wire"
+word_of area.Host = codes "host"
+word_of area.Book = codes "book"
+word_of area.File = codes "file"
+word_of area.Net = codes "net"
+word_of area.Thread = codes "thread"
+
+-- the number is one of an area's refusals
+abbrev pub IsNumberOf : Area → ℕ → Type 0
+IsNumberOf area.Journal number = (1 ≤ number) × (number ≤ 4)
+IsNumberOf area.Index number = (1 ≤ number) × (number ≤ 5)
+IsNumberOf area.Replay number = (1 ≤ number) × (number ≤ 3)
+IsNumberOf area.Export number = (1 ≤ number) × (number ≤ 5)
+IsNumberOf area.Fbs number = (1 ≤ number) × (number ≤ 9)
+IsNumberOf area.Wire number = (1 ≤ number) × (number ≤ 9)
+IsNumberOf area.Host number = ((1 ≤ number) × (number ≤ 9)) ⊎ ((20 ≤ number) × (number ≤ 24))
+IsNumberOf area.Book number = (1 ≤ number) × (number ≤ 4)
+IsNumberOf area.File number = number ≡ 1
+IsNumberOf area.Net number = number ≡ 1
+IsNumberOf area.Thread number = number ≡ 1
