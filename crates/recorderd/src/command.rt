@@ -48,6 +48,22 @@ fn print<O: Write>(out: &mut O, text: &str) -> io::Result<bool> {
     Ok(true)
 }
 
+// The status of a bad command line, which is told.
+fn bad_words<E: Write>(err: &mut E) -> u8
+    ensures { result ≤ 2 }
+{
+    match writeln!(err, "recorderd: bad command line") {
+        Ok(()) => BAD_WORDS,
+        Err(_) => REFUSED,
+    }
+}
+
+// Prints what a refusal means, on a line of its own.
+fn print_line<O: Write>(out: &mut O, text: &str) -> io::Result<bool> {
+    writeln!(out, "{text}")?;
+    Ok(true)
+}
+
 // The status behind a command that did its work or was refused, once all is written.
 fn status_of<O: Write>(done: io::Result<bool>, out: &mut O) -> u8
     ensures { result ≤ 1 }
@@ -91,12 +107,11 @@ where
         Chosen::FbsCheck(path) => file_commands::fbs_check(rt, path, progress, out, err),
         Chosen::Serve(plan) => serve::serve(rt, plan, out, err),
         Chosen::Text(text) => print(out, &text),
-        Chosen::Bad => {
-            return match writeln!(err, "recorderd: bad command line") {
-                Ok(()) => BAD_WORDS,
-                Err(_) => REFUSED,
-            };
-        }
+        Chosen::Explain(area, number) => match explanations::explain(area, number) {
+            Some(text) => print_line(out, text),
+            None => return bad_words(err),
+        },
+        Chosen::Bad => return bad_words(err),
     };
     status_of(done, out)
 }

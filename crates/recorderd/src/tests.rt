@@ -76,6 +76,11 @@ fn words_that_are_no_command_line(rt: HostRuntime) -> Result<(), Fail> {
         "serve --file r --listen a --key 0",
         "serve --file r --listen a --key 4097",
         "serve --file r --listen a --from then",
+        "serve --file r --listen a --viewers all",
+        "serve --file r --listen a --seconds soon",
+        "explain journal",
+        "explain moon 1",
+        "explain journal 9",
     ] {
         let line = format!(in rt.alloc(); "recorderd {wrong}")?;
         let (status, out, err) = ran(&rt, &line, "")?;

@@ -17,6 +17,8 @@ pub enum Chosen<'a> {
     Export(Extract<'a>),
     FbsCheck(&'a str),
     Serve(Plan<'a>),
+    /// What a refusal of this area and number means.
+    Explain(&'a str, u64),
     /// Text to be printed: help, or the version.
     Text(String),
     /// The words are no command line.
@@ -70,6 +72,14 @@ fn fbs_check<'a>(alloc: Global) -> Result<Command<'a>, AllocError> {
         .about("Reads a whole FBS file, and prints its size and how much it holds")
         .after_help("Example: recorderd fbs-check r.fbs")
         .arg(required(alloc, "PATH", "The FBS file"))
+}
+
+fn explain<'a>(alloc: Global) -> Result<Command<'a>, AllocError> {
+    Command::new(alloc, "explain")
+        .about("Says what a refusal means, where it comes from, and what to do")
+        .after_help("Example, of the line 'recorderd: check refused journal 1': recorderd explain journal 1")
+        .arg(required(alloc, "AREA", "The word behind 'refused'"))?
+        .arg(required(alloc, "NUMBER", "The number behind it"))
 }
 
 fn option<'a>(alloc: Global, name: &'a str, value: &'a str, help: &'a str) -> Arg<'a> {
@@ -158,7 +168,8 @@ fn all_commands<'a>(alloc: Global) -> Result<Command<'a>, AllocError> {
         .subcommand(check(alloc)?)?
         .subcommand(export(alloc)?)?
         .subcommand(fbs_check(alloc)?)?
-        .subcommand(serving(alloc)?)
+        .subcommand(serving(alloc)?)?
+        .subcommand(explain(alloc)?)
 }
 
 // A decimal number: digits alone.
@@ -239,6 +250,10 @@ fn choose<'a>(matches: &ArgMatches<'a>) -> Option<Chosen<'a>> {
         "check" => Some(Chosen::Check(matches.get_str("PATH")?)),
         "export" => Some(Chosen::Export(extract(matches)?)),
         "serve" => Some(Chosen::Serve(plan(matches)?)),
+        "explain" => {
+            let number = number(matches.get_str("NUMBER")?)?;
+            Some(Chosen::Explain(matches.get_str("AREA")?, number))
+        }
         "fbs-check" => Some(Chosen::FbsCheck(matches.get_str("PATH")?)),
         _ => None,
     }

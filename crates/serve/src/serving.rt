@@ -408,6 +408,7 @@ where
         rt, token, book, plan, source, listener, bell, telling, err,
     )?;
     if !identity.is_at(rt, plan.file) {
+        Telling::new(plan.is_verbose).tell(rt, Event::Replaced(plan.file));
         return Err(Stopped::Refused(Refusal::File));
     }
     writeln!(out, "committed {committed}")?;
