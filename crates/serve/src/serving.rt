@@ -188,14 +188,39 @@ struct Outcome {
     told: io::Result<()>,
 }
 
+// Says why the recorder is refused, if it is.
+fn outcome_of<W: Write>(refusal: Option<Refusal>, err: &mut W) -> Outcome {
+    let told = match refusal {
+        Some(refusal) => refuse(refusal, err),
+        None => Ok(()),
+    };
+    Outcome { refusal, told }
+}
+
+// Commits until the host has ended, and waits for its worker: how both ended.
+fn record_all<D: Disk, M: Mark, R: Threads + Clock + Eprint + Wait>(
+    rt: &R,
+    shared: &Shared<D, M>,
+    room: &Room<M>,
+    stream: Option<&TcpStream>,
+    host: Option<JoinHandle<HostEnds>>,
+) -> Ends {
+    let flusher = flush(rt, shared, room, stream);
+    let (worker, host) = match host {
+        Some(recording) => recording.join(rt),
+        None => (Ok(()), HostEnd::Closed),
+    };
+    Ends {
+        flusher,
+        worker,
+        host,
+        is_listener_sound: true,
+    }
+}
+
 // Records until the host has ended, says at once where that is refused, and waits until nobody is
 // left to be served.
-fn conduct<
-    D: Disk + Send,
-    M: Mark + Send + Sync,
-    R: Threads + Clock + Eprint + Wait + Sync,
-    W: Write,
->(
+fn conduct<D: Disk, M: Mark, R: Threads + Clock + Eprint + Wait, W: Write>(
     rt: &R,
     shared: &Shared<D, M>,
     room: &Room<M>,
@@ -203,38 +228,69 @@ fn conduct<
     crew: Crew,
     err: &mut W,
 ) -> Outcome {
-    let flusher = flush(rt, shared, room, stream);
-    let (worker, host) = match crew.host {
-        Some(recording) => recording.join(rt),
-        None => (Ok(()), HostEnd::Closed),
-    };
-    let ends = Ends {
-        flusher,
-        worker,
-        host,
-        is_listener_sound: true,
-    };
-    let refusal = first_refusal(ends);
-    let told = match refusal {
-        Some(refusal) => refuse(refusal, err),
-        None => Ok(()),
-    };
+    let Crew { host, viewers } = crew;
+    let ends = record_all(rt, shared, room, stream, host);
+    let outcome = outcome_of(first_refusal(ends), err);
     room.hall.end(rt);
     room.hall.wait_until_done(rt);
     room.bell.ring();
-    let is_listener_sound = crew.viewers.join(rt);
-    if refusal.is_some() {
-        return Outcome { refusal, told };
+    let is_listener_sound = viewers.join(rt);
+    if is_listener_sound || outcome.refusal.is_some() {
+        return outcome;
     }
-    let refusal = first_refusal(Ends {
-        is_listener_sound,
-        ..ends
-    });
-    let told = match refusal {
-        Some(refusal) => refuse(refusal, err),
-        None => Ok(()),
-    };
-    Outcome { refusal, told }
+    outcome_of(Some(Refusal::Net), err)
+}
+
+// Runs the threads of a recorder within a scope of theirs, until all is done.
+fn run_threads<
+    's,
+    E,
+    D: Disk + Send,
+    M: Mark + Send + Sync,
+    R: Threads + Clock + Eprint + Wait + Sync,
+    W: Write,
+>(
+    rt: &'s R,
+    scope: &'s Scope<'s, E>,
+    shared: &'s Shared<D, M>,
+    room: &'s Room<M>,
+    host: Option<(Host, Stopwatch)>,
+    stream: Option<&'s TcpStream>,
+    listener: &'s TcpListener,
+    stop: Stop,
+    err: &mut W,
+) -> Outcome {
+    match start(rt, scope, shared, room, host, stream, listener, stop) {
+        Some(crew) => conduct(rt, shared, room, stream, crew, err),
+        None => {
+            give_up(rt, shared, room, stream);
+            outcome_of(Some(Refusal::Thread), err)
+        }
+    }
+}
+
+// Runs the threads of a recorder until all has ended: how it ended.
+fn share_threads<
+    'a,
+    D: Disk + Send,
+    M: Mark + Send + Sync,
+    R: Threads + Clock + Eprint + Wait + Sync,
+    W: Write,
+>(
+    rt: &'a R,
+    shared: &'a Shared<D, M>,
+    room: &'a Room<M>,
+    host: Option<(Host, Stopwatch)>,
+    stream: Option<&'a TcpStream>,
+    listener: &'a TcpListener,
+    stop: Stop,
+    err: &'a mut W,
+) -> Outcome {
+    thread::scope(
+        thread::scope_env(),
+        rt,
+        |scope| run_threads(rt, scope, shared, room, host, stream, listener, stop, err),
+    )
 }
 
 // Shares a desk with a host, if there is one, and the viewers, until all have ended: how it ended,
@@ -261,19 +317,16 @@ fn share<
 {
     let shared = Shared::<D, M>::new(rt, token, desk);
     let Source { host, stream } = source;
-    let stream = stream.as_ref();
-    let outcome = thread::scope(thread::scope_env(), rt, |scope| {
-        match start(rt, scope, &shared, room, host, stream, listener, stop) {
-            Some(crew) => conduct(rt, &shared, room, stream, crew, err),
-            None => {
-                give_up(rt, &shared, room, stream);
-                Outcome {
-                    refusal: Some(Refusal::Thread),
-                    told: refuse(Refusal::Thread, err),
-                }
-            }
-        }
-    });
+    let outcome = share_threads(
+        rt,
+        &shared,
+        room,
+        host,
+        stream.as_ref(),
+        listener,
+        stop,
+        err,
+    );
     (outcome, shared.finish().committed())
 }
 
@@ -360,6 +413,82 @@ fn serve_book<
     }
 }
 
+/// A recorder that may begin: its recording, which file that is, the host, and where viewers come.
+#[derive(Drop)]
+struct Opened {
+    book: Book<FileDisk>,
+    identity: Identity,
+    source: Source,
+    listener: TcpListener,
+}
+
+// The host's connection, if there is a host; of the size of the recording that was found.
+fn host_of<R: AllocGlobal + Clock + Eprint + Net<Stream = TcpStream> + Wait>(
+    rt: &R,
+    plan: &Plan<'_>,
+    found: &Found,
+    telling: &Telling,
+) -> Result<Option<Host>, Refusal> {
+    let Some(address) = plan.host else {
+        return Ok(None);
+    };
+    let expected = match found {
+        Found::Recording(book, _) => Some(book.header().size()),
+        _ => None,
+    };
+    Ok(Some(Host::connect(rt, address, expected, telling)?))
+}
+
+// Where viewers come, as the closure makes it.
+fn listener_of<R: Eprint + Wait, L: FnOnce() -> io::Result<TcpListener> + Drop>(
+    rt: &R,
+    plan: &Plan<'_>,
+    listen: L,
+    telling: &Telling,
+) -> Result<TcpListener, Stopped>
+    requires { L.IsAlwaysCallable listen }
+{
+    let listener = match listen() {
+        Ok(listener) => listener,
+        Err(error) => {
+            telling.tell_failure(rt, "listen at", plan.listen, &error);
+            return Err(Stopped::Refused(Refusal::Net));
+        }
+    };
+    listener.set_nonblocking(true)?;
+    telling.tell(rt, Event::Listening(listener.local_addr()?));
+    Ok(listener)
+}
+
+// Opens the recording, connects to the host, listens, and makes the recording where there is none.
+fn open<R, L>(rt: &R, plan: &Plan<'_>, listen: L, telling: &Telling) -> Result<Opened, Stopped>
+where
+    R: AllocGlobal + Clock + Eprint + Files<File = File> + Wait,
+    R: Net<Stream = TcpStream, Listener = TcpListener>,
+    L: FnOnce() -> io::Result<TcpListener> + Drop,
+    requires { L.IsAlwaysCallable listen }
+{
+    let alloc = rt.alloc();
+    let found = find(rt, alloc, plan.file, plan.host.is_some(), telling)?;
+    let host = host_of(rt, plan, &found, telling)?;
+    let listener = listener_of(rt, plan, listen, telling)?;
+    let (mut book, identity) = recording_for(rt, alloc, plan, found, host.as_ref(), telling)?;
+    let base = last_time(&mut book)?;
+    let source = source_of(rt, host, base)?;
+    Ok(Opened {
+        book,
+        identity,
+        source,
+        listener,
+    })
+}
+
+// Prints a line, at once.
+fn print_line<W: Write>(out: &mut W, line: &str) -> io::Result<()> {
+    writeln!(out, "{line}")?;
+    out.flush()
+}
+
 fn run<R, L, O, W>(
     rt: &R,
     plan: &Plan<'_>,
@@ -375,35 +504,19 @@ where
     W: Write,
     requires { L.IsAlwaysCallable listen }
 {
-    let alloc = rt.alloc();
     let telling = Telling::new(plan.is_verbose);
-    let found = find(rt, alloc, plan.file, plan.host.is_some(), &telling)?;
-    let expected = match &found {
-        Found::Recording(book, _) => Some(book.header().size()),
-        _ => None,
-    };
-    let host = match plan.host {
-        Some(address) => Some(Host::connect(rt, address, expected, &telling)?),
-        None => None,
-    };
-    let listener = match listen() {
-        Ok(listener) => listener,
-        Err(error) => {
-            telling.tell_failure(rt, "listen at", plan.listen, &error);
-            return Err(Stopped::Refused(Refusal::Net));
-        }
-    };
-    listener.set_nonblocking(true)?;
-    telling.tell(rt, Event::Listening(listener.local_addr()?));
-    let (mut book, identity) = recording_for(rt, alloc, plan, found, host.as_ref(), &telling)?;
-    let base = last_time(&mut book)?;
-    let source = source_of(rt, host, base)?;
+    let opened = open(rt, plan, listen, &telling)?;
+    let Opened {
+        book,
+        identity,
+        source,
+        listener,
+    } = opened;
     let bell = Bell::new(rt)?;
-    let Ok(token) = Token::new(alloc) else {
+    let Ok(token) = Token::new(rt.alloc()) else {
         return Err(Stopped::Failed(io::ErrorKind::OutOfMemory.into()));
     };
-    writeln!(out, "serving")?;
-    out.flush()?;
+    print_line(out, "serving")?;
     let committed = serve_book::<Brand, R, W>(
         rt, token, book, plan, source, listener, bell, telling, err,
     )?;

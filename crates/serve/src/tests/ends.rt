@@ -46,6 +46,7 @@ fn the_end_is_shown<R: Net<Stream = TcpStream, Listener = TcpListener> + AllocGl
         refused.say(b"RFB 003.008\n")?;
         refused.hear(alloc, NO_SEAT)?;
         refused.ends()?;
+        first.say(&CHANGES)?;
         burst(alloc, &host)?;
         return first.hear_at_last(alloc, &BLUE, &CHANGES);
     }
@@ -87,8 +88,7 @@ fn a_viewer_is_shown_the_end(rt: HostRuntime) -> Result<(), Fail> {
     Ok(())
 }
 
-// Two updates come in one piece, and then one with a fault behind it; one who begins behind what
-// there is is told so.
+// Two updates come in one piece, and then one with a fault behind it.
 fn pieces_come<R: Net<Stream = TcpStream, Listener = TcpListener> + AllocGlobal>(
     rt: &R,
     hosts: TcpListener,
@@ -125,7 +125,7 @@ fn messages_in_one_piece_keep_their_order(rt: HostRuntime) -> Result<(), Fail> {
     let (viewers, place) = listener(rt)?;
     let address = host.address(rt.alloc())?;
     let plan = Plan {
-        from: Start::At(1),
+        from: Start::At(0),
         ..plan_of(file, Some(address.as_str()), 1)
     };
     let _ = fs::remove_file(rt, file);
