@@ -77,7 +77,9 @@ fn fbs_check<'a>(alloc: Global) -> Result<Command<'a>, AllocError> {
 fn explain<'a>(alloc: Global) -> Result<Command<'a>, AllocError> {
     Command::new(alloc, "explain")
         .about("Says what a refusal means, where it comes from, and what to do")
-        .after_help("Example, of the line 'recorderd: check refused journal 1': recorderd explain journal 1")
+        .after_help(
+            "Example, of the line 'recorderd: check refused journal 1': recorderd explain journal 1",
+        )
         .arg(required(alloc, "AREA", "The word behind 'refused'"))?
         .arg(required(alloc, "NUMBER", "The number behind it"))
 }

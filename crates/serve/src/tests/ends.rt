@@ -3,8 +3,8 @@
 use super::peers::{
     ALL, BLACK, CHANGES, GREEN, Peer, Place, RED, listener, silent_viewer, small_host, viewer,
 };
-use super::{checked, plan_of, print, told};
-use crate::{Audience, Plan};
+use super::{checked, print, told};
+use crate::{Audience, Plan, Stop};
 use broadcast::Start;
 use std::alloc::Global;
 use std::fs;
@@ -72,8 +72,14 @@ fn a_viewer_is_shown_the_end(rt: HostRuntime) -> Result<(), Fail> {
         let (viewers, place) = listener(rt)?;
         let address = host.address(rt.alloc())?;
         let plan = Plan {
+            file,
+            listen: "",
+            host: Some(address.as_str()),
+            key_interval: 4,
             audience,
-            ..plan_of(file, Some(address.as_str()), 1)
+            from: Start::Live,
+            stop: Stop::never(),
+            is_verbose: false,
         };
         let _ = fs::remove_file(rt, file);
         let stays = audience == Audience::Count(1);
@@ -96,12 +102,6 @@ fn pieces_come<R: Net<Stream = TcpStream, Listener = TcpListener> + AllocGlobal>
 ) -> Result<(), Fail> {
     let alloc = rt.alloc();
     let host = small_host(alloc, &hosts)?;
-    let early = silent_viewer(rt, place)?;
-    early.say(b"RFB 003.008\n")?;
-    early.hear(
-        alloc,
-        b"RFB 003.008\n\0\0\0\0\x20the recording has fewer messages",
-    )?;
     let mut piece = Vec::from_slice(alloc, &RED)?;
     piece.extend_from_slice(&GREEN)?;
     host.say(&piece)?;
@@ -125,8 +125,14 @@ fn messages_in_one_piece_keep_their_order(rt: HostRuntime) -> Result<(), Fail> {
     let (viewers, place) = listener(rt)?;
     let address = host.address(rt.alloc())?;
     let plan = Plan {
+        file,
+        listen: "",
+        host: Some(address.as_str()),
+        key_interval: 4,
+        audience: Audience::Count(1),
         from: Start::At(0),
-        ..plan_of(file, Some(address.as_str()), 1)
+        stop: Stop::never(),
+        is_verbose: false,
     };
     let _ = fs::remove_file(rt, file);
     let said = told(join(

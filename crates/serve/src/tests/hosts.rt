@@ -2,8 +2,8 @@
 
 use super::peers::{ALL, BLACK, CHANGES, GREEN, RED, deaf_host, listener, small_host, viewer};
 use super::{checked, plan_of, print, told};
-use crate::Plan;
 use crate::tests::peers::{Peer, Place};
+use crate::{Audience, Plan, Stop};
 use broadcast::Start;
 use std::fs;
 use std::net::{Net, TcpListener, TcpStream};
@@ -127,7 +127,16 @@ fn what_can_t_be_served_makes_no_file(rt: HostRuntime) -> Result<(), Fail> {
     let (hosts, host) = listener(rt)?;
     drop(hosts);
     let address = host.address(rt.alloc())?;
-    let plan = plan_of(file, Some(address.as_str()), 1);
+    let plan = Plan {
+        file,
+        listen: "",
+        host: Some(address.as_str()),
+        key_interval: 4,
+        audience: Audience::Count(1),
+        from: Start::Live,
+        stop: Stop::never(),
+        is_verbose: false,
+    };
     let alone = Plan { host: None, ..plan };
     let said = told(join(rt, move || print(rt, plan, viewers), move || Ok(())))?;
     assert!(rt;
