@@ -86,7 +86,12 @@ impl Host {
             }
             let left = time_left(rt, started, HANDSHAKE)?;
             self.stream.set_read_timeout(Some(left))?;
-            self.read_piece()?;
+            match self.read_piece() {
+                Err(error) if error.kind() == io::ErrorKind::WouldBlock => {
+                    return Err(io::ErrorKind::TimedOut.into());
+                }
+                outcome => outcome?,
+            }
             self.tell(rt)?;
         }
         self.stream.set_read_timeout(None)
@@ -173,14 +178,17 @@ impl Host {
         self.end.unwrap_or(HostEnd::Closed)
     }
 
-    // The next message; none at the stream's end. The host is asked for more, and read from, only
-    // where there is room for it.
+    // The next message; none at the stream's end, or once the recorder was asked to end. The host is
+    // asked for more, and read from, only where there is room for it.
     fn next<M: Mark, R: Clock + Eprint + Wait>(
         &mut self,
         rt: &R,
         room: &Room<M>,
     ) -> Option<HostMessage> {
         for _ in 0..u64::MAX {
+            if room.is_stopped() {
+                return None;
+            }
             if let Some(message) = self.waiting.pop() {
                 return Some(message);
             }

@@ -1,9 +1,10 @@
 //! Why `serve` is refused, and which of several reasons is told.
 
 ghost use Rattle.host_session.specs.declared.fault.HostFault.{HostFault};
-ghost use Rattle.std.specs.Prelude.{◌≡◌, None, Some, IfErr, OnOk, OnErr, true, false};
+ghost use Rattle.shared_book.specs.declared.workers.FlusherEnd.TheVariants.{Take};
+ghost use Rattle.std.specs.Prelude.{◌≡◌, ◌≢◌, Err, None, Some, IfErr, OnOk, OnErr, true, false};
 
-use flusher_core::HostRefusal;
+use flusher_core::{HostRefusal, TakeRefusal};
 use gated_journal::CreateFault;
 use host_session::HostFault;
 use key_index::{IndexFault, Numbered};
@@ -74,7 +75,8 @@ pub struct Ends {
 /// The one reason that is told: the flusher's, else the worker's, else the host's or its socket's,
 /// else the listener's; none where all went well.
 pub fn first_refusal(ends: Ends) -> Option<Refusal>
-    ensures flusher { OnErr ends.flusher (result ≡ Some Refusal.Device) }
+    ensures memory { ends.flusher ≡ Err (Take TakeRefusal.NoMemory) → result ≡ Some (Refusal.Book HostRefusal.NoMemory) }
+    ensures flusher { OnErr ends.flusher (ends.flusher ≢ Err (Take TakeRefusal.NoMemory) → result ≡ Some Refusal.Device) }
     ensures worker { OnOk ends.flusher (IfErr ends.worker (λ refusal. result ≡ Some (Refusal.Book refusal))) }
     ensures fault { OnOk ends.flusher (OnOk ends.worker ((fault : HostFault)
         → ends.host ≡ HostEnd.Fault fault → result ≡ Some (Refusal.Host fault))) }
@@ -84,8 +86,12 @@ pub fn first_refusal(ends: Ends) -> Option<Refusal>
     ensures done { OnOk ends.flusher (OnOk ends.worker (ends.host ≡ HostEnd.Closed
         → ends.is_listener_sound ≡ true → result ≡ None)) }
 {
-    if ends.flusher.is_err() {
-        return Some(Refusal::Device);
+    match ends.flusher {
+        Err(FlusherEnd::Take(TakeRefusal::NoMemory)) => {
+            return Some(Refusal::Book(HostRefusal::NoMemory));
+        }
+        Err(_) => return Some(Refusal::Device),
+        Ok(()) => {}
     }
     if let Err(refusal) = ends.worker {
         return Some(Refusal::Book(refusal));

@@ -5,13 +5,14 @@ ghost use Rattle.reception.specs.State.{viewers_of};
 
 use crate::bell::Bell;
 use crate::plan::Plan;
-use crate::telling::Telling;
+use crate::telling::{Event, Telling};
 use broadcast::Start;
+use file_commands::LastError;
 use reception::{Arrival, Backlog, Reception, Term};
 use shared_book::Mark;
 use std::alloc::Global;
 use std::marker::PhantomData;
-use std::sync::atomic::{AtomicU64, Ordering};
+use std::sync::atomic::{AtomicBool, AtomicU64, Ordering};
 use std::sync::{Condvar, Mutex, Wait};
 
 /// Who watches, under a lock. Whoever waits here waits for the recorder to close or to be done, or
@@ -149,8 +150,15 @@ impl Intake {
     }
 }
 
+/// What was recorded since it was last told of.
+#[derive(Drop)]
+struct Recorded {
+    messages: AtomicU64,
+    bytes: AtomicU64,
+}
+
 /// What all threads of a recorder share: the recording's size and name, where viewers begin, who
-/// watches, what waits, and how far the recording is committed.
+/// watches, what waits, how far the recording is committed, and what the system said of its file.
 #[derive(Drop)]
 pub struct Room<M: Mark> {
     pub alloc: Global,
@@ -163,7 +171,10 @@ pub struct Room<M: Mark> {
     pub intake: Intake,
     pub bell: Bell,
     pub telling: Telling,
+    pub last_error: LastError,
     committed: AtomicU64,
+    recorded: Recorded,
+    is_stopped: AtomicBool,
     of: PhantomData<M>,
     ghost sized: { (size.0 ≡ M.head.width) × (size.1 ≡ M.head.height) },
     ghost named: { length name.items < 2 ^ 32 },
@@ -178,6 +189,7 @@ impl<M: Mark> Room<M> {
         plan: &Plan<'_>,
         bell: Bell,
         telling: Telling,
+        last_error: LastError,
         committed: u64,
     ) -> Room<M>
         requires sized { (size.0 ≡ M.head.width) × (size.1 ≡ M.head.height) }
@@ -193,9 +205,26 @@ impl<M: Mark> Room<M> {
             intake: Intake::new(),
             bell,
             telling,
+            last_error,
             committed: AtomicU64::new(committed),
+            recorded: Recorded {
+                messages: AtomicU64::new(0),
+                bytes: AtomicU64::new(0),
+            },
+            is_stopped: AtomicBool::new(false),
             of: PhantomData,
         }
+    }
+
+    /// Asks the recorder to end.
+    pub fn stop<R: Wait>(&self, rt: &R) {
+        self.is_stopped.store(true, Ordering::SeqCst);
+        self.hall.stop(rt);
+    }
+
+    /// Whether the recorder was asked to end.
+    pub fn is_stopped(&self) -> bool {
+        self.is_stopped.load(Ordering::SeqCst)
     }
 
     /// How many messages are committed, as far as viewers were told.
@@ -206,5 +235,20 @@ impl<M: Mark> Room<M> {
     /// Tells viewers that so many messages are committed.
     pub fn set_committed(&self, count: u64) {
         self.committed.store(count, Ordering::SeqCst);
+    }
+
+    /// Notes that so many messages, of so many bytes, were recorded.
+    pub fn note_recorded(&self, messages: u64, bytes: u64) {
+        self.recorded.messages.fetch_add(messages, Ordering::SeqCst);
+        self.recorded.bytes.fetch_add(bytes, Ordering::SeqCst);
+    }
+
+    /// Tells what was recorded since it was last told of, if anything was.
+    pub fn tell_recorded<R: Eprint + Wait>(&self, rt: &R) {
+        let messages = self.recorded.messages.swap(0, Ordering::SeqCst);
+        let bytes = self.recorded.bytes.swap(0, Ordering::SeqCst);
+        if messages > 0 {
+            self.telling.tell(rt, Event::Recorded { messages, bytes });
+        }
     }
 }

@@ -6,9 +6,9 @@ ghost use Rattle.explanations.specs.Areas.{IsNumberOf};
 use crate::area::Area;
 
 const FILE: &str = "\
-A file can't be opened, made, locked or written: no folder, no permission, or
-another recorder has it; FILE is there already; OUT is the recording. Or, as a
-recording ended, it wasn't at PATH any more. `--verbose` has the system's words.";
+A file can't be opened, made, locked or written: no folder, no permission, a
+device, a pipe, a link to no recording; another recorder has it; FILE is there;
+OUT is the recording; or it was gone from PATH at the end. See `--verbose`.";
 
 const NET: &str = "\
 The address to listen at can't be used (it is in use, or unknown), or the host

@@ -1,8 +1,10 @@
 pub mod Blocks
+pub mod Counted
 pub mod Export
 pub mod Faults
 pub mod Judged
 pub mod Opening
 pub mod Reader
 pub mod Summary
+pub mod Told
 pub mod Written

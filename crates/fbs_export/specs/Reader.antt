@@ -1,4 +1,5 @@
--- What the readers of a file stand for.
+-- What the readers of a file stand for. `keeps` says which messages a tally stands for: those that
+-- have their times, and those that wait.
 use Rattle.std.specs.Prelude.{◌≡◌, ◌≢◌, ◌≤◌, ◌<◌, ℕ, ◌+◌, ◌-◌, List, [], ◌++◌, length, take, drop, Option, Some, None, MatchOption, Bool, true, false}
 use Rattle.std.specs.Io.KnownBytes.{Consumes, IsAtEnd}
 use Rattle.std.specs.List.{flat_map, AllByRecursion}
@@ -7,8 +8,10 @@ use Rattle.client_wire.specs.Stream.{Part, bytes_of, IsPart, Goes}
 use Rattle.client_wire.specs.declared.fault.WireFault.TheVariants as wire
 use Rattle.client_wire.specs.declared.fault.WireFault.{WireFault}
 use Rattle.rfb_wire.specs.Grammar.{message_at, message_limit, Message}
+use Rattle.rfb_wire.specs.Host.{Host}
 use Rattle.rfb_wire.specs.Reader.{Reader}
 use Rattle.rfb_wire.specs.Stream.{given}
+use Rattle.keyed_entries.specs.declared.entry.Stamped.{Stamped}
 use Rattle.fbs_export.specs.declared.fault.FbsFault.{FbsFault}
 use Rattle.fbs_export.specs.declared.fault.FbsFault.TheVariants as faults
 use Rattle.fbs_export.specs.declared.opening.Name.{Name}
@@ -67,17 +70,17 @@ abbrev pub name_in : Option Name → List ℕ
 name_in None = []
 name_in (Some n) = n.kept.items
 
--- The opening isn't whole, and nothing is given; `times` are those of the bytes of former blocks.
-pub record Opens (c : Stream) (times s : List ℕ) : Type 0 where
+-- The opening isn't whole, and the tally stands for no message; `times` are those of the bytes of
+-- former blocks.
+pub record Opens {T : Type 0} (keeps : T → List Stamped → List Host → Type 0) (c : Stream T) (times s : List ℕ) : Type 0 where
   pub opening : IsInOpening c.opening s
-  pub no_hosts : c.hosts.items ≡ []
-  pub no_messages : c.messages.items ≡ []
+  pub nothing : keeps c.tally [] []
   pub before : length times ≤ length s
 
 -- The opening is whole. The messages of former blocks are stamped; at the end of those blocks stood
--- an unfinished message, and with what came since, its messages are given and the reader stands for
--- the rest.
-pub record Hears (c : Stream) (r : Reader) (times s : List ℕ) : Type 0 where
+-- an unfinished message, and with what came since, its messages wait and the reader stands for the
+-- rest. The tally stands for those messages.
+pub record Hears {T : Type 0} (keeps : T → List Stamped → List Host → Type 0) (c : Stream T) (r : Reader) (times s : List ℕ) : Type 0 where
   pub at : ℕ
   pub body : List ℕ
   pub opened : (more : List ℕ) → opening_at (s ++ more) ≡ Got (record { width = r.width; height = r.height; name = name_in c.opening.name }) (body ++ more)
@@ -89,34 +92,35 @@ pub record Hears (c : Stream) (r : Reader) (times s : List ℕ) : Type 0 where
   pub lead_waits : message_at message_limit r.width r.height lead ≡ More
   pub body_is : body ≡ flat_map bytes_of parts ++ (lead ++ since)
   pub timed : length (flat_map bytes_of parts) + length lead ≡ length times - at
-  pub messages_are : c.messages.items ≡ stamped r.width r.height (drop at times) parts
+  pub waiting : List Host
+  pub messages_are : keeps c.tally (stamped r.width r.height (drop at times) parts) waiting
   pub no_fault : r.fault ≡ None
-  pub goes : Goes (message_at message_limit r.width r.height) (given r.width r.height) r.kept r.passed [] c.hosts.items (lead ++ since)
+  pub goes : Goes (message_at message_limit r.width r.height) (given r.width r.height) r.kept r.passed [] waiting (lead ++ since)
 
 -- the reader of a stream, of which the bytes of former blocks have these times
-abbrev pub Stands : Stream → List ℕ → List ℕ → Type 0
-Stands c times s = MatchOption c.reader (Opens c times s) (λ r. Hears c r times s)
+abbrev pub Stands : {T : Type 0} → (T → List Stamped → List Host → Type 0) → Stream T → List ℕ → List ℕ → Type 0
+Stands keeps c times s = MatchOption c.reader (Opens keeps c times s) (λ r. Hears keeps c r times s)
 
 -- The reader of a file stands behind these bytes of it: whole blocks, of whose data and times the
 -- reader of the stream stands.
-pub record IsBetween (c : Stream) (seen : List ℕ) : Type 0 where
+pub record IsBetween {T : Type 0} (keeps : T → List Stamped → List Host → Type 0) (c : Stream T) (seen : List ℕ) : Type 0 where
   pub blocks : List (Part Block)
   pub laid : Laid seen blocks []
   pub long : 12 ≤ length seen
-  pub stands : Stands c (times_of blocks) (data_of blocks)
+  pub stands : Stands keeps c (times_of blocks) (data_of blocks)
 
 -- so many bytes of data came, and the reader of the stream has them
-pub record Came (old new : Option (List ℕ)) (c d : Stream) (n : ℕ) : Type 0 where
+pub record Came {T : Type 0} (keeps : T → List Stamped → List Host → Type 0) (old new : Option (List ℕ)) (c d : Stream T) (n : ℕ) : Type 0 where
   pub content : List ℕ
   pub consumed : Consumes old new content
   pub count : length content ≡ n
-  pub heard : (times s : List ℕ) → Stands c times s → Stands d times (s ++ content)
+  pub heard : (times s : List ℕ) → Stands keeps c times s → Stands keeps d times (s ++ content)
 
 -- a block more came; or the file has ended
-pub record Went (old new : Option (List ℕ)) (d : Stream) (seen : List ℕ) (more : Bool) : Type 0 where
+pub record Went {T : Type 0} (keeps : T → List Stamped → List Host → Type 0) (old new : Option (List ℕ)) (d : Stream T) (seen : List ℕ) (more : Bool) : Type 0 where
   pub bytes : List ℕ
   pub consumed : Consumes old new bytes
-  pub between : IsBetween d (seen ++ bytes)
+  pub between : IsBetween keeps d (seen ++ bytes)
   pub ended : more ≡ false → IsAtEnd new
 
 -- the start of a file came

@@ -1,16 +1,19 @@
 //! Reading a file, block by block.
 
-ghost use Rattle.std.specs.Prelude.{◌≡◌, ◌≤◌, ◌<◌, ◌++◌, ℕ, List, false, length, take, IfSome, IfOk, IfErr, OnOk};
+ghost use Rattle.std.specs.Prelude.{◌≡◌, ◌≤◌, ◌<◌, [], ◌++◌, ℕ, List, false, length, take, IfSome, IfOk, IfErr, OnOk};
 ghost use Rattle.std.specs.Io.KnownBytes.{Consumes, IsAtEnd};
 ghost use Rattle.client_wire.specs.Number.{u32_bytes};
 ghost use Rattle.fbs_export.specs.Blocks.{is_start, is_digit as digit};
+ghost use Rattle.fbs_export.specs.Counted.{IsCounted};
 ghost use Rattle.fbs_export.specs.declared.fault.FbsFault.TheVariants.{Read as FbsRead};
 ghost use Rattle.fbs_export.specs.Reader.{Came, IsBetween, Started, Went};
 ghost use Rattle.fbs_export.specs.Summary.{IsSummary, IsFault};
+ghost use Rattle.fbs_export.specs.Told.{Says};
 
 use crate::fault::FbsFault;
-use crate::stream::Stream;
-use crate::summary::Summary;
+use crate::stream::{Stream, Told};
+use crate::summary::{Counted, Summary};
+use crate::tally::{Counter, Kept, Tally};
 use crate::writing::padding_of;
 use std::alloc::Global;
 use std::io::Read;
@@ -97,14 +100,14 @@ fn read_start<R: Read>(file: &mut R) -> Result<(), FbsFault>
 }
 
 // Takes so many bytes of data, as they come, through a buffer of whatever bytes.
-fn read_content<R: Read>(
+fn read_content<R: Read, T: Tally>(
     file: &mut R,
     length: u32,
     buffer: &mut [u8; 4096],
-    stream: &mut Stream,
+    stream: &mut Stream<T>,
 ) -> Result<(), FbsFault>
-    ensures came { OnOk result (Came (R.remaining file.old) (R.remaining file.new) stream.old stream.new length) }
-    ensures fault { IfErr result (λ f. (seen : List ℕ) → IsBetween stream.old seen
+    ensures came { OnOk result (Came T.stands_for (R.remaining file.old) (R.remaining file.new) stream.old stream.new length) }
+    ensures fault { IfErr result (λ f. (seen : List ℕ) → IsBetween T.stands_for stream.old seen
         → IfSome (R.remaining file.old) (λ rest. IsFault (seen ++ (u32_bytes length ++ rest)) f)) }
 {
     let mut left = length;
@@ -133,14 +136,14 @@ fn number_of(bytes: &[u8]) -> u32
 }
 
 // Takes a block; answers whether there was one.
-fn read_block<R: Read>(
+fn read_block<R: Read, T: Tally>(
     file: &mut R,
     buffer: &mut [u8; 4096],
-    stream: &mut Stream,
+    stream: &mut Stream<T>,
 ) -> Result<bool, FbsFault>
-    ensures went { IfOk result (λ more. (seen : List ℕ) → IsBetween stream.old seen
-        → Went (R.remaining file.old) (R.remaining file.new) stream.new seen more) }
-    ensures fault { IfErr result (λ f. (seen : List ℕ) → IsBetween stream.old seen
+    ensures went { IfOk result (λ more. (seen : List ℕ) → IsBetween T.stands_for stream.old seen
+        → Went T.stands_for (R.remaining file.old) (R.remaining file.new) stream.new seen more) }
+    ensures fault { IfErr result (λ f. (seen : List ℕ) → IsBetween T.stands_for stream.old seen
         → IfSome (R.remaining file.old) (λ rest. IsFault (seen ++ rest) f)) }
 {
     let mut head = [0; 4];
@@ -165,6 +168,25 @@ fn read_block<R: Read>(
     Ok(true)
 }
 
+// What a file says that a reader gives, its messages told to a tally that stands for none.
+fn read_file<R: Read, T: Tally>(alloc: Global, file: &mut R, tally: T) -> Result<Told<T>, FbsFault>
+    requires { T.stands_for tally [] [] }
+    ensures ok { IfOk result (λ told. IfSome (R.remaining file.old) (λ bytes. Says T.stands_for bytes told)) }
+    ensures fault { IfErr result (λ f. IfSome (R.remaining file.old) (λ bytes. IsFault bytes f)) }
+{
+    read_start(file)?;
+    let mut stream = Stream::new(alloc, tally);
+    let mut buffer = [0; 4096];
+    for _ in 0..u64::MAX {
+        let more = read_block(file, &mut buffer, &mut stream)?;
+        if !more {
+            let told = stream.finish()?;
+            return Ok(told);
+        }
+    }
+    Err(FbsFault::Read)
+}
+
 /// What a file says that a reader gives. The first fault in the file is answered, as soon as its
 /// bytes have come; each failure of the reader is `Read`. Beside the messages that are told, the
 /// bytes of one message are kept at most. A reader that asks a system for its bytes is best
@@ -173,15 +195,28 @@ pub fn check<R: Read>(alloc: Global, file: &mut R) -> Result<Summary, FbsFault>
     ensures ok { IfOk result (λ s. IfSome (R.remaining file.old) (λ bytes. IsSummary bytes s)) }
     ensures fault { IfErr result (λ f. IfSome (R.remaining file.old) (λ bytes. IsFault bytes f)) }
 {
-    read_start(file)?;
-    let mut stream = Stream::new(alloc);
-    let mut buffer = [0; 4096];
-    for _ in 0..u64::MAX {
-        let more = read_block(file, &mut buffer, &mut stream)?;
-        if !more {
-            let summary = stream.finish()?;
-            return Ok(summary);
-        }
-    }
-    Err(FbsFault::Read)
+    let told = read_file(alloc, file, Kept::new(alloc))?;
+    Ok(Summary {
+        width: told.width,
+        height: told.height,
+        name: told.name,
+        messages: told.tally.into_messages(),
+        rest: told.rest,
+    })
+}
+
+/// What a file says that a reader gives, its messages counted and not kept; the faults are those of
+/// [`check`]. However long the file and its blocks are, one message is kept at most, beside those of
+/// a piece of 4,096 bytes.
+pub fn count<R: Read>(alloc: Global, file: &mut R) -> Result<Counted, FbsFault>
+    ensures ok { IfOk result (λ counted. IfSome (R.remaining file.old) (λ bytes. IsCounted bytes counted)) }
+    ensures fault { IfErr result (λ f. IfSome (R.remaining file.old) (λ bytes. IsFault bytes f)) }
+{
+    let told = read_file(alloc, file, Counter::new())?;
+    Ok(Counted {
+        width: told.width,
+        height: told.height,
+        messages: told.tally.number(),
+        rest: told.rest,
+    })
 }

@@ -15,11 +15,11 @@ use crate::fault::{ExportFault, Stop};
 use crate::judge::{NONE, VERSION};
 use crate::writing::{four_bytes, two_bytes, write_block, write_bytes};
 use disk::Disk;
-use gated_journal::NoMemory;
+use gated_journal::{NoMemory, ReadFault};
 use key_index::{Indexed, Stamped};
 use painter::Screen;
 use pixel_format::PixelFormat;
-use replay::{Replay, ReplayFault, from_block};
+use replay::{ReplayFault, from_block};
 use std::alloc::Global;
 use std::io::Write;
 
@@ -113,7 +113,7 @@ fn write_front<D: Disk, W: Write>(
     Ok(())
 }
 
-// Why a replay gave no message that is there.
+// Why a replay gave no screen that is there.
 fn stop_of(fault: ReplayFault) -> Stop
     requires { fault ≢ ReplayFault.NotCommitted }
     ensures device { (result ≡ Stop.Device) ↔ (fault ≡ ReplayFault.Device) }
@@ -125,53 +125,45 @@ fn stop_of(fault: ReplayFault) -> Stop
     }
 }
 
-// The next message of a recording that has one.
-fn next_message<D: Disk>(replay: &mut Replay, index: &mut Indexed<D>) -> Result<Stamped, Stop>
-    requires width { replay.old.screen.width ≡ index.old.head.width }
-    requires height { replay.old.screen.height ≡ index.old.head.height }
-    requires painted { D.is_modelled → IsScreenAt index.old.head (messages_in index.old.blocks) replay.old.position replay.old.screen }
-    requires more { replay.old.position < index.old.numbers.committed }
-    ensures message { D.is_modelled → IfOk result (λ s. slice_get (messages_in index.old.blocks) replay.old.position ≡ Some s) }
-    ensures position { OnOk result (replay.new.position ≡ replay.old.position + 1) }
+// The message of a number, of which the recording has one.
+fn message_at<D: Disk>(index: &mut Indexed<D>, number: u64) -> Result<Stamped, Stop>
+    requires { number < index.old.numbers.committed }
+    ensures message { D.is_modelled → IfOk result (λ s. slice_get (messages_in index.old.blocks) number ≡ Some s) }
     ensures short { IfOk result (λ s. length s.message.bytes < 2 ^ 32) }
-    ensures painted { D.is_modelled → IsScreenAt index.old.head (messages_in index.old.blocks) replay.new.position replay.new.screen }
-    ensures width { replay.new.screen.width ≡ replay.old.screen.width }
-    ensures height { replay.new.screen.height ≡ replay.old.screen.height }
     ensures only { OnlyReads D.is_modelled D.history index.old index.new }
     ensures cause { D.is_modelled → HasCause (D.failures index.old.disk) (D.failures index.new.disk) (IsErrOf result Stop.Device) }
 {
-    match replay.next(index) {
-        Ok(Some(stamped)) => {
-            stamped.message.known();
-            Ok(stamped)
-        }
-        Ok(None) => unreachable!(),
-        Err(fault) => Err(stop_of(fault)),
-    }
+    let mut messages = match index.read_from(number, 1) {
+        Ok(messages) => messages,
+        Err(ReadFault::Device) => return Err(Stop::Device),
+        Err(ReadFault::NoMemory) => return Err(Stop::NoMemory),
+    };
+    let Some(stamped) = messages.pop() else {
+        unreachable!()
+    };
+    stamped.message.known();
+    Ok(stamped)
 }
 
-// Writes the messages from the replay's place on, below number `to`.
+// Writes the messages from number `from` on, below number `to`.
 fn write_messages<D: Disk, W: Write>(
-    replay: &mut Replay,
     index: &mut Indexed<D>,
+    from: u64,
     to: u64,
     out: &mut W,
 ) -> Result<(), Stop>
-    requires width { replay.old.screen.width ≡ index.old.head.width }
-    requires height { replay.old.screen.height ≡ index.old.head.height }
-    requires painted { D.is_modelled → IsScreenAt index.old.head (messages_in index.old.blocks) replay.old.position replay.old.screen }
     requires end { to ≤ index.old.numbers.committed }
-    requires start { replay.old.position ≤ to }
+    requires start { from ≤ to }
     ensures all { D.is_modelled → OnOk result (Appends (W.contents out.old) (W.contents out.new)
-        (messages_from (messages_in index.old.blocks) replay.old.position to)) }
+        (messages_from (messages_in index.old.blocks) from to)) }
     ensures front { D.is_modelled → WroteFront (W.contents out.old) (W.contents out.new)
-        (messages_from (messages_in index.old.blocks) replay.old.position to) }
+        (messages_from (messages_in index.old.blocks) from to) }
     ensures only { OnlyReads D.is_modelled D.history index.old index.new }
     ensures cause { D.is_modelled → HasCause (D.failures index.old.disk) (D.failures index.new.disk) (IsErrOf result Stop.Device) }
 {
     let mut first = None;
-    while replay.position() < to {
-        let stamped = next_message(replay, index)?;
+    for number in from..to {
+        let stamped = message_at(index, number)?;
         let base = first.unwrap_or(stamped.time);
         first = Some(base);
         let time = stamped.time.saturating_sub(base);
@@ -198,12 +190,12 @@ fn write_file<D: Disk, W: Write>(
     ensures only { OnlyReads D.is_modelled D.history index.old index.new }
     ensures cause { D.is_modelled → HasCause (D.failures index.old.disk) (D.failures index.new.disk) (IsErrOf result Stop.Device) }
 {
-    let mut replay = match from_block(alloc, index, block) {
+    let replay = match from_block(alloc, index, block) {
         Ok(replay) => replay,
         Err(fault) => return Err(stop_of(fault)),
     };
     write_front(alloc, index, replay.screen(), out)?;
-    write_messages(&mut replay, index, to, out)?;
+    write_messages(index, replay.position(), to, out)?;
     Ok(())
 }
 

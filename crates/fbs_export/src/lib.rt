@@ -9,10 +9,11 @@ mod laws;
 mod opening;
 mod stream;
 mod summary;
+mod tally;
 mod writing;
 
-pub use checking::check;
+pub use checking::{check, count};
 pub use exporting::{export, first_exported};
 pub use fault::{ExportFault, FbsFault};
 pub use laws::exported_is_read;
-pub use summary::Summary;
+pub use summary::{Counted, Summary};

@@ -2,32 +2,42 @@
 
 ghost use Rattle.std.specs.Prelude.{◌≡◌, ◌+◌, ◌++◌, [], ℕ, List, length, replicate, None, IfOk, OnOk, IfErr};
 ghost use Rattle.client_wire.specs.Stream.{Goes, Stops, StandsFor};
+ghost use Rattle.keyed_entries.specs.declared.entry.Stamped.{Stamped};
 ghost use Rattle.fbs_export.specs.Opening.{opening_at};
 ghost use Rattle.fbs_export.specs.Reader.{IsDataFault, OfMessage, Stands};
-ghost use Rattle.fbs_export.specs.Summary.{Tells};
+ghost use Rattle.fbs_export.specs.Told.{IsTold};
 ghost use Rattle.pixel_format.specs.Reading.{More};
+ghost use Rattle.rfb_wire.specs.Host.{Host};
 ghost use Rattle.rfb_wire.specs.Stream.{given};
 ghost use Rattle.rfb_wire.specs.Grammar.{message_at, message_limit};
 
 use crate::fault::FbsFault;
 use crate::opening::OpeningReader;
-use crate::summary::Summary;
+use crate::tally::Tally;
 use client_wire::WireFault;
-use key_index::Stamped;
 use pixel_format::NoMemory;
 use rfb_wire::{HostMessage, ServerReader};
 use std::alloc::Global;
-use std::mem;
 
-/// What is read of a stream: its opening, and once this is whole, the messages behind it. Those of
-/// the block that comes wait for its time.
+/// What is read of a stream: its opening, and once this is whole, the messages behind it, which a
+/// tally is told. Those of the block that comes wait for its time.
 #[derive(Drop)]
-pub struct Stream {
+pub struct Stream<T> {
     alloc: Global,
     opening: OpeningReader,
     reader: Option<ServerReader>,
-    hosts: Vec<HostMessage>,
-    messages: Vec<Stamped>,
+    tally: T,
+}
+
+/// What a stream tells: the size of the screen, the name, a tally of the messages, and the number of
+/// bytes of an unfinished last one.
+#[derive(Drop)]
+pub struct Told<T> {
+    pub width: u16,
+    pub height: u16,
+    pub name: Vec<u8>,
+    pub tally: T,
+    pub rest: u64,
 }
 
 // Takes a piece of the messages.
@@ -53,41 +63,57 @@ fn hear(
     }
 }
 
-impl Stream {
-    /// The start of a stream.
-    pub fn new(alloc: Global) -> Stream
-        ensures { Stands result [] [] }
+// Tells messages that have become whole.
+fn tell<T: Tally>(hosts: Vec<HostMessage>, tally: &mut T) -> Result<(), NoMemory>
+    ensures { OnOk result ((told : List Stamped) → (waiting : List Host)
+        → T.stands_for tally.old told waiting
+        → T.stands_for tally.new told (waiting ++ hosts.items)) }
+{
+    for message in hosts {
+        tally.hear(message)?;
+    }
+    Ok(())
+}
+
+impl<T: Tally> Stream<T> {
+    /// The start of a stream, with a tally that stands for no message.
+    pub fn new(alloc: Global, tally: T) -> Stream<T>
+        requires { T.stands_for tally [] [] }
+        ensures { Stands T.stands_for result [] [] }
     {
         Stream {
             alloc,
             opening: OpeningReader::new(alloc),
             reader: None,
-            hosts: Vec::new(alloc),
-            messages: Vec::new(alloc),
+            tally,
         }
     }
 
     // Takes a piece that comes before the opening is whole.
     fn open(&mut self, piece: &[u8]) -> Result<(), FbsFault>
-        ensures goes { OnOk result (self.old.reader ≡ None → (times s : List ℕ) → Stands self.old times s → Stands self.new times (s ++ piece.now)) }
-        ensures fault { IfErr result (λ f. self.old.reader ≡ None → (times s : List ℕ) → Stands self.old times s → IsDataFault (s ++ piece.now) f) }
+        ensures goes { OnOk result (self.old.reader ≡ None → (times s : List ℕ) → Stands T.stands_for self.old times s → Stands T.stands_for self.new times (s ++ piece.now)) }
+        ensures fault { IfErr result (λ f. self.old.reader ≡ None → (times s : List ℕ) → Stands T.stands_for self.old times s → IsDataFault (s ++ piece.now) f) }
     {
         let Some(whole) = self.opening.take(piece)? else {
             return Ok(());
         };
         let mut reader = ServerReader::new(self.alloc, whole.width, whole.height);
-        hear(&mut reader, &piece[whole.taken..], &mut self.hosts)?;
+        let mut hosts = Vec::new(self.alloc);
+        hear(&mut reader, &piece[whole.taken..], &mut hosts)?;
+        tell(hosts, &mut self.tally)?;
         self.reader = Some(reader);
         Ok(())
     }
 
     /// Takes a piece of data. A fault is answered at the last byte of the field that holds it.
     pub fn feed(&mut self, piece: &[u8]) -> Result<(), FbsFault>
-        ensures goes { OnOk result ((times s : List ℕ) → Stands self.old times s → Stands self.new times (s ++ piece.now)) }
-        ensures fault { IfErr result (λ f. (times s : List ℕ) → Stands self.old times s → IsDataFault (s ++ piece.now) f) }
+        ensures goes { OnOk result ((times s : List ℕ) → Stands T.stands_for self.old times s → Stands T.stands_for self.new times (s ++ piece.now)) }
+        ensures fault { IfErr result (λ f. (times s : List ℕ) → Stands T.stands_for self.old times s → IsDataFault (s ++ piece.now) f) }
     {
         if let Some(reader) = &mut self.reader {
-            hear(reader, piece, &mut self.hosts)?;
+            let mut hosts = Vec::new(self.alloc);
+            hear(reader, piece, &mut hosts)?;
+            tell(hosts, &mut self.tally)?;
             return Ok(());
         }
         self.open(piece)?;
@@ -97,36 +123,32 @@ impl Stream {
     /// Ends a block of so many bytes, and gives the messages that became whole in it this time.
     pub fn end_block(&mut self, time: u32) -> Result<(), NoMemory>
         ensures { OnOk result ((times s : List ℕ) → (n : ℕ) → length s ≡ length times + n
-            → Stands self.old times s → Stands self.new (times ++ replicate n time) s) }
+            → Stands T.stands_for self.old times s → Stands T.stands_for self.new (times ++ replicate n time) s) }
     {
-        let hosts = mem::replace(&mut self.hosts, Vec::new(self.alloc));
-        for message in hosts {
-            self.messages.push(Stamped { time, message })?;
-        }
+        self.tally.stamp(time)?;
         Ok(())
     }
 
     /// What the stream tells, where it ends behind a block.
-    pub fn finish(self) -> Result<Summary, FbsFault>
-        ensures ok { IfOk result (λ told. (times s : List ℕ) → length times ≡ length s → Stands self times s → Tells s times told) }
-        ensures fault { IfErr result (λ f. (f ≡ FbsFault.Truncated) × ((times s : List ℕ) → Stands self times s → opening_at s ≡ More)) }
+    pub fn finish(self) -> Result<Told<T>, FbsFault>
+        ensures ok { IfOk result (λ told. (times s : List ℕ) → length times ≡ length s → Stands T.stands_for self times s → IsTold T.stands_for s times told) }
+        ensures fault { IfErr result (λ f. (f ≡ FbsFault.Truncated) × ((times s : List ℕ) → Stands T.stands_for self times s → opening_at s ≡ More)) }
     {
         let Stream {
             alloc,
             opening,
             reader,
-            hosts: _,
-            messages,
+            tally,
         } = self;
         let Some(reader) = reader else {
             return Err(FbsFault::Truncated);
         };
         let (width, height) = reader.size();
-        Ok(Summary {
+        Ok(Told {
             width,
             height,
             name: opening.into_name(alloc),
-            messages,
+            tally,
             rest: reader.unfinished(),
         })
     }

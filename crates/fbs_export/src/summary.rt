@@ -26,3 +26,13 @@ impl Model for Summary {
       rest = s.rest;
     } };
 }
+
+/// What a file says, its messages counted: the size of the screen in places, the number of recorded
+/// messages, and the number of bytes of an unfinished last message.
+#[derive(Clone, Copy, Debug, PartialEq, Eq)]
+pub struct Counted {
+    pub width: u16,
+    pub height: u16,
+    pub messages: u64,
+    pub rest: u64,
+}

@@ -51,13 +51,12 @@ fn write_summary<R: Files<File = File> + AllocGlobal, O: Write>(
         progress,
     };
     let mut reader = BufReader::new(alloc, watched)?;
-    let told = match fbs_export::check(alloc, &mut reader) {
+    let told = match fbs_export::count(alloc, &mut reader) {
         Ok(told) => told,
         Err(fault) => return Err(Ended::Refused(Refusal::Fbs(fault))),
     };
     let (width, height) = (told.width, told.height);
-    let messages = told.messages.len();
-    let rest = told.rest;
+    let (messages, rest) = (told.messages, told.rest);
     writeln!(out, "fbs {width} {height} messages {messages} rest {rest}")?;
     Ok(())
 }

@@ -3,6 +3,7 @@
 ghost use Rattle.std.specs.Prelude.{◌≡◌, ◌+◌, ◌<◌, ◌^◌, length};
 ghost use Rattle.disk.specs.Contents.{CountsFailure};
 
+use crate::last_error::LastError;
 use crate::progress::Progress;
 use disk::{Disk, DiskFault};
 use std::fs::File;
@@ -21,6 +22,7 @@ pub struct FileDisk {
     file: File,
     failures: u64,
     progress: Progress,
+    last_error: Option<LastError>,
 }
 
 /// Contracts see the number of calls that failed.
@@ -48,19 +50,35 @@ impl FileDisk {
             file,
             failures: 0,
             progress,
+            last_error: None,
         }
     }
-}
 
-// Counts a call where it failed. What the system says of it isn't kept.
-fn counted<T>(failures: &mut u64, outcome: io::Result<T>) -> Result<T, DiskFault>
-    ensures { CountsFailure failures.old failures.new result }
-{
-    match outcome {
-        Ok(answer) => Ok(answer),
-        Err(_) => {
-            *failures = failures.saturating_add(1);
-            Err(DiskFault)
+    /// The same as [`new`](FileDisk::new), with what the system says of a failure noted.
+    pub fn noting(file: File, last_error: LastError) -> FileDisk
+        ensures { result ≡ 0 }
+    {
+        FileDisk {
+            file,
+            failures: 0,
+            progress: Progress::silent(),
+            last_error: Some(last_error),
+        }
+    }
+
+    // Counts a call where it failed, and has the system's word for it noted.
+    fn counted<T>(&mut self, outcome: io::Result<T>) -> Result<T, DiskFault>
+        ensures { CountsFailure self.old self.new result }
+    {
+        match outcome {
+            Ok(answer) => Ok(answer),
+            Err(error) => {
+                if let Some(last_error) = &self.last_error {
+                    last_error.note(&error);
+                }
+                self.failures = self.failures.saturating_add(1);
+                Err(DiskFault)
+            }
         }
     }
 }
@@ -80,7 +98,7 @@ impl Disk for FileDisk {
         ensures counts { CountsFailure self.old self.new result }
     {
         let outcome = self.file.metadata();
-        let metadata = counted(&mut self.failures, outcome)?;
+        let metadata = self.counted(outcome)?;
         Ok(metadata.len())
     }
 
@@ -90,7 +108,7 @@ impl Disk for FileDisk {
     {
         self.progress.pass(buffer.len());
         let outcome = self.file.read_exact_at(buffer, place);
-        counted(&mut self.failures, outcome)
+        self.counted(outcome)
     }
 
     fn write_at(&mut self, place: u64, bytes: &[u8]) -> Result<(), DiskFault>
@@ -98,14 +116,14 @@ impl Disk for FileDisk {
         ensures counts { CountsFailure self.old self.new result }
     {
         let outcome = self.file.write_all_at(bytes, place);
-        counted(&mut self.failures, outcome)
+        self.counted(outcome)
     }
 
     fn sync(&mut self) -> Result<(), DiskFault>
         ensures counts { CountsFailure self.old self.new result }
     {
         let outcome = self.file.sync_data();
-        counted(&mut self.failures, outcome)
+        self.counted(outcome)
     }
 
     ghost agrees = { λ _ never. absurd never };

@@ -12,12 +12,12 @@ use std::rt::Files;
 
 // A line a block: its number, its first message, how many it has, whether it has a key screen, and
 // the time of its first message.
-fn write_blocks<O: Write>(index: &mut Indexed<FileDisk>, out: &mut O) -> Result<(), Ended> {
+fn write_blocks<O: Write>(index: &Indexed<FileDisk>, out: &mut O) -> io::Result<()> {
     for block in 0..index.blocks() {
         let first = index.start(block);
         let count = index.count(block);
         let key = if index.has_key(block) { "yes" } else { "no" };
-        let time = index.read_from(first, 1)?[0].time;
+        let time = index.first_time(block);
         writeln!(
             out,
             "block {block} first {first} messages {count} key {key} time {time}"
@@ -34,9 +34,9 @@ fn write_list<R: Files<File = File> + AllocGlobal, O: Write>(
 ) -> Result<(), Ended> {
     let alloc = rt.alloc();
     let file = open_file(rt, path)?;
-    let mut index = open_recording(alloc, file, progress)?;
+    let index = open_recording(alloc, file, progress)?;
     let mut lines = BufWriter::new(alloc, out)?;
-    write_blocks(&mut index, &mut lines)?;
+    write_blocks(&index, &mut lines)?;
     lines.flush()?;
     Ok(())
 }

@@ -5,14 +5,37 @@ mod command;
 mod words;
 
 use file_commands::Progress;
+use std::fs::{File, OpenOptions};
+use std::os::fd::AsRawFd;
 use std::process::ExitCode;
 use std::{env, io};
+
+/// The highest number of a standard stream: that of standard error.
+const LAST_STREAM: i32 = 2;
+
+// Where a standard stream is closed, the next file or socket would get its number, and what is
+// printed would be written there. So the null device has it first; it stays open as long as what is
+// answered is kept.
+fn hold_standard_streams(rt: &HostRuntime) -> [Option<File>; 3] {
+    let mut held = [None, None, None];
+    for stream in &mut held {
+        let Ok(file) = OpenOptions::new().read(true).write(true).open(rt, "/dev/null") else {
+            break;
+        };
+        if file.as_raw_fd() > LAST_STREAM {
+            break;
+        }
+        *stream = Some(file);
+    }
+    held
+}
 
 fn arguments(rt: &HostRuntime) -> io::Result<Vec<String>> {
     Ok(env::args(rt)?.collect(rt.alloc())?)
 }
 
 fn main(rt: HostRuntime) -> ExitCode {
+    let _held = hold_standard_streams(&rt);
     let Ok(words) = arguments(&rt) else {
         return ExitCode::from(1);
     };

@@ -48,11 +48,12 @@ fn serve_viewer<D: Disk + Send, M: Mark + Send + Sync, R: Threads + Clock + Epri
     shared: &Shared<D, M>,
     room: &Room<M>,
     viewer: &Viewer<M>,
+    from: SocketAddr,
 ) {
     thread::scope(thread::scope_env(), rt, |scope| {
         match scope.spawn(move || watch(rt, shared, room, viewer)) {
             Ok(_worker) => viewer.listen(rt, shared, &room.hall),
-            Err(_) => room.telling.tell(rt, Event::Shortage),
+            Err(_) => room.telling.tell(rt, Event::NoThread(from)),
         }
     });
 }
@@ -88,7 +89,7 @@ fn receive<D: Disk + Send, M: Mark + Send + Sync, R: Threads + Clock + Eprint + 
         return;
     }
     room.telling.tell(rt, Event::Came(from));
-    serve_viewer(rt, shared, room, &viewer);
+    serve_viewer(rt, shared, room, &viewer, from);
     room.hall.leave(rt);
     room.telling.tell(rt, Event::Left(from));
 }
@@ -148,20 +149,29 @@ fn take<'s, E, D: Disk + Send, M: Mark + Send + Sync, R: Threads + Clock + Eprin
     let attending = scope.spawn(move || attend(rt, shared, room, stream, from, arrival));
     if attending.is_err() {
         room.hall.give_up(rt);
-        room.telling.tell(rt, Event::Shortage);
+        room.telling.tell(rt, Event::NoThread(from));
     }
     Ok(())
 }
 
-// Whether accepting may go on behind this failure. A shortage is waited out for a moment.
-fn may_go_on<M: Mark, R: Eprint + Wait>(rt: &R, room: &Room<M>, error: &io::Error) -> bool {
+// Whether accepting may go on behind this failure. A shortage is waited out for a moment, and told
+// of once while it lasts.
+fn may_go_on<M: Mark, R: Eprint + Wait>(
+    rt: &R,
+    room: &Room<M>,
+    error: &io::Error,
+    is_short: &mut bool,
+) -> bool {
     let number = error.raw_os_error().unwrap_or(0);
     if FINAL.contains(&number) {
         room.telling.tell_failure(rt, "accept", "viewers", error);
         return false;
     }
     if SHORTAGES.contains(&number) {
-        room.telling.tell_failure(rt, "accept", "viewers", error);
+        if !*is_short {
+            room.telling.tell_failure(rt, "accept", "viewers", error);
+        }
+        *is_short = true;
         let _paused = room.bell.wait(None, Some(pause()));
     }
     true
@@ -181,17 +191,19 @@ fn accept_in<
     room: &'s Room<M>,
     listener: &TcpListener,
 ) -> bool {
+    let mut is_short = false;
     for _ in rt.forever() {
         match room.bell.wait(Some(listener.as_raw_fd()), None) {
             Woken::Rung => return true,
             Woken::TimedOut => {}
-            Woken::Ready => {
-                if let Err(error) = take(rt, scope, shared, room, listener) {
-                    if !may_go_on(rt, room, &error) {
+            Woken::Ready => match take(rt, scope, shared, room, listener) {
+                Ok(()) => is_short = false,
+                Err(error) => {
+                    if !may_go_on(rt, room, &error, &mut is_short) {
                         return false;
                     }
                 }
-            }
+            },
         }
     }
     unreachable!()

@@ -1,9 +1,10 @@
 //! The recording's file: opened where it has bytes, or made whole.
 
-use connections::{Refusal, Telling};
-use file_commands::{FileDisk, fault_of_read, sync_folder};
+use connections::{Event, Refusal, Telling};
+use file_commands::{FileDisk, LastError, sync_folder};
 use flusher_core::Book;
 use gated_journal::{CreateFault, Header};
+use key_index::IndexFault;
 use std::alloc::Global;
 use std::fs::{File, Metadata, OpenOptions, Permissions};
 use std::os::unix::fs::{MetadataExt, PermissionsExt};
@@ -56,42 +57,100 @@ fn lock(file: &File, is_written: bool) -> io::Result<()> {
     locked.map_err(|_| io::ErrorKind::WouldBlock.into())
 }
 
-/// Opens the recording at a path, to be written or only to be read, and locks its file.
+// Whether a link stands at a path. A file that is renamed to it would take the link's place.
+fn is_link<R: Files<File = File>>(rt: &R, path: &str) -> bool {
+    match fs::symlink_metadata(rt, path) {
+        Ok(metadata) => metadata.is_symlink(),
+        Err(_) => false,
+    }
+}
+
+// The file at a path, open and locked, and what the system says of it; none where nothing is there.
+// A device or a pipe is refused, and isn't opened.
+fn open_file<R: Eprint + Files<File = File> + Wait>(
+    rt: &R,
+    path: &str,
+    is_written: bool,
+    telling: &Telling,
+) -> Result<Option<(File, Metadata)>, Refusal> {
+    match fs::metadata(rt, path) {
+        Ok(metadata) if !metadata.is_file() => {
+            telling.tell(rt, Event::NoFile(path));
+            return Err(Refusal::File);
+        }
+        Err(error) if is_written && error.kind() == io::ErrorKind::NotFound => return Ok(None),
+        _ => {}
+    }
+    let opened = OpenOptions::new()
+        .read(true)
+        .write(is_written)
+        .open(rt, path);
+    let file = match opened {
+        Ok(file) => file,
+        Err(error) => {
+            telling.tell_failure(rt, "open", path, &error);
+            return Err(Refusal::File);
+        }
+    };
+    match lock(&file, is_written).and_then(|()| file.metadata()) {
+        Ok(metadata) => Ok(Some((file, metadata))),
+        Err(error) => {
+            if error.kind() == io::ErrorKind::WouldBlock {
+                telling.tell(rt, Event::Locked(path));
+            } else {
+                telling.tell_failure(rt, "lock", path, &error);
+            }
+            Err(Refusal::File)
+        }
+    }
+}
+
+// Opens the recording in a file.
+fn open_book<R: Eprint + Wait>(
+    rt: &R,
+    alloc: Global,
+    file: File,
+    path: &str,
+    telling: &Telling,
+    last_error: &LastError,
+) -> Result<Book<FileDisk>, Refusal> {
+    let Ok(noting) = last_error.share() else {
+        return Err(Refusal::Recording(IndexFault::NoMemory));
+    };
+    match Book::open(alloc, FileDisk::noting(file, noting)) {
+        Ok(book) => Ok(book),
+        Err(refused) => {
+            if let Some(error) = last_error.get() {
+                telling.tell_failure(rt, "read", path, &error);
+            }
+            Err(Refusal::Recording(refused.fault))
+        }
+    }
+}
+
+/// Opens the recording at a path, to be written or only to be read, and locks its file. What is no
+/// file is refused, and so is a link to nothing or to a file without bytes.
 pub fn find<R: Eprint + Files<File = File> + Wait>(
     rt: &R,
     alloc: Global,
     path: &str,
     is_written: bool,
     telling: &Telling,
+    last_error: &LastError,
 ) -> Result<Found, Refusal> {
-    let file = match OpenOptions::new()
-        .read(true)
-        .write(is_written)
-        .open(rt, path)
-    {
-        Ok(file) => file,
-        Err(error) if is_written && error.kind() == io::ErrorKind::NotFound => {
-            return Ok(Found::Nothing);
+    let found = match open_file(rt, path, is_written, telling)? {
+        Some((file, metadata)) if is_written && metadata.len() == 0 => Found::Empty(file),
+        Some((file, metadata)) => {
+            let book = open_book(rt, alloc, file, path, telling, last_error)?;
+            return Ok(Found::Recording(book, Identity::of(&metadata)));
         }
-        Err(error) => {
-            telling.tell_failure(rt, "open", path, &error);
-            return Err(Refusal::File);
-        }
+        None => Found::Nothing,
     };
-    let metadata = match lock(&file, is_written).and_then(|()| file.metadata()) {
-        Ok(metadata) => metadata,
-        Err(error) => {
-            telling.tell_failure(rt, "lock", path, &error);
-            return Err(Refusal::File);
-        }
-    };
-    if is_written && metadata.len() == 0 {
-        return Ok(Found::Empty(file));
+    if is_link(rt, path) {
+        telling.tell(rt, Event::Link(path));
+        return Err(Refusal::File);
     }
-    match Book::open(alloc, FileDisk::new(file)) {
-        Ok(book) => Ok(Found::Recording(book, Identity::of(&metadata))),
-        Err(refused) => Err(Refusal::Recording(refused.fault)),
-    }
+    Ok(found)
 }
 
 // A file beside the recording's path, empty, locked, and for its owner alone. What a creation that
@@ -116,9 +175,22 @@ fn open_draft<R: Files<File = File>>(rt: &R, draft: &str, path: &str) -> io::Res
 }
 
 // Gives a whole recording its name, on the device.
-fn publish<R: Files<File = File>>(rt: &R, draft: &str, path: &str) -> io::Result<()> {
-    fs::rename(rt, draft, path)?;
-    sync_folder(rt, path)
+fn publish<R: Eprint + Files<File = File> + Wait>(
+    rt: &R,
+    draft: &str,
+    path: &str,
+    telling: &Telling,
+) -> Result<(), Refusal> {
+    if let Err(error) = fs::rename(rt, draft, path) {
+        telling.tell_failure(rt, "rename to", path, &error);
+        let _removed = fs::remove_file(rt, draft);
+        return Err(Refusal::File);
+    }
+    if let Err(error) = sync_folder(rt, path) {
+        telling.tell_failure(rt, "sync the folder of", path, &error);
+        return Err(Refusal::File);
+    }
+    Ok(())
 }
 
 /// Makes a recording at a path where there is none, or no byte. It appears there whole: it is made
@@ -130,8 +202,12 @@ pub fn create<R: Eprint + Files<File = File> + Wait>(
     path: &str,
     header: Header,
     telling: &Telling,
+    last_error: &LastError,
 ) -> Result<(Book<FileDisk>, Identity), Refusal> {
     let Ok(draft) = format!(in alloc; "{path}.new") else {
+        return Err(Refusal::Create(CreateFault::NoMemory));
+    };
+    let Ok(noting) = last_error.share() else {
         return Err(Refusal::Create(CreateFault::NoMemory));
     };
     let opened = open_draft(rt, &draft, path).and_then(|file| {
@@ -145,29 +221,16 @@ pub fn create<R: Eprint + Files<File = File> + Wait>(
             return Err(Refusal::File);
         }
     };
-    let book = match Book::create(alloc, FileDisk::new(file), header) {
+    let book = match Book::create(alloc, FileDisk::noting(file, noting), header) {
         Ok(book) => book,
         Err(refused) => {
+            if let Some(error) = last_error.get() {
+                telling.tell_failure(rt, "write", &draft, &error);
+            }
             let _removed = fs::remove_file(rt, &draft);
             return Err(Refusal::Create(refused.fault));
         }
     };
-    match publish(rt, &draft, path) {
-        Ok(()) => Ok((book, identity)),
-        Err(error) => {
-            telling.tell_failure(rt, "rename to", path, &error);
-            Err(Refusal::File)
-        }
-    }
-}
-
-/// The time of a recording's last message; 0 where it has none.
-pub fn last_time(book: &mut Book<FileDisk>) -> Result<u32, Refusal> {
-    let Some(last) = book.committed().checked_sub(1) else {
-        return Ok(0);
-    };
-    match book.slice(last, 1, false) {
-        Ok(slice) => Ok(slice.messages.last().map_or(0, |stamped| stamped.time)),
-        Err(fault) => Err(Refusal::Recording(fault_of_read(fault))),
-    }
+    publish(rt, &draft, path, telling)?;
+    Ok((book, identity))
 }

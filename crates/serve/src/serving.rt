@@ -6,7 +6,7 @@ ghost use Rattle.flusher_core.specs.State.{accepted_count};
 use crate::ending::wait_for_stop;
 use crate::entrance::accept_all;
 use crate::quiet::Quiet;
-use crate::recording::{Found, Identity, create, find, last_time};
+use crate::recording::{Found, Identity, create, find};
 use crate::sink::Committing;
 use broadcast::Desk;
 use connections::{
@@ -14,8 +14,8 @@ use connections::{
     first_refusal,
 };
 use disk::Disk;
-use file_commands::FileDisk;
-use flusher_core::{Book, HostRefusal};
+use file_commands::{FileDisk, LastError};
+use flusher_core::{Book, HostRefusal, TakeRefusal};
 use gated_journal::Header;
 use shared_book::{FlusherEnd, Mark, Shared, Token, run_flusher, run_host};
 use std::alloc::{AllocError, Global};
@@ -77,7 +77,9 @@ fn record<D: Disk, M: Mark, R: Clock + Eprint + Wait>(
     let messages = Messages::new(rt, host, stopwatch, room, &end);
     let worker = run_host(rt, shared, messages, &Quiet);
     let end = end.into_inner();
-    room.telling.tell(rt, Event::HostEnded(end));
+    if !room.is_stopped() {
+        room.telling.tell(rt, Event::HostEnded(end));
+    }
     (worker, end)
 }
 
@@ -88,6 +90,16 @@ fn shut(stream: Option<&TcpStream>, how: Shutdown) {
     }
 }
 
+// Tells why nothing more is recorded.
+fn tell_why<M: Mark, R: Eprint + Wait>(rt: &R, room: &Room<M>, why: FlusherEnd) {
+    if let FlusherEnd::Take(TakeRefusal::NoMemory) = why {
+        room.telling.tell(rt, Event::OutOfMemory);
+        return;
+    }
+    let error = room.last_error.get();
+    room.telling.tell(rt, Event::DeviceFailed(error.as_ref()));
+}
+
 // Commits what was accepted, on this thread. A flusher that is refused ends the host, too.
 fn flush<D: Disk, M: Mark, R: Clock + Eprint + Wait>(
     rt: &R,
@@ -96,8 +108,9 @@ fn flush<D: Disk, M: Mark, R: Clock + Eprint + Wait>(
     stream: Option<&TcpStream>,
 ) -> Result<(), FlusherEnd> {
     let end = run_flusher(rt, shared, Committing::new(rt, room), &Quiet);
-    if end.is_err() {
-        room.telling.tell(rt, Event::DeviceFailed);
+    room.tell_recorded(rt);
+    if let Err(why) = end {
+        tell_why(rt, room, why);
         shut(stream, Shutdown::Both);
     }
     room.intake.end(rt);
@@ -113,7 +126,7 @@ fn stop_when<M: Mark, R: Clock + Eprint + Wait>(
 ) {
     if let Ok(true) = wait_for_stop(rt, stop, &room.bell) {
         room.telling.tell(rt, Event::Stopped);
-        room.hall.stop(rt);
+        room.stop(rt);
         shut(stream, Shutdown::Read);
     }
 }
@@ -177,7 +190,7 @@ fn give_up<D: Disk, M: Mark, R: Wait>(
     shared.end_host(rt);
     shared.end_flusher(rt);
     room.hall.end(rt);
-    room.hall.stop(rt);
+    room.stop(rt);
     room.bell.ring();
 }
 
@@ -338,6 +351,7 @@ fn recording_for<R: Eprint + Files<File = File> + Wait>(
     found: Found,
     host: Option<&Host>,
     telling: &Telling,
+    last_error: &LastError,
 ) -> Result<(Book<FileDisk>, Identity), Stopped> {
     // A file without bytes stays locked until the recording has taken its place.
     let _empty = match found {
@@ -349,20 +363,44 @@ fn recording_for<R: Eprint + Files<File = File> + Wait>(
         return Err(Stopped::Refused(Refusal::File));
     };
     match Header::new(alloc, width, height, plan.key_interval, name) {
-        Ok(header) => Ok(create(rt, alloc, plan.file, header, telling)?),
+        Ok(header) => Ok(create(rt, alloc, plan.file, header, telling, last_error)?),
         Err(_) => Err(Stopped::Failed(io::ErrorKind::OutOfMemory.into())),
     }
 }
 
+// What the system gave for a recorder's sockets, or the refusal, once what it said is told.
+fn given<T, R: Eprint + Wait>(
+    rt: &R,
+    outcome: io::Result<T>,
+    operation: &str,
+    place: &str,
+    telling: &Telling,
+) -> Result<T, Refusal> {
+    match outcome {
+        Ok(it) => Ok(it),
+        Err(error) => {
+            telling.tell_failure(rt, operation, place, &error);
+            Err(Refusal::Net)
+        }
+    }
+}
+
 // The host, with a stopwatch that goes on from this time, and a second handle of its stream.
-fn source_of<R: Clock>(rt: &R, host: Option<Host>, base: u32) -> io::Result<Source> {
+fn source_of<R: Clock + Eprint + Wait>(
+    rt: &R,
+    plan: &Plan<'_>,
+    host: Option<Host>,
+    base: u32,
+    telling: &Telling,
+) -> Result<Source, Stopped> {
     let Some(host) = host else {
         return Ok(Source {
             host: None,
             stream: None,
         });
     };
-    let stream = host.stream()?;
+    let address = plan.host.unwrap_or("");
+    let stream = given(rt, host.stream(), "share the socket of host", address, telling)?;
     let stopwatch = Stopwatch::start(rt, base)?;
     Ok(Source {
         host: Some((host, stopwatch)),
@@ -384,6 +422,7 @@ fn serve_book<
     listener: TcpListener,
     bell: Bell,
     telling: Telling,
+    last_error: LastError,
     err: &mut W,
 ) -> Result<u64, Stopped>
     requires head { book.head ≡ M.head }
@@ -395,7 +434,7 @@ fn serve_book<
     let size = book.header().size();
     let name = book.header().name().to_vec(alloc)?;
     let committed = book.committed();
-    let room = Room::<M>::new(alloc, size, name, plan, bell, telling, committed);
+    let room = Room::<M>::new(alloc, size, name, plan, bell, telling, last_error, committed);
     let (outcome, committed) = share::<FileDisk, M, R, W>(
         rt,
         token,
@@ -448,20 +487,20 @@ fn listener_of<R: Eprint + Wait, L: FnOnce() -> io::Result<TcpListener> + Drop>(
 ) -> Result<TcpListener, Stopped>
     requires { L.IsAlwaysCallable listen }
 {
-    let listener = match listen() {
-        Ok(listener) => listener,
-        Err(error) => {
-            telling.tell_failure(rt, "listen at", plan.listen, &error);
-            return Err(Stopped::Refused(Refusal::Net));
-        }
-    };
+    let listener = given(rt, listen(), "listen at", plan.listen, telling)?;
     listener.set_nonblocking(true)?;
     telling.tell(rt, Event::Listening(listener.local_addr()?));
     Ok(listener)
 }
 
 // Opens the recording, connects to the host, listens, and makes the recording where there is none.
-fn open<R, L>(rt: &R, plan: &Plan<'_>, listen: L, telling: &Telling) -> Result<Opened, Stopped>
+fn open<R, L>(
+    rt: &R,
+    plan: &Plan<'_>,
+    listen: L,
+    telling: &Telling,
+    last_error: &LastError,
+) -> Result<Opened, Stopped>
 where
     R: AllocGlobal + Clock + Eprint + Files<File = File> + Wait,
     R: Net<Stream = TcpStream, Listener = TcpListener>,
@@ -469,12 +508,13 @@ where
     requires { L.IsAlwaysCallable listen }
 {
     let alloc = rt.alloc();
-    let found = find(rt, alloc, plan.file, plan.host.is_some(), telling)?;
+    let is_written = plan.host.is_some();
+    let found = find(rt, alloc, plan.file, is_written, telling, last_error)?;
     let host = host_of(rt, plan, &found, telling)?;
     let listener = listener_of(rt, plan, listen, telling)?;
-    let (mut book, identity) = recording_for(rt, alloc, plan, found, host.as_ref(), telling)?;
-    let base = last_time(&mut book)?;
-    let source = source_of(rt, host, base)?;
+    let (book, identity) =
+        recording_for(rt, alloc, plan, found, host.as_ref(), telling, last_error)?;
+    let source = source_of(rt, plan, host, book.last_time(), telling)?;
     Ok(Opened {
         book,
         identity,
@@ -505,20 +545,21 @@ where
     requires { L.IsAlwaysCallable listen }
 {
     let telling = Telling::new(plan.is_verbose);
-    let opened = open(rt, plan, listen, &telling)?;
+    let last_error = LastError::new(rt.alloc())?;
+    let opened = open(rt, plan, listen, &telling, &last_error)?;
     let Opened {
         book,
         identity,
         source,
         listener,
     } = opened;
-    let bell = Bell::new(rt)?;
+    let bell = given(rt, Bell::new(rt), "make a bell for", plan.listen, &telling)?;
     let Ok(token) = Token::new(rt.alloc()) else {
         return Err(Stopped::Failed(io::ErrorKind::OutOfMemory.into()));
     };
     print_line(out, "serving")?;
     let committed = serve_book::<Brand, R, W>(
-        rt, token, book, plan, source, listener, bell, telling, err,
+        rt, token, book, plan, source, listener, bell, telling, last_error, err,
     )?;
     if !identity.is_at(rt, plan.file) {
         Telling::new(plan.is_verbose).tell(rt, Event::Replaced(plan.file));

@@ -6,8 +6,8 @@ use shared_book::{Ending, Mark, Receipt, ReceiptSink, Turn, ViewerSink};
 use std::sync::Wait;
 use std::time::{Clock, Instant};
 
-/// How many messages a viewer takes at a time: few, since each is copied.
-const LIMIT: u32 = 8;
+/// How many messages a viewer takes at a time: all that a block has, so that a block is read once.
+const LIMIT: u32 = 256;
 
 /// A live viewer that is more messages behind than this goes on at the newest screen.
 const FAR: u64 = 64;
@@ -24,6 +24,8 @@ pub struct Watching<'a, M: Mark, R: Clock + Eprint + Wait> {
     /// Whether it has waited for more since it was handed something.
     has_waited: bool,
     is_at_end: bool,
+    /// Whether memory was short, which is told once, since it was handed something.
+    is_short: bool,
 }
 
 impl<'a, M: Mark, R: Clock + Eprint + Wait> Watching<'a, M, R> {
@@ -37,6 +39,7 @@ impl<'a, M: Mark, R: Clock + Eprint + Wait> Watching<'a, M, R> {
             has_start: false,
             has_waited: false,
             is_at_end: false,
+            is_short: false,
         }
     }
 
@@ -66,9 +69,11 @@ impl<'a, M: Mark, R: Clock + Eprint + Wait> Watching<'a, M, R> {
         }
     }
 
-    // Whether it ends without having been shown the rest: nothing new is to come.
+    // Whether it ends without having been shown the rest: it has left, or the recorder is closing, and
+    // nothing new is to come, or there is no memory for it.
     fn is_cut_off(&self) -> bool {
-        self.viewer.has_left() || (self.room.is_alone && self.room.hall.is_closing(self.rt))
+        let is_waited_for = !self.room.is_alone && !self.is_short;
+        self.viewer.has_left() || (!is_waited_for && self.room.hall.is_closing(self.rt))
     }
 }
 
@@ -114,6 +119,7 @@ impl<'a, M: Mark, R: Clock + Eprint + Wait> ViewerSink<Receipt<M>, Ending<M>>
         self.position = slice.end();
         self.has_start = true;
         self.has_waited = false;
+        self.is_short = false;
         self.viewer.show(self.rt, slice);
     }
 
@@ -122,7 +128,10 @@ impl<'a, M: Mark, R: Clock + Eprint + Wait> ViewerSink<Receipt<M>, Ending<M>>
     }
 
     fn shortage(&mut self) {
-        self.room.telling.tell(self.rt, Event::Shortage);
+        if !self.is_short {
+            self.room.telling.tell(self.rt, Event::Shortage);
+        }
+        self.is_short = true;
     }
 }
 
@@ -136,8 +145,7 @@ pub struct Committing<'a, M: Mark, R: Clock + Eprint + Wait> {
     rt: &'a R,
     room: &'a Room<M>,
     since: Option<Instant>,
-    messages: u64,
-    bytes: u64,
+    is_short: bool,
 }
 
 impl<'a, M: Mark, R: Clock + Eprint + Wait> Committing<'a, M, R> {
@@ -147,8 +155,7 @@ impl<'a, M: Mark, R: Clock + Eprint + Wait> Committing<'a, M, R> {
             rt,
             room,
             since: Instant::now(rt).ok(),
-            messages: 0,
-            bytes: 0,
+            is_short: false,
         }
     }
 
@@ -161,16 +168,8 @@ impl<'a, M: Mark, R: Clock + Eprint + Wait> Committing<'a, M, R> {
             Ok(passed) if passed.as_secs() >= MINUTE => {}
             _ => return,
         }
-        self.room.telling.tell(
-            self.rt,
-            Event::Recorded {
-                messages: self.messages,
-                bytes: self.bytes,
-            },
-        );
+        self.room.tell_recorded(self.rt);
         self.since = Instant::now(self.rt).ok();
-        self.messages = 0;
-        self.bytes = 0;
     }
 }
 
@@ -184,12 +183,15 @@ impl<'a, M: Mark, R: Clock + Eprint + Wait> ReceiptSink<Receipt<M>> for Committi
         }
         self.room.set_committed(slice.first.saturating_add(count));
         self.room.intake.commit(self.rt, bytes);
-        self.messages = self.messages.saturating_add(count);
-        self.bytes = self.bytes.saturating_add(bytes);
+        self.room.note_recorded(count, bytes);
+        self.is_short = false;
         self.tell();
     }
 
     fn shortage(&mut self) {
-        self.room.telling.tell(self.rt, Event::Shortage);
+        if !self.is_short {
+            self.room.telling.tell(self.rt, Event::Shortage);
+        }
+        self.is_short = true;
     }
 }

@@ -1,7 +1,7 @@
 //! What no clause says of `fbs_export`: files worked by hand.
 
 use disk::MemoryDisk;
-use fbs_export::{ExportFault, FbsFault, Summary, check, export};
+use fbs_export::{Counted, ExportFault, FbsFault, Summary, check, count, export};
 use key_index::Indexed;
 use std::alloc::Global;
 use std::io;
@@ -20,6 +20,12 @@ const CUT: [u8; 40] =
 fn checked(alloc: Global, file: &[u8]) -> Result<Summary, FbsFault> {
     let mut reader = file;
     check(alloc, &mut reader)
+}
+
+// The same of what is counted.
+fn counted(alloc: Global, file: &[u8]) -> Result<Counted, FbsFault> {
+    let mut reader = file;
+    count(alloc, &mut reader)
 }
 
 fn two_blocks(alloc: Global) -> Result<Vec<u8>, Fail> {
@@ -43,6 +49,47 @@ fn a_message_that_is_cut_off(rt: HostRuntime) -> Result<(), Fail> {
     assert!(rt; told.messages.is_empty() && told.rest == 7);
     let cut = checked(rt.alloc(), file.get(..70).ok_or("short")?);
     assert!(rt; cut.err() == Some(FbsFault::Truncated));
+    Ok(())
+}
+
+#[test]
+fn a_cut_file_is_counted(rt: HostRuntime) -> Result<(), Fail> {
+    let alloc = rt.alloc();
+    let file = two_blocks(alloc)?;
+    let whole = Counted {
+        width: 1,
+        height: 1,
+        messages: 1,
+        rest: 0,
+    };
+    assert!(rt; counted(alloc, &file)? == whole);
+    let unfinished = Counted {
+        width: 1,
+        height: 1,
+        messages: 0,
+        rest: 7,
+    };
+    assert!(rt; counted(alloc, file.get(..80).ok_or("short")?)? == unfinished);
+    let cut = counted(alloc, file.get(..70).ok_or("short")?);
+    assert!(rt; cut.err() == Some(FbsFault::Truncated));
+    Ok(())
+}
+
+// A block at time 7 of a black update, no colours of a colour map, which aren't recorded, a Bell, and
+// a red update: 47 bytes, padded with 255.
+const SEVERAL: [u8; 56] =
+    *b"\0\0\0\x2f\0\0\0\x01\0\0\0\0\0\x01\0\x01\0\0\0\0\0\0\0\0\x01\0\0\0\0\0\x02\0\0\0\x01\0\0\0\0\0\x01\0\x01\0\0\0\0\0\0\xff\0\xff\0\0\0\x07";
+
+#[test]
+fn the_messages_of_a_block_are_counted(rt: HostRuntime) -> Result<(), Fail> {
+    let alloc = rt.alloc();
+    let mut file = Vec::from_slice(alloc, &FRONT)?;
+    file.extend_from_slice(&SEVERAL)?;
+    let told = checked(alloc, &file)?;
+    assert!(rt; told.messages.len() == 3 && told.rest == 0);
+    assert!(rt; told.messages[0].time == 7 && told.messages[2].time == 7);
+    let number = counted(alloc, &file)?;
+    assert!(rt; number.messages == 3 && number.rest == 0);
     Ok(())
 }
 

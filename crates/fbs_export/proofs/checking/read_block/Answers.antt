@@ -20,7 +20,7 @@ returns-then-came-lt4-clause-fault g c = λ seen b.
     let size : length tail ≡ c.in_ok-came.came = omega (arith, length-take c.in_ok-came.came c.fill.new.buffer, c.fill.ensures.size, c.if-came-lt4.true) in
     Consumes-whole _ _ tail (λ rest. IsCutShort (seen ++ rest)) c.in_ok-came.ensures.read (c.in_ok-came.ensures.end c.if-came-lt4.true)
     (length_short seen tail b.blocks b.laid b.long (omega (arith, size, c.if-came-lt4.true)) (omega (arith, size, c.if-came-eq0.false))
-    (no_fault_yet c.args.stream.now (times_of b.blocks) (data_of b.blocks) b.stands))
+    (no_fault_yet g.T.Tally.stands_for c.args.stream.now (times_of b.blocks) (data_of b.blocks) b.stands))
 
 pub returns-in_err-read_content-clause-fault : goal.returns-in_err-read_content-clause-fault
 returns-in_err-read_content-clause-fault g c =
@@ -37,7 +37,7 @@ returns-then-came-padding-clause-fault g c = λ seen b.
     let n : ℕ = c.number_of-length.result in
     let all : take c.in_ok-came.came c.fill.new.buffer ≡ c.fill.new.buffer = take_all c.in_ok-came.came c.fill.new.buffer (omega (arith, c.fill.ensures.size, c.if-came-lt4.false)) in
     let head : u32_bytes n ≡ c.fill.new.buffer = c.number_of-length.ensures in
-    let came : Came (g.R.Read.remaining c.fill.new.file) (g.R.Read.remaining c.read_content.new.file) c.args.stream.now c.read_content.new.stream n = c.in_ok-read_content.ensures.came in
+    let came : Came g.T.Tally.stands_for (g.R.Read.remaining c.fill.new.file) (g.R.Read.remaining c.read_content.new.file) c.args.stream.now c.read_content.new.stream n = c.in_ok-read_content.ensures.came in
     let some : List ℕ = take c.in_ok-came-2.came c.fill-2.new.buffer in
     let few : length some < padding_length n + 4 = omega (arith, length-take c.in_ok-came-2.came c.fill-2.new.buffer, c.if-came-padding.true, c.padding_of-padding.ensures.value) in
     let first : Consumes (g.R.Read.remaining c.args.file.now) (g.R.Read.remaining c.fill.new.file) (u32_bytes n) = rw (head, ← all) c.in_ok-came.ensures.read in
@@ -45,14 +45,14 @@ returns-then-came-padding-clause-fault g c = λ seen b.
     Consumes-trans _ _ _ (u32_bytes n) (came.content ++ some) first (Consumes-trans _ _ _ came.content some came.consumed c.in_ok-came-2.ensures.read) in
     Consumes-whole _ _ (u32_bytes n ++ (came.content ++ some)) (λ rest. IsCutShort (seen ++ rest)) consumed (c.in_ok-came-2.ensures.end (search rules))
     (padding_short seen b.blocks n came.content some b.laid b.long c.number_of-length.type_inv came.count few
-    (no_fault_yet c.read_content.new.stream (times_of b.blocks) (data_of b.blocks ++ came.content) (came.heard (times_of b.blocks) (data_of b.blocks) b.stands)))
+    (no_fault_yet g.T.Tally.stands_for c.read_content.new.stream (times_of b.blocks) (data_of b.blocks ++ came.content) (came.heard (times_of b.blocks) (data_of b.blocks) b.stands)))
 
 pub returns-clause-went : goal.returns-clause-went
 returns-clause-went g c = λ seen b.
     let n : ℕ = c.number_of-length.result in
     let all : take c.in_ok-came.came c.fill.new.buffer ≡ c.fill.new.buffer = take_all c.in_ok-came.came c.fill.new.buffer (omega (arith, c.fill.ensures.size, c.if-came-lt4.false)) in
     let head : u32_bytes n ≡ c.fill.new.buffer = c.number_of-length.ensures in
-    let came : Came (g.R.Read.remaining c.fill.new.file) (g.R.Read.remaining c.read_content.new.file) c.args.stream.now c.read_content.new.stream n = c.in_ok-read_content.ensures.came in
+    let came : Came g.T.Tally.stands_for (g.R.Read.remaining c.fill.new.file) (g.R.Read.remaining c.read_content.new.file) c.args.stream.now c.read_content.new.stream n = c.in_ok-read_content.ensures.came in
     let last : List ℕ = take c.in_ok-came-2.came c.fill-2.new.buffer in
     let pad : ℕ = c.padding_of-padding.result in
     let size : length c.fill-2.new.buffer ≡ pad + 4 = search rules in
@@ -67,7 +67,7 @@ returns-clause-went g c = λ seen b.
     c.split_at.ensures.back ∙ ap (drop pad) (take-put_mid 0 (pad + 4) _ c.fill-2.new.buffer (pad + 4) (omega (arith, size)) (omega arith) ∙ sym whole) in
     let time : t ≡ u32_at (drop (padding_length n) last) 0 =
     rw (← c.padding_of-padding.ensures.value, ← timed) (omega (arith, c.from_be_bytes-time.ensures)) in
-    let stands : Stands c.end_block.new.self (times_of b.blocks ++ replicate (length came.content) t) (data_of b.blocks ++ came.content) =
+    let stands : Stands g.T.Tally.stands_for c.end_block.new.self (times_of b.blocks ++ replicate (length came.content) t) (data_of b.blocks ++ came.content) =
     c.in_ok-end_block.ensures (times_of b.blocks) (data_of b.blocks ++ came.content) (length came.content)
     (omega (arith, length-append (data_of b.blocks) came.content, same_lengths b.blocks)) (came.heard (times_of b.blocks) (data_of b.blocks) b.stands) in
     record {

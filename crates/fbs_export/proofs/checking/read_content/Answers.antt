@@ -25,7 +25,7 @@ returns-then-n-eq0-clause-fault g c = λ seen between.
     let size : length c.read.new.buf ≡ c.min-room.result = search rules in
     Consumes-whole _ _ came.content (λ rest. IsCutShort (seen ++ (u32_bytes c.args.length ++ rest))) consumed (c.in-Ok.ensures.bytes.1 c.if-n-eq0.true (omega (arith, size, c.min-room.ensures, c.loop-left-test.true)))
     (content_short seen b.blocks c.args.length came.content b.laid b.long c.ranges.length.fits less
-    (no_fault_yet c.loop-left.stream (times_of b.blocks) (data_of b.blocks ++ came.content) (came.heard (times_of b.blocks) (data_of b.blocks) b.stands)))
+    (no_fault_yet g.T.Tally.stands_for c.loop-left.stream (times_of b.blocks) (data_of b.blocks ++ came.content) (came.heard (times_of b.blocks) (data_of b.blocks) b.stands)))
 
 pub returns-in_err-feed-in-Ok-clause-fault : goal.returns-in_err-feed-in-Ok-clause-fault
 returns-in_err-feed-in-Ok-clause-fault g c =
@@ -64,8 +64,8 @@ loop-left-preserved g c =
         content = came.content ++ piece;
         consumed = Consumes-trans _ _ _ came.content piece came.consumed c.in-Ok.ensures.bytes.0;
         count = omega (arith, came.count, long, length-append came.content piece);
-        heard = λ times s stands. subst (Stands c.feed.new.self times) (append_assoc s came.content piece)
-            (subst (λ z. Stands c.feed.new.self times ((s ++ came.content) ++ z)) (first_part new _ n whole c.in-Ok.ensures.bound.0)
+        heard = λ times s stands. subst (Stands g.T.Tally.stands_for c.feed.new.self times) (append_assoc s came.content piece)
+            (subst (λ z. Stands g.T.Tally.stands_for c.feed.new.self times ((s ++ came.content) ++ z)) (first_part new _ n whole c.in-Ok.ensures.bound.0)
             (c.in_ok-feed-in-Ok.ensures.goes times (s ++ came.content) (came.heard times s stands)));
       },
     )

@@ -1,4 +1,4 @@
-use Rattle.std.proofs.Common.{ℕ, List, sym, subst}
+use Rattle.std.proofs.Common.{ℕ, List, sym, subst, ◌∙◌}
 use Rattle.std.specs.Io.KnownBytes.{Appends}
 use Rattle.std.proofs.KnownBytes.{Appends-trans}
 use Rattle.keyed_entries.specs.Entry.{messages_in}
@@ -37,8 +37,8 @@ returns-in_err-write_messages-clause-front g c = λ m.
     let front : Appends (g.W.Write.contents c.args.out.now) (g.W.Write.contents c.write_front.new.out) (front_text i.head (color_at screen)) =
     subst (λ z. Appends (g.W.Write.contents c.args.out.now) (g.W.Write.contents c.write_front.new.out) (front_text z (color_at screen))) c.in-Ok.ensures.only.2 c.in_ok-write_front.ensures.all in
     let behind : WroteFront (g.W.Write.contents c.write_front.new.out) (g.W.Write.contents c.write_messages.new.out) (messages_from all from c.args.to) =
-    subst (λ z. WroteFront (g.W.Write.contents c.write_front.new.out) (g.W.Write.contents c.write_messages.new.out) (messages_from all z c.args.to)) c.in-Ok.ensures.position
-    (subst (λ z. WroteFront (g.W.Write.contents c.write_front.new.out) (g.W.Write.contents c.write_messages.new.out) (messages_from (messages_in z) c.in-Ok.replay.position c.args.to)) (c.in-Ok.ensures.only.3 m) (c.write_messages.ensures.front m)) in
+    subst (λ z. WroteFront (g.W.Write.contents c.write_front.new.out) (g.W.Write.contents c.write_messages.new.out) (messages_from all z c.args.to)) (c.position.ensures ∙ c.in-Ok.ensures.position)
+    (subst (λ z. WroteFront (g.W.Write.contents c.write_front.new.out) (g.W.Write.contents c.write_messages.new.out) (messages_from (messages_in z) c.position.result c.args.to)) (c.in-Ok.ensures.only.3 m) (c.write_messages.ensures.front m)) in
     subst (WroteFront (g.W.Write.contents c.args.out.now) (g.W.Write.contents c.write_messages.new.out)) (export_is i.head all from c.args.to screen shown)
     (front_of_second _ _ _ (front_text i.head (color_at screen)) (messages_from all from c.args.to) front behind)
 
@@ -53,8 +53,8 @@ returns-clause-all g c = λ m.
     let front : Appends (g.W.Write.contents c.args.out.now) (g.W.Write.contents c.write_front.new.out) (front_text i.head (color_at screen)) =
     subst (λ z. Appends (g.W.Write.contents c.args.out.now) (g.W.Write.contents c.write_front.new.out) (front_text z (color_at screen))) c.in-Ok.ensures.only.2 c.in_ok-write_front.ensures.all in
     let behind : Appends (g.W.Write.contents c.write_front.new.out) (g.W.Write.contents c.write_messages.new.out) (messages_from all from c.args.to) =
-    subst (λ z. Appends (g.W.Write.contents c.write_front.new.out) (g.W.Write.contents c.write_messages.new.out) (messages_from all z c.args.to)) c.in-Ok.ensures.position
-    (subst (λ z. Appends (g.W.Write.contents c.write_front.new.out) (g.W.Write.contents c.write_messages.new.out) (messages_from (messages_in z) c.in-Ok.replay.position c.args.to)) (c.in-Ok.ensures.only.3 m) (c.in_ok-write_messages.ensures.all m)) in
+    subst (λ z. Appends (g.W.Write.contents c.write_front.new.out) (g.W.Write.contents c.write_messages.new.out) (messages_from all z c.args.to)) (c.position.ensures ∙ c.in-Ok.ensures.position)
+    (subst (λ z. Appends (g.W.Write.contents c.write_front.new.out) (g.W.Write.contents c.write_messages.new.out) (messages_from (messages_in z) c.position.result c.args.to)) (c.in-Ok.ensures.only.3 m) (c.in_ok-write_messages.ensures.all m)) in
     subst (Appends (g.W.Write.contents c.args.out.now) (g.W.Write.contents c.write_messages.new.out)) (export_is i.head all from c.args.to screen shown)
     (Appends-trans _ _ _ (front_text i.head (color_at screen)) (messages_from all from c.args.to) front behind)
 

@@ -1,9 +1,8 @@
-use Rattle.std.proofs.Common.{◌≡◌, ◌<◌, ◌-◌, ℕ, suc, List, ◌∷◌, take, drop, sym, ap, ◌∙◌, subst, arith, Some}
+use Rattle.std.proofs.Common.{◌≡◌, ◌<◌, ◌+◌, ◌-◌, ℕ, suc, List, ◌∷◌, take, drop, sym, ap, ◌∙◌, subst, arith, Some}
 use Rattle.std.specs.List.{slice_get}
 use Rattle.std.proofs.KnownBytes.{Appends-trans}
 use Rattle.keyed_entries.specs.Entry.{messages_in}
 use Rattle.keyed_entries.specs.declared.entry.Stamped.{Stamped}
-use Rattle.replay.specs.Screens.{IsScreenAt}
 use Rattle.fbs_export.specs.Export.{first_time, between}
 use Rattle.fbs_export.proofs.Left.{SoFar, next_left, base_is, starts_here, front_within, one_more_so_far}
 use Rattle.fbs_export.proofs.exporting.write_messages.Goals as goal
@@ -11,40 +10,35 @@ use Rattle.fbs_export.proofs.exporting.write_messages.Goals as goal
 pub returns-in_err-write_block-clause-front : goal.returns-in_err-write_block-clause-front
 returns-in_err-write_block-clause-front g c = λ m.
     let all : List Stamped = messages_in c.args.index.now.blocks in
-    let from : ℕ = c.args.replay.now.position in
-    let n : ℕ = c.loop-first.replay.position in
+    let from : ℕ = c.args.from in
+    let n : ℕ = c.loop-number.number in
     let to : ℕ = c.args.to in
     let s : Stamped = c.in_ok-stamped.stamped in
-    let below : n < to = omega (arith, c.position.ensures, c.loop-first-test.true) in
-    let found : slice_get all n ≡ Some s = subst (λ z. slice_get (messages_in z) n ≡ Some s) (c.loop-first.invariant.blocks m) (c.in_ok-stamped.ensures.message m) in
+    let below : n < to = c.loop-number-test.true in
+    let found : slice_get all n ≡ Some s = subst (λ z. slice_get (messages_in z) n ≡ Some s) (c.loop-number.invariant.blocks m) (c.in_ok-stamped.ensures.message m) in
     let left : drop n (take to all) ≡ s ∷ drop (suc n) (take to all) = next_left all n to s found below in
     let base : c.unwrap_or-base.result ≡ first_time (between all from to) =
-    c.unwrap_or-base.ensures ∙ base_is c.loop-first.first n from s.time (first_time (between all from to)) (c.loop-first.invariant.base m) (starts_here all from n to s left) in
+    c.unwrap_or-base.ensures ∙ base_is c.loop-number.first n from s.time (first_time (between all from to)) (c.loop-number.invariant.base m) (starts_here all from n to s left) in
     let time : c.saturating_sub-time.result ≡ s.time - first_time (between all from to) = c.saturating_sub-time.ensures ∙ ap (λ z. s.time - z) base in
-    front_within all from n to (g.W.Write.contents c.args.out.now) (g.W.Write.contents c.loop-first.out) (g.W.Write.contents c.write_block.new.out) s c.saturating_sub-time.result c.bytes.result.now
-    (c.loop-first.invariant.wrote m) left time c.bytes.ensures.value c.write_block.ensures.front
+    front_within all from n to (g.W.Write.contents c.args.out.now) (g.W.Write.contents c.loop-number.out) (g.W.Write.contents c.write_block.new.out) s c.saturating_sub-time.result c.bytes.result.now
+    (c.loop-number.invariant.wrote m) left time c.bytes.ensures.value c.write_block.ensures.front
 
-pub loop-first-preserved : goal.loop-first-preserved
-loop-first-preserved g c =
-    let inv = c.loop-first.invariant in
+pub loop-number-preserved : goal.loop-number-preserved
+loop-number-preserved g c =
+    let inv = c.loop-number.invariant in
     let i = c.args.index.now in
-    let from : ℕ = c.args.replay.now.position in
-    let n : ℕ = c.loop-first.replay.position in
+    let from : ℕ = c.args.from in
+    let n : ℕ = c.loop-number.number in
     let to : ℕ = c.args.to in
     let s : Stamped = c.in_ok-stamped.stamped in
-    let below : n < to = omega (arith, c.position.ensures, c.loop-first-test.true) in
-    let next : c.next_message.new.replay.position ≡ suc n = omega (arith, c.in_ok-stamped.ensures.position) in
+    let below : n < to = c.loop-number-test.true in
+    let next : n + 1 ≡ suc n = omega arith in
     let all : List Stamped = messages_in i.blocks in
     let left : g.D.Disk.is_modelled → drop n (take to all) ≡ s ∷ drop (suc n) (take to all) =
     λ m. next_left all n to s (subst (λ z. slice_get (messages_in z) n ≡ Some s) (inv.blocks m) (c.in_ok-stamped.ensures.message m)) below in
     let base : g.D.Disk.is_modelled → c.unwrap_or-base.result ≡ first_time (between all from to) =
-    λ m. c.unwrap_or-base.ensures ∙ base_is c.loop-first.first n from s.time (first_time (between all from to)) (inv.base m) (starts_here all from n to s (left m)) in
+    λ m. c.unwrap_or-base.ensures ∙ base_is c.loop-number.first n from s.time (first_time (between all from to)) (inv.base m) (starts_here all from n to s (left m)) in
     record {
-      within = omega (arith, next, below);
-      wide = c.in_ok-stamped.ensures.width ∙ inv.wide;
-      high = c.in_ok-stamped.ensures.height ∙ inv.high;
-      painted = λ m. subst (λ z. IsScreenAt i.head (messages_in z) c.next_message.new.replay.position c.next_message.new.replay.screen) (inv.blocks m)
-          (subst (λ z. IsScreenAt z (messages_in c.loop-first.index.blocks) c.next_message.new.replay.position c.next_message.new.replay.screen) inv.head (c.in_ok-stamped.ensures.painted m));
       numbers = c.in_ok-stamped.ensures.only.1 ∙ inv.numbers;
       head = c.in_ok-stamped.ensures.only.2 ∙ inv.head;
       blocks = λ m. c.in_ok-stamped.ensures.only.3 m ∙ inv.blocks m;
@@ -52,7 +46,7 @@ loop-first-preserved g c =
       later = λ m. let after = (c.in_ok-stamped.ensures.cause m).later in omega (arith, inv.later m, after);
       base = base;
       wrote = λ m. subst (λ z. SoFar all from z to (g.W.Write.contents c.args.out.now) (g.W.Write.contents c.write_block.new.out)) (sym next)
-          (one_more_so_far all from n to (g.W.Write.contents c.args.out.now) (g.W.Write.contents c.loop-first.out) (g.W.Write.contents c.write_block.new.out) s c.saturating_sub-time.result c.bytes.result.now
+          (one_more_so_far all from n to (g.W.Write.contents c.args.out.now) (g.W.Write.contents c.loop-number.out) (g.W.Write.contents c.write_block.new.out) s c.saturating_sub-time.result c.bytes.result.now
           (inv.wrote m) (left m) (c.saturating_sub-time.ensures ∙ ap (λ z. s.time - z) (base m)) c.bytes.ensures.value
           (λ x p. Appends-trans _ _ _ x _ p c.in_ok-write_block.ensures.all));
     }

@@ -3,9 +3,9 @@ use Rattle.fbs_export.proofs.Hearing.{told_by, opening_waits, stands_open, stand
 use Rattle.fbs_export.proofs.stream.Stream.finish.Goals as goal
 
 pub returns-in_default-clause-fault : goal.returns-in_default-clause-fault
-returns-in_default-clause-fault c = (refl, λ times s stands. opening_waits c.args.self times s (stands_open c.args.self times s c.in_default.is stands))
+returns-in_default-clause-fault g c = (refl, λ times s stands. opening_waits g.T.Tally.stands_for c.args.self times s (stands_open g.T.Tally.stands_for c.args.self times s c.in_default.is stands))
 
 pub returns-clause-ok : goal.returns-clause-ok
-returns-clause-ok c = λ times s whole stands.
-    let told = told_by c.args.self c.in-Some.reader times s (stands_heard c.args.self c.in-Some.reader times s c.in-Some.is stands) whole in
-    rw (ap (λ p. p.0) c.size-width.ensures, ap (λ p. p.1) c.size-width.ensures, c.into_name.ensures, c.unfinished.ensures) told
+returns-clause-ok g c = λ times s whole stands.
+    told_by g.T.Tally.stands_for c.args.self c.in-Some.reader _ times s (stands_heard g.T.Tally.stands_for c.args.self c.in-Some.reader times s c.in-Some.is stands) whole
+    (ap (λ p. p.0) c.size-width.ensures) (ap (λ p. p.1) c.size-width.ensures) c.into_name.ensures refl c.unfinished.ensures
