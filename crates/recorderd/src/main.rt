@@ -19,7 +19,11 @@ const LAST_STREAM: i32 = 2;
 fn hold_standard_streams(rt: &HostRuntime) -> [Option<File>; 3] {
     let mut held = [None, None, None];
     for stream in &mut held {
-        let Ok(file) = OpenOptions::new().read(true).write(true).open(rt, "/dev/null") else {
+        let Ok(file) = OpenOptions::new()
+            .read(true)
+            .write(true)
+            .open(rt, "/dev/null")
+        else {
             break;
         };
         if file.as_raw_fd() > LAST_STREAM {

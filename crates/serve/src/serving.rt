@@ -400,7 +400,13 @@ fn source_of<R: Clock + Eprint + Wait>(
         });
     };
     let address = plan.host.unwrap_or("");
-    let stream = given(rt, host.stream(), "share the socket of host", address, telling)?;
+    let stream = given(
+        rt,
+        host.stream(),
+        "share the socket of host",
+        address,
+        telling,
+    )?;
     let stopwatch = Stopwatch::start(rt, base)?;
     Ok(Source {
         host: Some((host, stopwatch)),
@@ -434,7 +440,9 @@ fn serve_book<
     let size = book.header().size();
     let name = book.header().name().to_vec(alloc)?;
     let committed = book.committed();
-    let room = Room::<M>::new(alloc, size, name, plan, bell, telling, last_error, committed);
+    let room = Room::<M>::new(
+        alloc, size, name, plan, bell, telling, last_error, committed,
+    );
     let (outcome, committed) = share::<FileDisk, M, R, W>(
         rt,
         token,
@@ -512,8 +520,15 @@ where
     let found = find(rt, alloc, plan.file, is_written, telling, last_error)?;
     let host = host_of(rt, plan, &found, telling)?;
     let listener = listener_of(rt, plan, listen, telling)?;
-    let (book, identity) =
-        recording_for(rt, alloc, plan, found, host.as_ref(), telling, last_error)?;
+    let (book, identity) = recording_for(
+        rt,
+        alloc,
+        plan,
+        found,
+        host.as_ref(),
+        telling,
+        last_error,
+    )?;
     let source = source_of(rt, plan, host, book.last_time(), telling)?;
     Ok(Opened {
         book,
