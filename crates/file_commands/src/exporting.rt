@@ -15,9 +15,9 @@ fn is_same_file(one: &Metadata, other: &Metadata) -> bool {
     one.dev() == other.dev() && one.ino() == other.ino()
 }
 
-// Opens a file for the export, created or emptied. The recording itself is refused, under whatever
-// name: so it is asked of the open file, before it is emptied.
-fn open_out<R: Files<File = File>>(
+/// Opens a file to be written, created or emptied. The recording itself is refused, under whatever
+/// name: so it is asked of the open file, before it is emptied.
+pub fn open_out<R: Files<File = File>>(
     files: &R,
     path: &str,
     recording: &Metadata,

@@ -104,6 +104,7 @@ where
         Chosen::List(path) => file_commands::list(rt, path, progress, out, err),
         Chosen::Check(path) => file_commands::check(rt, path, progress, out, err),
         Chosen::Export(what) => file_commands::export(rt, what, progress, out, err),
+        Chosen::Picture(what) => file_commands::picture(rt, what, progress, out, err),
         Chosen::FbsCheck(path) => file_commands::fbs_check(rt, path, progress, out, err),
         Chosen::Serve(plan) => serve::serve(rt, plan, out, err),
         Chosen::Text(text) => print(out, &text),

@@ -3,7 +3,7 @@
 use broadcast::Start;
 use clap::error::ErrorKind;
 use clap::{Arg, ArgAction, ArgMatches, Command};
-use file_commands::Extract;
+use file_commands::{Extract, Moment, PictureFormat, Scene};
 use serve::{Audience, Plan, Stop};
 use std::alloc::{AllocError, Global};
 use std::io;
@@ -15,6 +15,7 @@ pub enum Chosen<'a> {
     List(&'a str),
     Check(&'a str),
     Export(Extract<'a>),
+    Picture(Scene<'a>),
     FbsCheck(&'a str),
     Serve(Plan<'a>),
     /// What a refusal of this area and number means.
@@ -65,6 +66,30 @@ fn export<'a>(alloc: Global) -> Result<Command<'a>, AllocError> {
         .arg(required(alloc, "FROM", "The block to begin with, from 0"))?
         .arg(required(alloc, "TO", "The number of the first message left out"))?
         .arg(required(alloc, "OUT", "The file to write"))
+}
+
+fn picture<'a>(alloc: Global) -> Result<Command<'a>, AllocError> {
+    Command::new(alloc, "picture")
+        .about("Writes the screen at a moment of a recording as a picture, in PPM or BMP")
+        .after_help("Example, after a minute: recorderd picture r r.bmp --at 60000")
+        .arg(required(alloc, "PATH", "The recording"))?
+        .arg(required(
+            alloc,
+            "OUT",
+            "The file to write, which ends in .ppm or .bmp; or -, for PPM on standard output",
+        ))?
+        .arg(option(
+            alloc,
+            "at",
+            "TIME",
+            "The moment, in milliseconds of the recording, as list prints them",
+        ))?
+        .arg(option(
+            alloc,
+            "message",
+            "COUNT",
+            "In place of a time: behind so many messages",
+        ))
 }
 
 fn fbs_check<'a>(alloc: Global) -> Result<Command<'a>, AllocError> {
@@ -170,6 +195,7 @@ fn all_commands<'a>(alloc: Global) -> Result<Command<'a>, AllocError> {
         .subcommand(check(alloc)?)?
         .subcommand(export(alloc)?)?
         .subcommand(fbs_check(alloc)?)?
+        .subcommand(picture(alloc)?)?
         .subcommand(serving(alloc)?)?
         .subcommand(explain(alloc)?)
 }
@@ -188,6 +214,32 @@ fn extract<'a>(matches: &ArgMatches<'a>) -> Option<Extract<'a>> {
         from_block: number(matches.get_str("FROM")?)?,
         to: number(matches.get_str("TO")?)?,
         out: matches.get_str("OUT")?,
+    })
+}
+
+// The moment that a time or a number of messages says; one of the two is given.
+fn moment(time: Option<&str>, count: Option<&str>) -> Option<Moment> {
+    match (time, count) {
+        (Some(time), None) => Some(Moment::Time(u32::try_from(number(time)?).ok()?)),
+        (None, Some(count)) => Some(Moment::Count(number(count)?)),
+        _ => None,
+    }
+}
+
+fn shown<'a>(matches: &ArgMatches<'a>) -> Option<Scene<'a>> {
+    let out = matches.get_str("OUT")?;
+    let format = if out.ends_with(".bmp") {
+        PictureFormat::Bmp
+    } else if out == "-" || out.ends_with(".ppm") {
+        PictureFormat::Ppm
+    } else {
+        return None;
+    };
+    Some(Scene {
+        recording: matches.get_str("PATH")?,
+        moment: moment(matches.get_str("TIME"), matches.get_str("COUNT"))?,
+        format,
+        out: Some(out).filter(|out| *out != "-"),
     })
 }
 
@@ -251,6 +303,7 @@ fn choose<'a>(matches: &ArgMatches<'a>) -> Option<Chosen<'a>> {
         "list" => Some(Chosen::List(matches.get_str("PATH")?)),
         "check" => Some(Chosen::Check(matches.get_str("PATH")?)),
         "export" => Some(Chosen::Export(extract(matches)?)),
+        "picture" => Some(Chosen::Picture(shown(matches)?)),
         "serve" => Some(Chosen::Serve(plan(matches)?)),
         "explain" => {
             let number = number(matches.get_str("NUMBER")?)?;

@@ -53,6 +53,10 @@ const KEYED: [u8; 164] =
 const KEYED_ANSWERS: &str =
     "0 recording 3 1 2\naccepted 0\naccepted 1\ntaken 0 2\nwritten\ncommitted 2\naccepted 2\ntaken 2 1\nwritten\ncommitted 3\nopened 3\nff0000\n00ff00\nff0000\n";
 
+/// A bitmap of a row of three places: red, green and blue.
+const BITMAP: [u8; 66] =
+    *b"BM\x42\0\0\0\0\0\0\0\x36\0\0\0\x28\0\0\0\x03\0\0\0\x01\0\0\0\x01\0\x20\0\0\0\0\0\x0c\0\0\0\0\0\0\0\0\0\0\0\0\0\0\0\0\0\0\0\0\0\xff\0\0\xff\0\0\xff\0\0\0";
+
 // The exit status, and behind it what is printed on both outputs.
 fn said<R>(rt: &R, line: &str, script: &str) -> Result<String, Fail>
 where
@@ -308,6 +312,34 @@ fn key_screens_are_listed_and_judged(rt: HostRuntime) -> Result<(), Fail> {
         fs::write(&rt, "keyed", file.as_slice())?;
         say(&rt, &[("check keyed", answer)])?;
     }
+    without(&rt, &files);
+    Ok(())
+}
+
+// Whether a picture at a moment of the recording `shown` is this file.
+fn is_picture(rt: &HostRuntime, out: &str, moment: &str, bytes: &[u8]) -> Result<bool, Fail> {
+    let words = format!(in rt.alloc(); "picture shown {out} {moment}")?;
+    say(rt, &[(words.as_str(), "0 ")])?;
+    holds(rt, out, bytes)
+}
+
+#[test]
+fn screens_are_written_as_pictures(rt: HostRuntime) -> Result<(), Fail> {
+    let files = ["shown", "o.ppm", "o.bmp"];
+    without(&rt, &files);
+    fs::write(&rt, "shown", KEYED.as_slice())?;
+    for (moment, bytes) in [
+        ("--at 4", b"P6\n3 1\n255\n\0\0\0\0\0\0\0\0\0"),
+        ("--at 5", b"P6\n3 1\n255\n\xff\0\0\0\xff\0\0\0\xff"),
+        ("--at 8", b"P6\n3 1\n255\n\xff\0\0\xff\0\0\0\xff\0"),
+        ("--message 3", b"P6\n3 1\n255\n\xff\0\0\xff\0\0\xff\0\0"),
+    ] {
+        assert!(rt; is_picture(&rt, "o.ppm", moment, bytes)?, "{moment}");
+    }
+    assert!(rt; is_picture(&rt, "o.bmp", "--message 1", &BITMAP)?);
+    assert!(rt; is_refused(&rt, "picture", "shown o.ppm --message 4", "replay 1")?);
+    assert!(rt; is_refused(&rt, "picture", "shown no/o.ppm --at 0", "file 1")?);
+    assert!(rt; holds(&rt, "shown", &KEYED)?);
     without(&rt, &files);
     Ok(())
 }

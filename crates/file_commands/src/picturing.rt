@@ -1,0 +1,115 @@
+//! The command `picture`.
+
+use crate::disk_of_file::FileDisk;
+use crate::exporting::open_out;
+use crate::progress::{Progress, Watched};
+use crate::recording::{open_file, open_recording};
+use crate::refusal::{Ended, Refusal, answer};
+use gated_journal::ReadFault;
+use key_index::Indexed;
+use painter::Screen;
+use pictures::{PictureFormat, count_at, write_picture};
+use replay::{ReplayFault, screen_at};
+use std::alloc::Global;
+use std::fs::{File, Metadata};
+use std::io;
+use std::io::{BufWriter, Write};
+use std::rt::Files;
+
+/// A moment of a recording.
+#[derive(Clone, Copy, Debug, PartialEq, Eq)]
+pub enum Moment {
+    /// Behind so many messages.
+    Count(u64),
+    /// So many milliseconds after the recording's start.
+    Time(u32),
+}
+
+/// Which screen of which recording is shown, and where to.
+#[derive(Clone, Copy)]
+pub struct Scene<'a> {
+    /// The recording's file.
+    pub recording: &'a str,
+    /// When the screen is shown.
+    pub moment: Moment,
+    /// The format of the picture.
+    pub format: PictureFormat,
+    /// The file that is written; none for the program's output.
+    pub out: Option<&'a str>,
+}
+
+// How many messages stand before a moment.
+fn count_of(index: &mut Indexed<FileDisk>, moment: Moment) -> Result<u64, ReplayFault> {
+    match moment {
+        Moment::Count(count) => Ok(count),
+        Moment::Time(time) => match count_at(index, time) {
+            Ok(count) => Ok(count),
+            Err(ReadFault::Device) => Err(ReplayFault::Device),
+            Err(ReadFault::NoMemory) => Err(ReplayFault::NoMemory),
+        },
+    }
+}
+
+// The screen at a moment.
+fn screen_of(
+    alloc: Global,
+    index: &mut Indexed<FileDisk>,
+    moment: Moment,
+) -> Result<Screen, Refusal> {
+    match count_of(index, moment).and_then(|count| screen_at(alloc, index, count)) {
+        Ok(screen) => Ok(screen),
+        Err(fault) => Err(Refusal::Screen(fault)),
+    }
+}
+
+// Writes a picture into a file, created or emptied. What can't be written is refused as a file.
+fn write_file<R: Files<File = File> + AllocGlobal>(
+    rt: &R,
+    path: &str,
+    recording: &Metadata,
+    screen: &Screen,
+    what: Scene<'_>,
+    progress: Progress,
+) -> Result<(), Ended> {
+    let alloc = rt.alloc();
+    let Ok(inner) = open_out(rt, path, recording) else {
+        return Err(Ended::Refused(Refusal::File));
+    };
+    let mut writer = BufWriter::new(alloc, Watched { inner, progress })?;
+    let written = write_picture(alloc, screen, what.format, &mut writer);
+    match written.and_then(|()| writer.flush()) {
+        Ok(()) => Ok(()),
+        Err(_) => Err(Ended::Refused(Refusal::File)),
+    }
+}
+
+fn write_screen<R: Files<File = File> + AllocGlobal, O: Write>(
+    rt: &R,
+    what: Scene<'_>,
+    progress: Progress,
+    out: &mut O,
+) -> Result<(), Ended> {
+    let alloc = rt.alloc();
+    let file = open_file(rt, what.recording)?;
+    let metadata = file.metadata()?;
+    let mut index = open_recording(alloc, file, progress)?;
+    let screen = screen_of(alloc, &mut index, what.moment)?;
+    match what.out {
+        Some(path) => write_file(rt, path, &metadata, &screen, what, progress),
+        None => Ok(write_picture(alloc, &screen, what.format, out)?),
+    }
+}
+
+/// Writes the screen at a moment of a recording, which is opened for reading alone, as a picture. A
+/// file is created, or emptied where it is there, only once there is such a screen; one that can't
+/// be written, and the recording itself, are refused as a file. It answers as
+/// [`check`](crate::check) does.
+pub fn picture<R: Files<File = File> + AllocGlobal, O: Write, E: Write>(
+    rt: &R,
+    what: Scene<'_>,
+    progress: Progress,
+    out: &mut O,
+    err: &mut E,
+) -> io::Result<bool> {
+    answer("picture", write_screen(rt, what, progress, out), err)
+}
