@@ -9,7 +9,7 @@ use Rattle.client_wire.specs.declared.fault.WireFault.{WireFault}
 use Rattle.client_wire.specs.declared.progress.Stage.{Stage}
 use Rattle.client_wire.specs.declared.progress.Stage.TheVariants as stages
 use Rattle.client_wire.specs.Grammar.{judged, numbers_of, encodings_at, input_at, body_at}
-use Rattle.client_wire.specs.Progress.{wants_of, resume}
+use Rattle.client_wire.specs.PartialMessage.{wants_of, resume}
 use Rattle.client_wire.proofs.Fronts.{type_short, type_read, pixel_format_short, pixel_format_read, head_short, head_read, encodings_short, encodings_read, request_short, request_read, input_read, text_short, text_read}
 
 pub type_goes : (f more : List ℕ) → length f ≡ 1 → resume stages.Type (f ++ more) ≡ body_at (slice_index f 0) more

@@ -11,11 +11,11 @@ use Rattle.client_wire.specs.declared.progress.Stage.TheVariants as stages
 use Rattle.client_wire.specs.declared.progress.Over.{Over}
 use Rattle.client_wire.specs.declared.progress.Position.{Position}
 use Rattle.client_wire.specs.declared.progress.Position.TheVariants as positions
-use Rattle.client_wire.specs.declared.progress.Progress.{Progress}
+use Rattle.client_wire.specs.declared.progress.PartialMessage.{PartialMessage}
 use Rattle.client_wire.specs.Fault.{UnlessMemory}
 use Rattle.client_wire.specs.Reader.{kept_limit}
 use Rattle.client_wire.specs.Grammar.{input_at, message_at}
-use Rattle.client_wire.specs.Progress.{wants_of, start_of, resume, position_at, BeginsAt, IsLinked, IsInField, IsOver, IsAtPosition, IsAt, passed_in}
+use Rattle.client_wire.specs.PartialMessage.{wants_of, start_of, resume, position_at, BeginsAt, IsLinked, IsInField, IsOver, IsAtPosition, IsAt, passed_in}
 use Rattle.client_wire.specs.Stream.{StandsFor, Moves, itself}
 use Rattle.client_wire.proofs.Fronts.{unless_memory_map}
 use Rattle.client_wire.proofs.Resume.{resume-short}
@@ -95,7 +95,7 @@ waits_at bytes (positions.ReadOver o) at rest s =
     ap message_at (s.is ∙ sym (append-nil (bytes ++ s.skipped))) ∙ at.link s.skipped [] s.count ∙ input_waits o.kind o.left at.some
 
 -- what a reader stands for waits
-pub at_waits : (p : Progress) → IsAt p → (rest : List ℕ) → StandsFor p.bytes.items (passed_in p.position) rest → message_at rest ≡ More
+pub at_waits : (p : PartialMessage) → IsAt p → (rest : List ℕ) → StandsFor p.bytes.items (passed_in p.position) rest → message_at rest ≡ More
 at_waits p at rest s = waits_at p.bytes.items p.position at rest s
 
 -- a message that is kept as far as it came
@@ -146,5 +146,5 @@ short_there : (bytes : List ℕ) (p : Position) → IsAtPosition bytes p → len
 short_there bytes (positions.Field stage) at = omega (arith, at.unfinished, at.short)
 short_there bytes (positions.ReadOver o) at = omega (arith, at.short)
 
-pub at_short : (p : Progress) → IsAt p → length p.bytes.items < kept_limit
+pub at_short : (p : PartialMessage) → IsAt p → length p.bytes.items < kept_limit
 at_short p at = short_there p.bytes.items p.position at

@@ -6,5 +6,5 @@ pub mod Plain
 pub mod Message
 pub mod Stream
 pub mod Reader
-pub mod Progress
+pub mod PartialMessage
 pub mod Written

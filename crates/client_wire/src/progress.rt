@@ -48,7 +48,7 @@ pub enum Position {
 
 /// What follows from a whole field.
 #[derive(Drop)]
-pub enum Step {
+pub enum AfterField {
     /// The message goes on.
     Goes(Position),
     /// The message is whole.
@@ -57,13 +57,13 @@ pub enum Step {
 
 /// An unfinished message: its bytes so far, but for those that are read over, and what comes next.
 #[derive(Drop)]
-pub struct Progress {
+pub struct PartialMessage {
     pub bytes: Vec<u8>,
     pub position: Position,
 }
 
 impl Stage {
-    ghost use Rattle.client_wire.specs.Progress.{wants_of, start_of};
+    ghost use Rattle.client_wire.specs.PartialMessage.{wants_of, start_of};
 
     /// How many bytes the field has.
     pub fn wants(self) -> usize
@@ -106,16 +106,16 @@ impl Over {
     }
 }
 
-impl Progress {
-    ghost use Rattle.client_wire.specs.Progress.{wants_of, start_of, passed_in, IsLinked, IsInField, IsOver, IsAt};
+impl PartialMessage {
+    ghost use Rattle.client_wire.specs.PartialMessage.{wants_of, start_of, passed_in, IsLinked, IsInField, IsOver, IsAt};
 
     /// A reader at the start of a message.
-    pub fn new(alloc: Global) -> Progress
+    pub fn new(alloc: Global) -> PartialMessage
         ensures at { IsAt result }
         ensures none { result.bytes.items ≡ [] }
         ensures passed { passed_in result.position ≡ 0 }
     {
-        Progress {
+        PartialMessage {
             bytes: Vec::new(alloc),
             position: Position::Field(Stage::Type),
         }
@@ -158,8 +158,8 @@ impl Progress {
     {
         let field = &self.bytes[stage.start()..];
         match step(alloc, stage, field)? {
-            Step::Goes(position) => self.position = position,
-            Step::Whole(message) => self.give(message, out)?,
+            AfterField::Goes(position) => self.position = position,
+            AfterField::Whole(message) => self.give(message, out)?,
         }
         Ok(())
     }
@@ -197,7 +197,7 @@ impl Progress {
     }
 
     // Takes bytes of a piece up to the end of a field, and answers how many.
-    fn turn_in_field(
+    fn take_in_field(
         &mut self,
         alloc: Global,
         stage: Stage,
@@ -227,7 +227,7 @@ impl Progress {
 
     // Takes bytes of a piece up to the end of a field, or of what is read over, and answers how
     // many.
-    fn turn(
+    fn take_some(
         &mut self,
         alloc: Global,
         piece: &[u8],
@@ -247,7 +247,7 @@ impl Progress {
         ensures err { OnErr result (out.new.items ≡ out.old.items) }
     {
         match self.position {
-            Position::Field(stage) => self.turn_in_field(alloc, stage, piece, out),
+            Position::Field(stage) => self.take_in_field(alloc, stage, piece, out),
             Position::ReadOver(over) => self.pass(over, piece.len(), out),
         }
     }
@@ -271,7 +271,7 @@ impl Progress {
     {
         let mut rest = piece;
         while !rest.is_empty() {
-            let taken = self.turn(alloc, rest, out)?;
+            let taken = self.take_some(alloc, rest, out)?;
             rest = &rest[taken..];
         }
         Ok(())

@@ -8,7 +8,7 @@ ghost use Rattle.client_wire.specs.Stream.{Goes, Stops, FaultOf, StandsFor, Grow
 
 use crate::fault::WireFault;
 use crate::message::ClientMessage;
-use crate::progress::Progress;
+use crate::progress::PartialMessage;
 use std::alloc::Global;
 use std::marker::Model;
 
@@ -17,14 +17,14 @@ use std::marker::Model;
 /// the bytes of an input message are counted and not kept.
 #[derive(Drop)]
 pub struct ClientReader {
-    progress: Progress,
+    progress: PartialMessage,
     fault: Option<WireFault>,
     alloc: Global,
 }
 
 impl Model for ClientReader {
     ghost use Rattle.client_wire.specs.Reader.{Reader};
-    ghost use Rattle.client_wire.specs.Progress.{IsAt, passed_in};
+    ghost use Rattle.client_wire.specs.PartialMessage.{IsAt, passed_in};
 
     ghost Value = { Reader };
 
@@ -44,7 +44,7 @@ impl ClientReader {
     {
         ClientReader {
             alloc,
-            progress: Progress::new(alloc),
+            progress: PartialMessage::new(alloc),
             fault: None,
         }
     }
@@ -83,7 +83,7 @@ impl ClientReader {
         let read = self.progress.read(self.alloc, piece, out);
         if let Err(fault) = read {
             self.fault = Some(fault);
-            self.progress = Progress::new(self.alloc);
+            self.progress = PartialMessage::new(self.alloc);
             return Err(fault);
         }
         Ok(())

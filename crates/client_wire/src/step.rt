@@ -4,12 +4,12 @@ ghost use Rattle.std.specs.Prelude.{◌≡◌, ℕ, ◌+◌, List, ◌++◌, len
 ghost use Rattle.pixel_format.specs.Reading.{Bad};
 ghost use Rattle.client_wire.specs.Fault.{UnlessMemory};
 ghost use Rattle.client_wire.specs.Grammar.{body_at};
-ghost use Rattle.client_wire.specs.Progress.{wants_of, start_of, resume, position_at, follow, BeginsAt, StepBeginsAt};
+ghost use Rattle.client_wire.specs.PartialMessage.{wants_of, start_of, resume, position_at, follow, BeginsAt, StepBeginsAt};
 
 use crate::fault::WireFault;
 use crate::field::{encodings_in, pixel_format_in, request_in};
 use crate::message::{ClientMessage, Encodings};
-use crate::progress::{Over, Position, Stage, Step};
+use crate::progress::{AfterField, Over, Position, Stage};
 use std::alloc::Global;
 
 // Behind the type of a message.
@@ -36,7 +36,7 @@ fn behind_type(kind: u8) -> Result<Position, WireFault>
 }
 
 // Behind the head of a SetEncodings.
-fn behind_encodings_head(alloc: Global, field: &[u8]) -> Step
+fn behind_encodings_head(alloc: Global, field: &[u8]) -> AfterField
     requires { length field.now ≡ 3 }
     ensures goes { (more : List ℕ)
         → resume Stage.EncodingsHead (field.now ++ more) ≡ follow result more }
@@ -45,13 +45,13 @@ fn behind_encodings_head(alloc: Global, field: &[u8]) -> Step
     let count = u16::from_be_bytes([field[1], field[2]]);
     if count == 0 {
         let none = Encodings::from_vec(Vec::new(alloc));
-        return Step::Whole(ClientMessage::SetEncodings(none));
+        return AfterField::Whole(ClientMessage::SetEncodings(none));
     }
-    Step::Goes(Position::Field(Stage::Encodings { count }))
+    AfterField::Goes(Position::Field(Stage::Encodings { count }))
 }
 
 // Behind the head of a ClientCutText.
-fn behind_text_head(field: &[u8]) -> Step
+fn behind_text_head(field: &[u8]) -> AfterField
     requires { length field.now ≡ 7 }
     ensures goes { (more : List ℕ)
         → resume Stage.TextHead (field.now ++ more) ≡ follow result more }
@@ -59,13 +59,13 @@ fn behind_text_head(field: &[u8]) -> Step
 {
     let length = u32::from_be_bytes([field[3], field[4], field[5], field[6]]);
     if length == 0 {
-        return Step::Whole(ClientMessage::Input(6));
+        return AfterField::Whole(ClientMessage::Input(6));
     }
-    Step::Goes(Position::ReadOver(Over::new(6, length)))
+    AfterField::Goes(Position::ReadOver(Over::new(6, length)))
 }
 
 /// What follows from the whole field of a stage.
-pub fn step(alloc: Global, stage: Stage, field: &[u8]) -> Result<Step, WireFault>
+pub fn step(alloc: Global, stage: Stage, field: &[u8]) -> Result<AfterField, WireFault>
     requires { length field.now ≡ wants_of stage }
     ensures goes { IfOk result (λ s. (more : List ℕ)
         → resume stage (field.now ++ more) ≡ follow s more) }
@@ -74,14 +74,14 @@ pub fn step(alloc: Global, stage: Stage, field: &[u8]) -> Result<Step, WireFault
         ((more : List ℕ) → resume stage (field.now ++ more) ≡ Bad f)) }
 {
     match stage {
-        Stage::Type => Ok(Step::Goes(behind_type(field[0])?)),
-        Stage::PixelFormat => Ok(Step::Whole(pixel_format_in(field)?)),
+        Stage::Type => Ok(AfterField::Goes(behind_type(field[0])?)),
+        Stage::PixelFormat => Ok(AfterField::Whole(pixel_format_in(field)?)),
         Stage::EncodingsHead => Ok(behind_encodings_head(alloc, field)),
         Stage::Encodings { .. } => {
             let encodings = encodings_in(alloc, field)?;
-            Ok(Step::Whole(ClientMessage::SetEncodings(encodings)))
+            Ok(AfterField::Whole(ClientMessage::SetEncodings(encodings)))
         }
-        Stage::Request => Ok(Step::Whole(request_in(field))),
+        Stage::Request => Ok(AfterField::Whole(request_in(field))),
         Stage::TextHead => Ok(behind_text_head(field)),
     }
 }

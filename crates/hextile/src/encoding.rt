@@ -95,12 +95,12 @@ fn append_tile(
     room: &mut Parts,
     bytes: &mut Vec<u8>,
 ) -> Result<Known, NoMemory>
+    requires size { length colors.now ≡ w * h }
+    requires within { All (IsWithin format.now) colors.now }
     requires across { 0 < w }
     requires down { 0 < h }
     requires wide { w ≤ 16 }
     requires high { h ≤ 16 }
-    requires size { length colors.now ≡ w * h }
-    requires within { All (IsWithin format.now) colors.now }
     ensures ok { IfOk result (λ after. (before : List Tile) → IsKnown before known
         → Appends (ShowsTile format.now w h colors.now before after) bytes.old.items bytes.new.items) }
     ensures grows { Grows bytes.old.items bytes.new.items }
@@ -129,10 +129,10 @@ fn append_tiles(
     colors: &[Color],
     bytes: &mut Vec<u8>,
 ) -> Result<(), NoMemory>
-    requires within { All (IsWithin format.now) colors.now }
     requires size { length colors.now ≡ h * w }
-    ensures grows { Grows bytes.old.items bytes.new.items }
+    requires within { All (IsWithin format.now) colors.now }
     ensures ok { OnOk result (Appends (Shows format.now w h colors.now) bytes.old.items bytes.new.items) }
+    ensures grows { Grows bytes.old.items bytes.new.items }
 {
     let mut known = NOTHING_KNOWN;
     let mut room = Parts::new();

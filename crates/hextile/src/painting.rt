@@ -61,15 +61,15 @@ fn name_colors(format: &PixelFormat, mask: Mask, head: &[u8], colors: TileColors
 // Paints pixels by rows into a tile's area of the canvas.
 fn paint_pixels<C: Canvas>(format: &PixelFormat, area: TileArea, pixels: &[u8], canvas: &mut C)
     requires size { length pixels.now ≡ area.w * area.h * pixel_bytes format.now }
-    requires held { (pixel : List ℕ) → C.holds (pixel_color format.now pixel) }
     requires columns { area.x + area.w ≤ C.width canvas.old }
     requires rows { area.y + area.h ≤ C.height canvas.old }
     requires last_column { area.x + area.w < 2 ^ 16 }
     requires last_row { area.y + area.h < 2 ^ 16 }
-    ensures width { C.width canvas.new ≡ C.width canvas.old }
-    ensures height { C.height canvas.new ≡ C.height canvas.old }
+    requires held { (pixel : List ℕ) → C.holds (pixel_color format.now pixel) }
     ensures painted { Agree (C.width canvas.old) (C.height canvas.old) (C.picture canvas.new)
         (laid_over area.x area.y area.w area.h (pixel_rows format.now area.w pixels.now) (C.picture canvas.old)) }
+    ensures width { C.width canvas.new ≡ C.width canvas.old }
+    ensures height { C.height canvas.new ≡ C.height canvas.old }
 {
     let (w, h) = (area.w as u16, area.h as u16);
     if format.is_host() {
@@ -95,11 +95,11 @@ fn paint_parts<'a, 'b, 'c, C: Canvas>(
     canvas: &'c mut C,
 ) -> &'a [u8]
     requires begin { BeginsWithParts format.now colored area.w area.h count bytes.now }
-    requires last_column { area.x + area.w < 2 ^ 16 }
     requires columns { area.x + area.w ≤ C.width canvas.old }
-    requires held { (pixel : List ℕ) → C.holds (pixel_color format.now pixel) }
     requires rows { area.y + area.h ≤ C.height canvas.old }
+    requires last_column { area.x + area.w < 2 ^ 16 }
     requires last_row { area.y + area.h < 2 ^ 16 }
+    requires held { (pixel : List ℕ) → C.holds (pixel_color format.now pixel) }
     requires foreground { C.holds foreground }
     ensures rest { (parts : List Subrectangle) → (rest : List ℕ)
         → subrectangles_at format.now colored area.w area.h count bytes.now ≡ Got parts rest → result.now ≡ rest }
@@ -132,24 +132,24 @@ fn paint_tile<'a, 'b, 'c, 'd, C: Canvas>(
 ) -> &'a [u8]
     requires begin { BeginsWithTile format.now area.w area.h bytes.now }
     requires columns { area.x + area.w ≤ C.width canvas.old }
-    requires last_column { area.x + area.w < 2 ^ 16 }
-    requires background { C.holds colors.old.background }
-    requires held { (pixel : List ℕ) → C.holds (pixel_color format.now pixel) }
-    requires foreground { C.holds colors.old.foreground }
     requires rows { area.y + area.h ≤ C.height canvas.old }
+    requires last_column { area.x + area.w < 2 ^ 16 }
     requires last_row { area.y + area.h < 2 ^ 16 }
+    requires held { (pixel : List ℕ) → C.holds (pixel_color format.now pixel) }
+    requires background { C.holds colors.old.background }
+    requires foreground { C.holds colors.old.foreground }
+    ensures background { C.holds colors.new.background }
+    ensures foreground { C.holds colors.new.foreground }
     ensures rest { (named : Named) → (tile : Tile) → (rest : List ℕ)
         → tile_at format.now named area.w area.h bytes.now ≡ Got tile rest → result.now ≡ rest }
     ensures colors { (named : Named) → (tile : Tile) → (rest : List ℕ)
         → tile_at format.now named area.w area.h bytes.now ≡ Got tile rest → colors.new ≡ carried colors.old tile }
-    ensures background { C.holds colors.new.background }
-    ensures width { C.width canvas.new ≡ C.width canvas.old }
-    ensures foreground { C.holds colors.new.foreground }
-    ensures height { C.height canvas.new ≡ C.height canvas.old }
     ensures painted { (named : Named) → (tile : Tile) → (rest : List ℕ)
         → tile_at format.now named area.w area.h bytes.now ≡ Got tile rest
         → Agree (C.width canvas.old) (C.height canvas.old) (C.picture canvas.new)
         (laid_over area.x area.y area.w area.h (tile_picture area.w colors.new.background colors.new.foreground tile) (C.picture canvas.old)) }
+    ensures width { C.width canvas.new ≡ C.width canvas.old }
+    ensures height { C.height canvas.new ≡ C.height canvas.old }
 {
     let mask = read_mask(bytes[0]);
     let body = &bytes[1..];
@@ -199,10 +199,10 @@ pub fn paint<C: Canvas>(
     requires last_column { x + w < 2 ^ 16 }
     requires last_row { y + h < 2 ^ 16 }
     requires held { (pixel : List ℕ) → C.holds (pixel_color format.now pixel) }
-    ensures width { C.width canvas.new ≡ C.width canvas.old }
-    ensures height { C.height canvas.new ≡ C.height canvas.old }
     ensures painted { (tiles : List Tile) → IsData format.now w h bytes.now tiles
         → Agree (C.width canvas.old) (C.height canvas.old) (C.picture canvas.new) (painted_over x y w h tiles (C.picture canvas.old)) }
+    ensures width { C.width canvas.new ≡ C.width canvas.old }
+    ensures height { C.height canvas.new ≡ C.height canvas.old }
 {
     let mut colors = TileColors {
         background: BLACK,

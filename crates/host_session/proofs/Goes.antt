@@ -11,7 +11,7 @@ use Rattle.host_session.specs.declared.stage.Stage.{Stage}
 use Rattle.host_session.specs.declared.stage.Stage.TheVariants as stages
 use Rattle.pixel_format.specs.Talk.{Talk, silent, say, hear}
 use Rattle.pixel_format.specs.Number.{u16_at, u32_at}
-use Rattle.host_session.specs.Handshake.{Told, Refusal, version, text_limit, offers_none, reason_at, failure_at, rest_of_name, name_at, head_at, sized, size_at, judged, outcome_at, offered, types_at, counted, count_at, versioned, handshake_at, first_requests}
+use Rattle.host_session.specs.Handshake.{Told, Refusal, version, text_limit, offers_security_none, reason_at, failure_at, rest_of_name, name_at, head_at, sized, size_at, judged, outcome_at, offered, types_at, counted, count_at, versioned, handshake_at, first_requests}
 use Rattle.host_session.specs.Stage.{wants_of, resume}
 
 hear_whole : (n : ℕ) (f more : List ℕ) (next : List ℕ → List ℕ → Talk Told Refusal) → length f ≡ n → hear (field {E = Refusal} n (f ++ more)) next ≡ next f more
@@ -29,11 +29,11 @@ unfolding resume count_at
 count_goes expected f more n whole is =
     hear_whole 1 f more (λ f rest. counted expected (slice_index f 0) rest) whole ∙ ap (λ b. counted expected b more) is
 
-pub types_go : (expected : Option (ℕ × ℕ)) (f more : List ℕ) (n : ℕ) (offers : Bool) → length f ≡ n → offers_none f ≡ offers
+pub types_go : (expected : Option (ℕ × ℕ)) (f more : List ℕ) (n : ℕ) (offers : Bool) → length f ≡ n → offers_security_none f ≡ offers
     → resume expected (stages.Types n) (f ++ more) ≡ offered expected offers more
 unfolding resume types_at
 types_go expected f more n offers whole is =
-    hear_whole n f more (λ f rest. offered expected (offers_none f) rest) whole ∙ ap (λ b. offered expected b more) is
+    hear_whole n f more (λ f rest. offered expected (offers_security_none f) rest) whole ∙ ap (λ b. offered expected b more) is
 
 pub outcome_goes : (expected : Option (ℕ × ℕ)) (f more : List ℕ) (n : ℕ) → length f ≡ 4 → u32_at f 0 ≡ n
     → resume expected stages.Outcome (f ++ more) ≡ judged expected n more
@@ -104,7 +104,7 @@ pub resume-short : (expected : Option (ℕ × ℕ)) (stage : Stage) (bytes : Lis
 unfolding resume handshake_at count_at types_at outcome_at failure_at reason_at size_at head_at name_at
 resume-short expected stages.Version bytes short = hear_short 12 bytes (λ f rest. versioned expected (bytes_eq f version) rest) short
 resume-short expected stages.Count bytes short = hear_short 1 bytes (λ f rest. counted expected (slice_index f 0) rest) short
-resume-short expected (stages.Types n) bytes short = hear_short n bytes (λ types rest. offered expected (offers_none types) rest) short
+resume-short expected (stages.Types n) bytes short = hear_short n bytes (λ types rest. offered expected (offers_security_none types) rest) short
 resume-short expected stages.Outcome bytes short = hear_short 4 bytes (λ f rest. judged expected (u32_at f 0) rest) short
 resume-short expected stages.ReasonLength bytes short = hear_short 4 bytes (λ f rest. reason_at (min (u32_at f 0) text_limit) rest) short
 resume-short expected (stages.Reason n) bytes short =

@@ -15,7 +15,7 @@ use Rattle.rfb_wire.specs.Stream.{given}
 use Rattle.host_session.specs.declared.fault.HostFault.{HostFault}
 use Rattle.host_session.specs.declared.fault.HostFault.TheVariants as faults
 use Rattle.host_session.specs.declared.stage.Position.{Position}
-use Rattle.host_session.specs.declared.progress.Progress.{Progress}
+use Rattle.host_session.specs.declared.progress.Exchange.{Exchange}
 use Rattle.host_session.specs.declared.stage.Stage.TheVariants as stages
 use Rattle.host_session.specs.declared.stage.Position.TheVariants as positions
 use Rattle.host_session.specs.Fault.{UnlessMemory}
@@ -23,7 +23,7 @@ use Rattle.host_session.specs.Handshake.{Told, Refusal, handshake_at}
 use Rattle.host_session.specs.Stage.{Leads, Ends, Fails, IsUnfinished, position_at, resume}
 use Rattle.host_session.specs.Take.{Says, told_at}
 use Rattle.host_session.specs.Session.{Session, requests_after, request_after, start, IsHandshake, Gets, Follows, IsListening, Stands, EndsInHandshake, EndsListening, EndsAfter, AreGiven, Fed, Stopped}
-use Rattle.host_session.specs.Progress.{Advances, Halts}
+use Rattle.host_session.specs.Exchange.{Advances, Halts}
 use Rattle.host_session.specs.TakeHandshake.{GoesOn, IsWhole, IsHandshakeRefused}
 use Rattle.host_session.specs.Listening.{Answers, Listens, StopsListening, ListensToSome}
 use Rattle.host_session.proofs.Goes.{resume-short, rest-short}
@@ -156,7 +156,7 @@ sent_more P sent due later s = record {
 }
 
 -- the handshake is whole
-pub listening_begins : (limit : ℕ) (expected : Option (ℕ × ℕ)) (old new : Progress) (n : ℕ) (stream piece : List ℕ) (messages : List Host) (sent due later : List ℕ)
+pub listening_begins : (limit : ℕ) (expected : Option (ℕ × ℕ)) (old new : Exchange) (n : ℕ) (stream piece : List ℕ) (messages : List Host) (sent due later : List ℕ)
     → (w : IsWhole expected old new n piece due later) → IsHandshake expected old.handshake.position old.handshake.kept.items stream messages (sent ++ due)
     → IsListening limit expected new.handshake.kept.items w.reader (stream ++ take n piece) messages (sent ++ later)
 listening_begins limit expected old new n stream piece messages sent due later w is =
@@ -211,7 +211,7 @@ leads_waits expected stream said position kept leads short =
     ∙ say_last said More
 
 -- a session in the handshake, which goes on
-handshake_goes : (expected : Option (ℕ × ℕ)) (old new : Progress) (stream piece : List ℕ) (messages : List Host) (sent due later : List ℕ)
+handshake_goes : (expected : Option (ℕ × ℕ)) (old new : Exchange) (stream piece : List ℕ) (messages : List Host) (sent due later : List ℕ)
     → GoesOn expected old new piece due later → IsHandshake expected old.handshake.position old.handshake.kept.items stream messages (sent ++ due)
     → IsHandshake expected new.handshake.position new.handshake.kept.items (stream ++ piece) messages (sent ++ later)
 handshake_goes expected old new stream piece messages sent due later g is =
@@ -230,7 +230,7 @@ handshake_goes expected old new stream piece messages sent due later g is =
       none = is.none;
     }
 
-pub handshake_fails : (expected : Option (ℕ × ℕ)) (old : Progress) (kept : List ℕ) (stream piece : List ℕ) (messages : List Host) (sent due later : List ℕ) (f : HostFault)
+pub handshake_fails : (expected : Option (ℕ × ℕ)) (old : Exchange) (kept : List ℕ) (stream piece : List ℕ) (messages : List Host) (sent due later : List ℕ) (f : HostFault)
     → Says (λ said. Fails expected old.handshake.position old.handshake.kept.items piece said f kept) due later
     → IsHandshake expected old.handshake.position old.handshake.kept.items stream messages (sent ++ due)
     → EndsInHandshake expected kept (stream ++ piece) messages (sent ++ later) f
@@ -257,7 +257,7 @@ stands_handshake limit expected position kept reader stream messages said is x =
     subst (λ (z : Option Reader). Stands limit expected position kept z stream messages said) is x
 
 -- a session that is stopped in the handshake
-pub handshake_stops : (limit : ℕ) (expected : Option (ℕ × ℕ)) (old new : Progress) (f : HostFault) (stream piece : List ℕ) (messages : List Host) (sent due later : List ℕ) (out : List Host)
+pub handshake_stops : (limit : ℕ) (expected : Option (ℕ × ℕ)) (old new : Exchange) (f : HostFault) (stream piece : List ℕ) (messages : List Host) (sent due later : List ℕ) (out : List Host)
     → IsHandshakeRefused expected old new piece due later f
     → IsHandshake expected old.handshake.position old.handshake.kept.items stream messages (sent ++ due)
     → Halts limit expected new.handshake.kept.items new.reader (stream ++ piece) messages (sent ++ later) f out out
@@ -280,7 +280,7 @@ whole_piece stream piece behind n is =
     append_assoc stream (take n piece) behind ∙ ap (λ z. stream ++ (take n piece ++ z)) is ∙ ap (λ z. stream ++ z) (take-append-drop n piece)
 
 -- the session that listens behind the handshake, by the reader that there is
-begun : (limit : ℕ) (expected : Option (ℕ × ℕ)) (old mid : Progress) (r : Reader) (n : ℕ) (stream piece : List ℕ) (messages : List Host) (sent due later : List ℕ)
+begun : (limit : ℕ) (expected : Option (ℕ × ℕ)) (old mid : Exchange) (r : Reader) (n : ℕ) (stream piece : List ℕ) (messages : List Host) (sent due later : List ℕ)
     → IsWhole expected old mid n piece due later → mid.reader ≡ Some r
     → IsHandshake expected old.handshake.position old.handshake.kept.items stream messages (sent ++ due)
     → IsListening limit expected mid.handshake.kept.items r (stream ++ take n piece) messages (sent ++ later)
@@ -291,7 +291,7 @@ begun limit expected old mid r n stream piece messages sent due later w is hands
     (listening_begins limit expected old mid n stream piece messages sent due later w handshake)
 
 -- the rest of the piece in which the handshake ends
-pub rest_goes : (limit : ℕ) (expected : Option (ℕ × ℕ)) (position : Position) (old mid : Progress) (r after : Reader) (n : ℕ) (stream piece behind : List ℕ) (messages : List Host) (sent : List ℕ) (out new : List Host) (due then later : List ℕ)
+pub rest_goes : (limit : ℕ) (expected : Option (ℕ × ℕ)) (position : Position) (old mid : Exchange) (r after : Reader) (n : ℕ) (stream piece behind : List ℕ) (messages : List Host) (sent : List ℕ) (out new : List Host) (due then later : List ℕ)
     → IsWhole expected old mid n piece due then → mid.reader ≡ Some r → behind ≡ drop n piece
     → (after.width ≡ r.width) × (after.height ≡ r.height)
     → Listens limit r after behind out new then later
@@ -302,7 +302,7 @@ rest_goes limit expected position old mid r after n stream piece behind messages
     (listening_goes limit expected position mid.handshake.kept.items r after (stream ++ take n piece) behind messages sent out new then later size goes
     (begun limit expected old mid r n stream piece messages sent due then w is handshake))
 
-pub rest_stops : (limit : ℕ) (expected : Option (ℕ × ℕ)) (old mid : Progress) (r after : Reader) (f : HostFault) (n : ℕ) (stream piece behind : List ℕ) (messages : List Host) (sent : List ℕ) (out new : List Host) (due then later : List ℕ)
+pub rest_stops : (limit : ℕ) (expected : Option (ℕ × ℕ)) (old mid : Exchange) (r after : Reader) (f : HostFault) (n : ℕ) (stream piece behind : List ℕ) (messages : List Host) (sent : List ℕ) (out new : List Host) (due then later : List ℕ)
     → IsWhole expected old mid n piece due then → mid.reader ≡ Some r → behind ≡ drop n piece
     → (after.width ≡ r.width) × (after.height ≡ r.height)
     → ListensToSome limit r behind out new
@@ -315,7 +315,7 @@ rest_stops limit expected old mid r after f n stream piece behind messages sent 
     (begun limit expected old mid r n stream piece messages sent due then w is handshake))
 
 -- the handshake goes on
-pub handshake_fed : (limit : ℕ) (expected : Option (ℕ × ℕ)) (old new : Progress) (stream piece : List ℕ) (messages : List Host) (sent due later : List ℕ) (out : List Host)
+pub handshake_fed : (limit : ℕ) (expected : Option (ℕ × ℕ)) (old new : Exchange) (stream piece : List ℕ) (messages : List Host) (sent due later : List ℕ) (out : List Host)
     → GoesOn expected old new piece due later → IsHandshake expected old.handshake.position old.handshake.kept.items stream messages (sent ++ due)
     → Advances limit expected new.handshake.position new.handshake.kept.items new.reader (stream ++ piece) messages (sent ++ later) out out
 handshake_fed limit expected old new stream piece messages sent due later out g is =

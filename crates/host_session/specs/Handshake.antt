@@ -43,9 +43,9 @@ is_expected None width height = true
 is_expected (Some size) width height = nat_eq size.0 width && nat_eq size.1 height
 
 -- type 1, None, is among the types
-abbrev pub offers_none : List ℕ → Bool
-offers_none [] = false
-offers_none (type ∷ types) = nat_eq type 1 || offers_none types
+abbrev pub offers_security_none : List ℕ → Bool
+offers_security_none [] = false
+offers_security_none (type ∷ types) = nat_eq type 1 || offers_security_none types
 
 -- the whole screen
 abbrev pub whole : ℕ → ℕ → Area
@@ -103,7 +103,7 @@ offered expected offers rest = if offers then say (1 ∷ []) (outcome_at expecte
 
 -- so many security types (section 7.1.2)
 unfoldable pub types_at : Option (ℕ × ℕ) → ℕ → List ℕ → Talk Told Refusal
-types_at expected n bytes = hear (field n bytes) (λ types rest. offered expected (offers_none types) rest)
+types_at expected n bytes = hear (field n bytes) (λ types rest. offered expected (offers_security_none types) rest)
 
 abbrev pub counted : Option (ℕ × ℕ) → ℕ → List ℕ → Talk Told Refusal
 counted expected n rest = if nat_eq n 0 then failure_at rest else types_at expected n rest

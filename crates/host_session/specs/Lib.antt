@@ -7,5 +7,5 @@ pub mod Take
 pub mod Session
 pub mod TakeHandshake
 pub mod Listening
-pub mod Progress
+pub mod Exchange
 pub mod Conversation

@@ -8,7 +8,7 @@ use Rattle.host_session.specs.declared.stage.Stage.TheVariants as stages
 use Rattle.host_session.specs.declared.stage.Position.{Position}
 use Rattle.host_session.specs.declared.stage.Position.TheVariants as positions
 use Rattle.host_session.specs.declared.stage.Answer.{Answer}
-use Rattle.host_session.specs.declared.stage.Step.{Step}
+use Rattle.host_session.specs.declared.stage.AfterField.{AfterField}
 use Rattle.host_session.specs.declared.stage.Answer.TheVariants as answers
 use Rattle.pixel_format.specs.Talk.{Talk, silent, say}
 use Rattle.host_session.specs.Handshake.{Told, Refusal, text_limit, version, handshake_at, count_at, types_at, outcome_at, failure_at, reason_at, size_at, head_at, name_at, rest_of_name}
@@ -88,7 +88,7 @@ abbrev pub failed : HostFault → List ℕ → Talk Told Refusal
 failed f field = silent (Bad (record { fault = f; reason = reason_of f field }))
 
 -- this follows from the whole field of a stage, whatever comes
-abbrev pub IsStep : Option (ℕ × ℕ) → Stage → List ℕ → Step → Type 0
+abbrev pub IsStep : Option (ℕ × ℕ) → Stage → List ℕ → AfterField → Type 0
 IsStep expected stage field step = (more : List ℕ)
     → resume expected stage (field ++ more) ≡ say (answer_bytes step.answer) (position_at expected step.position (kept_behind step.position field) more)
 

@@ -2,9 +2,9 @@
 use Rattle.std.specs.Prelude.{◌≡◌, ℕ, ◌<◌, ◌≤◌, List, ◌++◌, length, take, Option, Some, None}
 use Rattle.host_session.specs.declared.fault.HostFault.{HostFault}
 use Rattle.host_session.specs.declared.handshake.Handshake.{Handshake}
-use Rattle.host_session.specs.declared.handshake.Turn.{Turn}
+use Rattle.host_session.specs.declared.handshake.Taking.{Taking}
 use Rattle.host_session.specs.declared.handshake.Whole.{Whole as TakenWhole}
-use Rattle.host_session.specs.declared.handshake.Turn.TheVariants as turns
+use Rattle.host_session.specs.declared.handshake.Taking.TheVariants as turns
 use Rattle.host_session.specs.Fault.{UnlessMemory}
 use Rattle.host_session.specs.Handshake.{Told, first_requests}
 use Rattle.host_session.specs.Stage.{rank_at, IsWithin, IsUnfinished, Leads, Ends, Fails}
@@ -34,10 +34,10 @@ pub record Whole (expected : Option (ℕ × ℕ)) (old new : Handshake) (n width
   pub some : n ≤ length piece
   pub ends : Says (λ said. Ends expected old.position old.kept.items (take n piece) (said ++ first_requests width height) (told_at width height new.kept.items)) before after
 
-abbrev pub IsTurn : Option (ℕ × ℕ) → Handshake → Handshake → List ℕ → List ℕ → List ℕ → Turn → Type 0
-IsTurn expected old new piece before after turns.Waits = Waits expected old new piece before after
-IsTurn expected old new piece before after (turns.Goes n) = Goes expected old new n piece before after
-IsTurn expected old new piece before after (turns.Whole n width height) = Whole expected old new n width height piece before after
+abbrev pub IsTaking : Option (ℕ × ℕ) → Handshake → Handshake → List ℕ → List ℕ → List ℕ → Taking → Type 0
+IsTaking expected old new piece before after turns.Waits = Waits expected old new piece before after
+IsTaking expected old new piece before after (turns.Goes n) = Goes expected old new n piece before after
+IsTaking expected old new piece before after (turns.Whole n width height) = Whole expected old new n width height piece before after
 
 abbrev pub IsTaken : Option (ℕ × ℕ) → Handshake → Handshake → List ℕ → List ℕ → List ℕ → Option TakenWhole → Type 0
 IsTaken expected old new piece before after None = Waits expected old new piece before after

@@ -2,7 +2,7 @@
 
 ghost use Rattle.std.specs.Prelude.{◌≡◌, ℕ, ◌≤◌, List, [], length, IfOk, IfErr, Option};
 ghost use Rattle.host_session.specs.Stage.{wants_of, IsWithin};
-ghost use Rattle.host_session.specs.Take.{IsTurn, IsTaken, IsRefused};
+ghost use Rattle.host_session.specs.Take.{IsTaking, IsTaken, IsRefused};
 
 use crate::fault::HostFault;
 use crate::stage::{Position, Stage, behind};
@@ -17,7 +17,7 @@ pub struct Handshake {
 
 /// What came of some bytes of a piece.
 #[derive(Clone, Copy)]
-pub enum Turn {
+pub enum Taking {
     /// The piece is used up.
     Waits,
     /// So many bytes are taken.
@@ -51,16 +51,16 @@ impl Handshake {
     }
 
     // Takes bytes of a piece up to the end of a field.
-    fn turn_in_field(
+    fn take_in_field(
         &mut self,
         expected: Option<(u16, u16)>,
         stage: Stage,
         piece: &[u8],
         due: &mut Vec<u8>,
-    ) -> Result<Turn, HostFault>
+    ) -> Result<Taking, HostFault>
         requires position { self.old.position ≡ Position.Field stage }
         requires within { length self.old.kept.items ≤ wants_of stage }
-        ensures turn { IfOk result (λ t. IsTurn expected self.old self.new piece.now
+        ensures taking { IfOk result (λ t. IsTaking expected self.old self.new piece.now
             due.old.items due.new.items t) }
         ensures faults { IfErr result (λ f. IsRefused expected self.old self.new piece.now
             due.old.items due.new.items f) }
@@ -68,7 +68,7 @@ impl Handshake {
         let taken = piece.len().min(stage.wants() - self.kept.len());
         self.kept.extend_from_slice(&piece[..taken])?;
         if self.kept.len() < stage.wants() {
-            return Ok(Turn::Waits);
+            return Ok(Taking::Waits);
         }
         let step = behind(expected, stage, &self.kept)?;
         step.answer.write(due)?;
@@ -76,14 +76,14 @@ impl Handshake {
             self.kept.clear();
         }
         self.position = step.position;
-        Ok(Turn::Goes(taken))
+        Ok(Taking::Goes(taken))
     }
 
     // Takes bytes of a piece up to the name's end.
-    fn turn_in_rest(&mut self, width: u16, height: u16, left: u32, piece: &[u8]) -> Turn
+    fn take_in_rest(&mut self, width: u16, height: u16, left: u32, piece: &[u8]) -> Taking
         requires position { self.old.position ≡ Position.Rest width height left }
-        ensures turn { (expected : Option (ℕ × ℕ)) → (due : List ℕ)
-            → IsTurn expected self.old self.new piece.now due due result }
+        ensures taking { (expected : Option (ℕ × ℕ)) → (due : List ℕ)
+            → IsTaking expected self.old self.new piece.now due due result }
     {
         if piece.len() < left as usize {
             self.position = Position::Rest {
@@ -91,9 +91,9 @@ impl Handshake {
                 height,
                 left: left - piece.len() as u32,
             };
-            return Turn::Waits;
+            return Taking::Waits;
         }
-        Turn::Whole {
+        Taking::Whole {
             taken: left as usize,
             width,
             height,
@@ -101,25 +101,25 @@ impl Handshake {
     }
 
     // Takes bytes of a piece up to the end of what comes next.
-    fn turn(
+    fn take_some(
         &mut self,
         expected: Option<(u16, u16)>,
         piece: &[u8],
         due: &mut Vec<u8>,
-    ) -> Result<Turn, HostFault>
+    ) -> Result<Taking, HostFault>
         requires { IsWithin self.old.position self.old.kept.items }
-        ensures turn { IfOk result (λ t. IsTurn expected self.old self.new piece.now
+        ensures taking { IfOk result (λ t. IsTaking expected self.old self.new piece.now
             due.old.items due.new.items t) }
         ensures faults { IfErr result (λ f. IsRefused expected self.old self.new piece.now
             due.old.items due.new.items f) }
     {
         match self.position {
-            Position::Field(stage) => self.turn_in_field(expected, stage, piece, due),
+            Position::Field(stage) => self.take_in_field(expected, stage, piece, due),
             Position::Rest {
                 width,
                 height,
                 left,
-            } => Ok(self.turn_in_rest(width, height, left, piece)),
+            } => Ok(self.take_in_rest(width, height, left, piece)),
         }
     }
 
@@ -138,10 +138,10 @@ impl Handshake {
     {
         let mut rest = piece;
         'turns: loop {
-            match self.turn(expected, rest, due)? {
-                Turn::Waits => return Ok(None),
-                Turn::Goes(taken) => rest = &rest[taken..],
-                Turn::Whole {
+            match self.take_some(expected, rest, due)? {
+                Taking::Waits => return Ok(None),
+                Taking::Goes(taken) => rest = &rest[taken..],
+                Taking::Whole {
                     taken,
                     width,
                     height,

@@ -13,22 +13,22 @@ use std::alloc::Global;
 
 /// Where a session stands in the stream: in the handshake, or behind it.
 #[derive(Drop)]
-pub struct Progress {
+pub struct Exchange {
     pub handshake: Handshake,
     pub reader: Option<ServerReader>,
 }
 
-impl Progress {
-    ghost use Rattle.host_session.specs.Progress.{IsGoingAt, StandsAt, AdvancesTo, HaltsAt};
+impl Exchange {
+    ghost use Rattle.host_session.specs.Exchange.{IsGoingAt, StandsAt, AdvancesTo, HaltsAt};
     ghost use Rattle.host_session.specs.TakeHandshake.{IsHandshakeTaken, IsHandshakeRefused};
 
     /// The start of a stream.
-    pub fn new(alloc: Global) -> Progress
+    pub fn new(alloc: Global) -> Exchange
         ensures going { IsGoingAt result }
         ensures stands { (expected : Option (ℕ × ℕ))
             → StandsAt message_limit expected result [] [] [] }
     {
-        Progress {
+        Exchange {
             handshake: Handshake::new(alloc),
             reader: None,
         }

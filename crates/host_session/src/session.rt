@@ -8,7 +8,7 @@ ghost use Rattle.host_session.specs.Fault.{UnlessMemory};
 ghost use Rattle.host_session.specs.Session.{IsAfter, Fed, Stopped, told_by, size_of, name_of, reason_in};
 
 use crate::fault::HostFault;
-use crate::progress::Progress;
+use crate::progress::Exchange;
 use client_wire::WireFault;
 use pixel_format::NoMemory;
 use rfb_wire::HostMessage;
@@ -38,7 +38,7 @@ fn make_due(heard: Result<(), HostFault>, said: &[u8], due: &mut Vec<u8>) -> Res
 pub struct HostSession {
     alloc: Global,
     expected: Option<(u16, u16)>,
-    progress: Progress,
+    progress: Exchange,
     due: Vec<u8>,
     fault: Option<HostFault>,
 }
@@ -73,7 +73,7 @@ impl HostSession {
         HostSession {
             alloc,
             expected,
-            progress: Progress::new(alloc),
+            progress: Exchange::new(alloc),
             due: Vec::new(alloc),
             fault: None,
         }

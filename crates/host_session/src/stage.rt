@@ -1,7 +1,7 @@
 //! The fields of a host's handshake.
 
 ghost use Rattle.std.specs.Prelude.{◌≡◌, ℕ, ◌<◌, ◌++◌, min, length, IfOk, IfErr, OnOk, OnErr, Option};
-ghost use Rattle.host_session.specs.Handshake.{is_allowed, is_expected, offers_none, text_limit};
+ghost use Rattle.host_session.specs.Handshake.{is_allowed, is_expected, offers_security_none, text_limit};
 ghost use Rattle.host_session.specs.Stage.{wants_of, rank_of, answer_bytes, IsStep, IsFault, IsFurther};
 
 use crate::fault::HostFault;
@@ -52,7 +52,7 @@ pub enum Position {
 
 /// What follows from a whole field.
 #[derive(Clone, Copy)]
-pub struct Step {
+pub struct AfterField {
     pub answer: Answer,
     pub position: Position,
 }
@@ -106,7 +106,7 @@ fn expects(expected: Option<(u16, u16)>, width: u16, height: u16) -> bool
 
 // Whether None is among the security types.
 fn offers(types: &[u8]) -> bool
-    ensures { result ≡ offers_none types.now }
+    ensures { result ≡ offers_security_none types.now }
 {
     for kind in types {
         if *kind == 1 {
@@ -117,24 +117,24 @@ fn offers(types: &[u8]) -> bool
 }
 
 // The field of this stage comes next, and nothing is answered.
-fn next(stage: Stage) -> Step
+fn next(stage: Stage) -> AfterField
     ensures { result ≡ record { answer = Answer.Nothing; position = Position.Field stage } }
 {
     answered(Answer::Nothing, stage)
 }
 
 // The field of this stage comes next, behind an answer.
-fn answered(answer: Answer, stage: Stage) -> Step
+fn answered(answer: Answer, stage: Stage) -> AfterField
     ensures { result ≡ record { answer = answer; position = Position.Field stage } }
 {
-    Step {
+    AfterField {
         answer,
         position: Position::Field(stage),
     }
 }
 
 // Another version than 003.008 is refused (RFC 6143, section 7.1.1).
-fn behind_version(field: &[u8]) -> Result<Step, HostFault>
+fn behind_version(field: &[u8]) -> Result<AfterField, HostFault>
     requires { length field.now ≡ 12 }
     ensures goes { IfOk result (λ s. (expected : Option (ℕ × ℕ))
         → IsStep expected Stage.Version field.now s) }
@@ -149,7 +149,7 @@ fn behind_version(field: &[u8]) -> Result<Step, HostFault>
 }
 
 // No security types are followed by a reason (RFC 6143, section 7.1.2).
-fn behind_count(field: &[u8]) -> Step
+fn behind_count(field: &[u8]) -> AfterField
     requires { length field.now ≡ 1 }
     ensures goes { (expected : Option (ℕ × ℕ)) → IsStep expected Stage.Count field.now result }
     ensures falls { IsFurther 8 result.position }
@@ -161,7 +161,7 @@ fn behind_count(field: &[u8]) -> Step
 }
 
 // Of the types None is chosen, and the others aren't looked at.
-fn behind_types(count: u8, field: &[u8]) -> Result<Step, HostFault>
+fn behind_types(count: u8, field: &[u8]) -> Result<AfterField, HostFault>
     requires { length field.now ≡ count }
     ensures goes { IfOk result (λ s. (expected : Option (ℕ × ℕ))
         → IsStep expected (Stage.Types count) field.now s) }
@@ -176,7 +176,7 @@ fn behind_types(count: u8, field: &[u8]) -> Result<Step, HostFault>
 }
 
 // A failure is followed by a reason (RFC 6143, section 7.1.3), and else ClientInit answers.
-fn behind_outcome(field: &[u8]) -> Step
+fn behind_outcome(field: &[u8]) -> AfterField
     requires { length field.now ≡ 4 }
     ensures goes { (expected : Option (ℕ × ℕ))
         → IsStep expected Stage.Outcome field.now result }
@@ -190,7 +190,7 @@ fn behind_outcome(field: &[u8]) -> Step
 }
 
 // The limits are judged first, and then the size that is expected.
-fn behind_size(expected: Option<(u16, u16)>, field: &[u8]) -> Result<Step, HostFault>
+fn behind_size(expected: Option<(u16, u16)>, field: &[u8]) -> Result<AfterField, HostFault>
     requires { length field.now ≡ 4 }
     ensures goes { IfOk result (λ s. IsStep expected Stage.Size field.now s) }
     ensures falls { IfOk result (λ s. IsFurther 5 s.position) }
@@ -208,18 +208,18 @@ fn behind_size(expected: Option<(u16, u16)>, field: &[u8]) -> Result<Step, HostF
 }
 
 // The reason's length, of which no more is known to be sent.
-fn behind_length(field: &[u8]) -> Step
+fn behind_length(field: &[u8]) -> AfterField
     requires { length field.now ≡ 4 }
-    ensures falls { IsFurther 2 result.position }
     ensures goes { (expected : Option (ℕ × ℕ))
         → IsStep expected Stage.ReasonLength field.now result }
+    ensures falls { IsFurther 2 result.position }
 {
     let count = u32::from_be_bytes([field[0], field[1], field[2], field[3]]);
     next(Stage::Reason { count })
 }
 
 // The host's own format is read over (RFC 6143, section 7.3.2).
-fn behind_head(width: u16, height: u16, field: &[u8]) -> Step
+fn behind_head(width: u16, height: u16, field: &[u8]) -> AfterField
     requires { length field.now ≡ 20 }
     ensures goes { (expected : Option (ℕ × ℕ))
         → IsStep expected (Stage.Head width height) field.now result }
@@ -234,13 +234,13 @@ fn behind_head(width: u16, height: u16, field: &[u8]) -> Step
 }
 
 // What is beyond the name's first bytes is read over.
-fn behind_name(width: u16, height: u16, count: u32, field: &[u8]) -> Step
+fn behind_name(width: u16, height: u16, count: u32, field: &[u8]) -> AfterField
     requires { length field.now ≡ min count text_limit }
     ensures goes { (expected : Option (ℕ × ℕ))
         → IsStep expected (Stage.Name width height count) field.now result }
     ensures falls { IsFurther 3 result.position }
 {
-    Step {
+    AfterField {
         answer: Answer::Nothing,
         position: Position::Rest {
             width,
@@ -251,7 +251,11 @@ fn behind_name(width: u16, height: u16, count: u32, field: &[u8]) -> Step
 }
 
 /// What follows from the whole field of a stage.
-pub fn behind(expected: Option<(u16, u16)>, stage: Stage, field: &[u8]) -> Result<Step, HostFault>
+pub fn behind(
+    expected: Option<(u16, u16)>,
+    stage: Stage,
+    field: &[u8],
+) -> Result<AfterField, HostFault>
     requires { length field.now ≡ wants_of stage }
     ensures goes { IfOk result (λ s. IsStep expected stage field.now s) }
     ensures falls { IfOk result (λ s. IsFurther (rank_of stage) s.position) }

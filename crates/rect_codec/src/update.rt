@@ -19,19 +19,19 @@ const HEAD_SIZE: usize = 16;
 // stays as it was.
 fn append_data(
     alloc: Global,
-    encoding: Encoding,
-    limit: usize,
     format: &PixelFormat,
     area: Area,
     colors: &[Color],
+    encoding: Encoding,
+    limit: usize,
     out: &mut Vec<u8>,
 ) -> Result<bool, NoMemory>
     requires size { length colors.now ≡ area.h * area.w }
     requires within { All (IsWithin format.now) colors.now }
     ensures ok { IfOk result (λ whole. whole ≡ true
         → Appends (Shows encoding format.now area.w area.h colors.now) out.old.items out.new.items) }
-    ensures unchanged { IfOk result (λ whole. whole ≡ false → out.new.items ≡ out.old.items) }
     ensures raw { IfOk result (λ whole. encoding ≡ Encoding.Raw → whole ≡ true) }
+    ensures unchanged { IfOk result (λ whole. whole ≡ false → out.new.items ≡ out.old.items) }
     ensures err { OnErr result (out.new.items ≡ out.old.items) }
 {
     match encoding {
@@ -57,17 +57,17 @@ fn append_update(
     limit: usize,
     out: &mut Vec<u8>,
 ) -> Result<bool, NoMemory>
-    requires within { All (IsWithin format.now) colors.now }
     requires size { length colors.now ≡ area.h * area.w }
-    ensures unchanged { IfOk result (λ whole. whole ≡ false → out.new.items ≡ out.old.items) }
+    requires within { All (IsWithin format.now) colors.now }
     ensures ok { IfOk result (λ whole. whole ≡ true
         → Appends (IsUpdate format.now area colors.now encoding) out.old.items out.new.items) }
     ensures raw { IfOk result (λ whole. encoding ≡ Encoding.Raw → whole ≡ true) }
+    ensures unchanged { IfOk result (λ whole. whole ≡ false → out.new.items ≡ out.old.items) }
     ensures err { OnErr result (out.new.items ≡ out.old.items) }
 {
     let start = out.len();
     write_update_head(area, encoding.number(), out)?;
-    let written = append_data(alloc, encoding, limit, format, area, colors, out);
+    let written = append_data(alloc, format, area, colors, encoding, limit, out);
     if let Ok(true) = written {
         return Ok(true);
     }

@@ -6,11 +6,11 @@ use Rattle.pixel_format.specs.Reading.{Got, More, ◌>>=◌, field}
 use Rattle.pixel_format.proofs.Readings.{bind_got, skip_more, skip_whole, skip_waits, true_or_false}
 use Rattle.pixel_format.specs.Number.{u16_at}
 use Rattle.rfb_wire.specs.declared.progress.Over.{Over}
-use Rattle.rfb_wire.specs.declared.progress.Progress.{Progress}
+use Rattle.rfb_wire.specs.declared.progress.PartialMessage.{PartialMessage}
 use Rattle.rfb_wire.specs.Grammar.{Recorded, ReadOver, message_at, update_at, rectangles_at, read_over}
 use Rattle.rfb_wire.specs.Host.{Host}
 use Rattle.rfb_wire.specs.Reader.{head_limit}
-use Rattle.rfb_wire.specs.Progress.{IsAt, IsInField, IsOver, passed_in, unlimited_at}
+use Rattle.rfb_wire.specs.PartialMessage.{IsAt, IsInField, IsOver, passed_in, unlimited_at}
 use Rattle.client_wire.specs.Stream.{StandsFor, Moves}
 use Rattle.rfb_wire.specs.Stream.{given}
 use Rattle.client_wire.proofs.Streams.{empty_list, stands_kept, stands_whole, gives_none, gives_one, over_more}
@@ -98,7 +98,7 @@ pass_ends limit width height bytes kept o passed old rest taken over s is none n
       stands = rw (none, no_passed) (stands_whole []);
     }
 
-waits_by : (limit width height : ℕ) (p : Progress) (o : Option Over) → MatchOption o (IsInField limit width height p) (λ v. IsOver limit width height p.bytes.items v)
+waits_by : (limit width height : ℕ) (p : PartialMessage) (o : Option Over) → MatchOption o (IsInField limit width height p) (λ v. IsOver limit width height p.bytes.items v)
     → (rest : List ℕ) → StandsFor p.bytes.items (passed_in o) rest → message_at limit width height rest ≡ More
 waits_by limit width height p None at rest s =
     ap (message_at limit width height) (stands_kept p.bytes.items 0 rest refl s) ∙ field_waits limit width height p at
@@ -107,7 +107,7 @@ waits_by limit width height p (Some o) at rest s =
     ∙ at.link s.skipped [] s.count ∙ read_over_waits o.left at.some
 
 -- what a reader stands for waits
-pub at_waits : (limit width height : ℕ) (p : Progress) → IsAt limit width height p → (rest : List ℕ) → StandsFor p.bytes.items (passed_in p.over) rest
+pub at_waits : (limit width height : ℕ) (p : PartialMessage) → IsAt limit width height p → (rest : List ℕ) → StandsFor p.bytes.items (passed_in p.over) rest
     → message_at limit width height rest ≡ More
 at_waits limit width height p at rest s = waits_by limit width height p p.over at rest s
 
@@ -130,6 +130,6 @@ kept_stands limit width height kept passed old stream is none = record {
 }
 
 -- a reader that reads nothing over stands at a field
-pub in_field : (limit width height : ℕ) (p : Progress) → p.over ≡ None → IsAt limit width height p → IsInField limit width height p
+pub in_field : (limit width height : ℕ) (p : PartialMessage) → p.over ≡ None → IsAt limit width height p → IsInField limit width height p
 in_field limit width height p none at =
     subst (λ (o : Option Over). MatchOption o (IsInField limit width height p) (λ v. IsOver limit width height p.bytes.items v)) none at

@@ -17,7 +17,7 @@ use Rattle.client_wire.specs.declared.fault.WireFault.TheVariants as faults
 use Rattle.rfb_wire.specs.declared.progress.Stage.TheVariants as stages
 use Rattle.client_wire.specs.Number.{signed}
 use Rattle.rfb_wire.specs.Grammar.{area_of, encoding_number, content_at, encoded_at, rectangle_at, rectangles_at, update_at, Message, Recorded, ReadOver, other_at, color_map_at, text_at, text_data_at, read_over, text_limit}
-use Rattle.rfb_wire.specs.Progress.{unlimited_at, behind, others_at, ended, behind_data, resume}
+use Rattle.rfb_wire.specs.PartialMessage.{unlimited_at, behind, others_at, ended, behind_data, resume}
 
 pub behind_nil : (r : Reading Message WireFault) → behind [] r ≡ r
 behind_nil (Got (Recorded rs) rest) = refl

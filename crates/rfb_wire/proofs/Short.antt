@@ -7,12 +7,12 @@ use Rattle.client_wire.specs.declared.fault.WireFault.{WireFault}
 use Rattle.client_wire.specs.declared.fault.WireFault.TheVariants as faults
 use Rattle.rfb_wire.specs.declared.message.Rectangle.{Rectangle}
 use Rattle.rfb_wire.specs.declared.progress.Over.{Over}
-use Rattle.rfb_wire.specs.declared.progress.Progress.{Progress}
+use Rattle.rfb_wire.specs.declared.progress.PartialMessage.{PartialMessage}
 use Rattle.rfb_wire.specs.declared.progress.Stage.{Stage}
 use Rattle.rfb_wire.specs.declared.progress.Stage.TheVariants as stages
 use Rattle.rfb_wire.specs.Grammar.{Recorded, ReadOver, message_at, message_limit, update_at, text_data_at}
 use Rattle.rfb_wire.specs.Host.{is_update}
-use Rattle.rfb_wire.specs.Progress.{IsAt, IsInField, IsOver, IsOfUpdate, Linked, put, behind, resume, start_of, wants_of, unlimited_at}
+use Rattle.rfb_wire.specs.PartialMessage.{IsAt, IsInField, IsOver, IsOfUpdate, Linked, put, behind, resume, start_of, wants_of, unlimited_at}
 use Rattle.rfb_wire.specs.Reader.{head_limit, IsShort}
 use Rattle.rfb_wire.proofs.Over.{update_never}
 use Rattle.rfb_wire.proofs.Turns.{message-first, unlimited-first}
@@ -80,7 +80,7 @@ other_short limit width height bytes done (stages.TextData n) l few other = omeg
 other_short limit width height bytes done (stages.RectangleHead at others) l few other = absurd (of_update_not bytes l.kind other)
 other_short limit width height bytes done (stages.Data at begun next others) l few other = absurd (of_update_not bytes l.kind other)
 
-short_by : (width height : ℕ) (p : Progress) (o : Option Over)
+short_by : (width height : ℕ) (p : PartialMessage) (o : Option Over)
     → MatchOption o (IsInField message_limit width height p) (λ v. IsOver message_limit width height p.bytes.items v) → IsShort message_limit width height p.bytes.items
 short_by width height p None at = record {
   limited = at.linked.short;
@@ -94,5 +94,5 @@ short_by width height p (Some o) at = record {
 }
 
 -- wherever a reader stands
-pub at_short : (width height : ℕ) (p : Progress) → IsAt message_limit width height p → IsShort message_limit width height p.bytes.items
+pub at_short : (width height : ℕ) (p : PartialMessage) → IsAt message_limit width height p → IsShort message_limit width height p.bytes.items
 at_short width height p at = short_by width height p p.over at

@@ -13,11 +13,11 @@ use Rattle.client_wire.specs.declared.fault.WireFault.TheVariants as faults
 use Rattle.rfb_wire.specs.declared.progress.Stage.{Stage}
 use Rattle.rfb_wire.specs.declared.progress.Stage.TheVariants as stages
 use Rattle.rfb_wire.specs.Grammar.{update_at, message_at, other_at, color_map_at, text_at, text_data_at, read_over, Message, Recorded, rectangle_at, rectangles_at}
-use Rattle.rfb_wire.specs.Progress.{wants_of, start_of, unlimited_at, behind, others_at, resume, go_on, step_on, Linked, Follows, NextBegins, NextIsOfKind, IsInField, IsOfKind, IsOfUpdate}
-use Rattle.rfb_wire.specs.declared.progress.Progress.{Progress}
+use Rattle.rfb_wire.specs.PartialMessage.{wants_of, start_of, unlimited_at, behind, others_at, resume, go_on, step_on, Linked, Follows, NextBegins, NextIsOfKind, IsInField, IsOfKind, IsOfUpdate}
+use Rattle.rfb_wire.specs.declared.progress.PartialMessage.{PartialMessage}
 use Rattle.rfb_wire.specs.declared.progress.Next.{Next}
 use Rattle.rfb_wire.specs.declared.progress.Next.TheVariants as nexts
-use Rattle.rfb_wire.specs.declared.progress.Step.{Step}
+use Rattle.rfb_wire.specs.declared.progress.AfterField.{AfterField}
 use Rattle.client_wire.specs.Fault.{UnlessMemory}
 use Rattle.std.specs.Option.{option_to_list}
 use Rattle.client_wire.proofs.Fronts.{unless_memory_map}
@@ -109,7 +109,7 @@ linked_start limit width height bytes rectangles none no_rectangles = rw (none, 
 })
 
 -- behind whole fields
-pub follows_goes : (limit width height : ℕ) (bytes : List ℕ) (rectangles done : List Rectangle) (step : Step)
+pub follows_goes : (limit width height : ℕ) (bytes : List ℕ) (rectangles done : List Rectangle) (step : AfterField)
     → Follows limit width height bytes rectangles step
     → done ≡ rectangles ++ option_to_list step.rectangle
     → (more : List ℕ) → unlimited_at width height (bytes ++ more) ≡ behind done (go_on width height step.next more)
@@ -119,7 +119,7 @@ follows_goes limit width height bytes rectangles done step l is more =
     ∙ ap (λ d. behind d (go_on width height step.next more)) (sym is)
 
 -- fields that begin where what was kept ends
-pub run_follows : (limit width height n : ℕ) (kept piece longer : List ℕ) (rectangles : List Rectangle) (stage : Stage) (step : Step)
+pub run_follows : (limit width height n : ℕ) (kept piece longer : List ℕ) (rectangles : List Rectangle) (stage : Stage) (step : AfterField)
     → Linked limit width height kept rectangles stage → start_of stage ≡ length kept → longer ≡ kept ++ take n piece → length longer ≤ limit
     → ((more : List ℕ) → resume width height stage (take n piece ++ more) ≡ step_on width height step more)
     → NextBegins (length longer) step.next → NextIsOfKind step.next longer
@@ -226,7 +226,7 @@ whole_recorded limit width height bytes whole rectangles is short e =
     ap (message_at limit width height) is ∙ message-short limit width height whole short ∙ e
 
 -- where a field isn't whole, the message waits
-pub field_waits : (limit width height : ℕ) (p : Progress) → IsInField limit width height p → message_at limit width height p.bytes.items ≡ More
+pub field_waits : (limit width height : ℕ) (p : PartialMessage) → IsInField limit width height p → message_at limit width height p.bytes.items ≡ More
 field_waits limit width height p at =
     message-short limit width height p.bytes.items at.linked.short
     ∙ linked_waits limit width height p.bytes.items p.rectangles.items p.stage at.linked at.unfinished

@@ -4,7 +4,7 @@ pub mod Grammar
 pub mod Message
 pub mod Host
 pub mod Stream
-pub mod Progress
+pub mod PartialMessage
 pub mod Reader
 pub mod Written
 pub mod Plain

@@ -70,7 +70,7 @@ pub enum Next {
 
 /// What follows from a whole field: the rectangle that it ends, and what comes next.
 #[derive(Clone, Copy)]
-pub struct Step {
+pub struct AfterField {
     pub rectangle: Option<Rectangle>,
     pub next: Next,
 }
@@ -96,7 +96,7 @@ pub struct Over {
 /// An unfinished message: its bytes so far, those of its rectangles that are whole, the field that
 /// comes next, and where in the message that ends. Of one that is read over, its head is kept.
 #[derive(Drop)]
-pub struct Progress {
+pub struct PartialMessage {
     pub bytes: Vec<u8>,
     pub rectangles: Vec<Rectangle>,
     pub stage: Stage,
@@ -105,7 +105,7 @@ pub struct Progress {
 }
 
 impl Stage {
-    ghost use Rattle.rfb_wire.specs.Progress.{wants_of, start_of};
+    ghost use Rattle.rfb_wire.specs.PartialMessage.{wants_of, start_of};
 
     /// How many bytes the field has.
     pub fn wants(self) -> usize
@@ -137,17 +137,17 @@ impl Stage {
     }
 }
 
-impl Progress {
-    ghost use Rattle.rfb_wire.specs.Progress.{unlimited_at, Follows, IsAt, IsInField, IsOver, After, passed_in};
+impl PartialMessage {
+    ghost use Rattle.rfb_wire.specs.PartialMessage.{unlimited_at, Follows, IsAt, IsInField, IsOver, After, passed_in};
     ghost use Rattle.rfb_wire.specs.Grammar.{read_over};
 
     /// A reader at the start of a message.
-    pub fn new(alloc: Global) -> Progress
+    pub fn new(alloc: Global) -> PartialMessage
         ensures at { (width height : ℕ) → IsAt message_limit width height result }
         ensures none { result.bytes.items ≡ [] }
         ensures over { result.over ≡ None }
     {
-        Progress {
+        PartialMessage {
             bytes: Vec::new(alloc),
             rectangles: Vec::new(alloc),
             stage: Stage::Type,
@@ -157,11 +157,11 @@ impl Progress {
     }
 
     // Goes on behind whole fields.
-    fn advance(&mut self, width: u16, height: u16, whole: Step) -> Result<Ending, WireFault>
+    fn advance(&mut self, width: u16, height: u16, whole: AfterField) -> Result<Ending, WireFault>
         requires { Follows message_limit width height self.old.bytes.items self.old.rectangles.items whole }
+        ensures goes { IfOk result (λ e. After message_limit width height self.old.bytes.items self.new e) }
         ensures bytes { self.new.bytes ≡ self.old.bytes }
         ensures over { self.new.over ≡ self.old.over }
-        ensures goes { IfOk result (λ e. After message_limit width height self.old.bytes.items self.new e) }
         ensures only { IfErr result (λ f. f ≡ WireFault.NoMemory) }
     {
         append(&mut self.rectangles, whole.rectangle)?;
@@ -186,12 +186,12 @@ impl Progress {
     ) -> Result<(usize, Ending), WireFault>
         requires field { IsInField message_limit width height self.old }
         requires some { 0 < length piece.now }
-        ensures goes { IfOk result (λ x. After message_limit width height self.new.bytes.items self.new x.1) }
-        ensures faults { IfErr result (λ f. UnlessMemory f (message_at message_limit width height (self.old.bytes.items ++ piece.now) ≡ Bad f)) }
         ensures taken { IfOk result (λ x. (0 < x.0) × (x.0 ≤ length piece.now)) }
+        ensures goes { IfOk result (λ x. After message_limit width height self.new.bytes.items self.new x.1) }
         ensures bytes { IfOk result (λ x. self.new.bytes.items ≡ self.old.bytes.items ++ take x.0 piece.now) }
         ensures over { OnOk result (self.new.over ≡ self.old.over) }
         ensures short { OnOk result (length self.new.bytes.items ≤ message_limit) }
+        ensures faults { IfErr result (λ f. UnlessMemory f (message_at message_limit width height (self.old.bytes.items ++ piece.now) ≡ Bad f)) }
     {
         let taken = take(&mut self.bytes, self.end, piece)?;
         if self.bytes.len() < self.end {
@@ -208,13 +208,13 @@ impl Progress {
     // that a piece in which no field ends makes no room for what follows from one.
     #[inline(never)]
     fn judge(&mut self, width: u16, height: u16, piece: &[u8]) -> Result<(usize, Ending), WireFault>
-        requires field { IsInField message_limit width height self.old }
         requires some { 0 < length piece.now }
+        requires field { IsInField message_limit width height self.old }
         ensures taken { IfOk result (λ x. (0 < x.0) × (x.0 ≤ length piece.now)) }
+        ensures goes { IfOk result (λ x. After message_limit width height self.new.bytes.items self.new x.1) }
         ensures bytes { IfOk result (λ x. self.new.bytes.items ≡ self.old.bytes.items ++ take x.0 piece.now) }
         ensures over { OnOk result (self.new.over ≡ self.old.over) }
         ensures short { OnOk result (length self.new.bytes.items ≤ message_limit) }
-        ensures goes { IfOk result (λ x. After message_limit width height self.new.bytes.items self.new x.1) }
         ensures faults { IfErr result (λ f. UnlessMemory f (message_at message_limit width height (self.old.bytes.items ++ piece.now) ≡ Bad f)) }
     {
         if let Stage::Data {
@@ -246,7 +246,7 @@ impl Progress {
         ensures moves { (old : List Host) → Moves (message_at message_limit width height) (given width height) self.new.bytes.items (passed_in self.new.over) old old self.old.bytes.items }
     {
         if left == 0 {
-            *self = Progress::new(alloc);
+            *self = PartialMessage::new(alloc);
         } else {
             self.over = Some(Over { passed: 0, left });
         }
@@ -270,7 +270,7 @@ impl Progress {
     {
         let taken = over.left.min(available as u64);
         if taken == over.left {
-            *self = Progress::new(alloc);
+            *self = PartialMessage::new(alloc);
         } else {
             self.over = Some(Over {
                 passed: over.passed + taken,
@@ -290,15 +290,15 @@ impl Progress {
     ) -> Result<(), WireFault>
         requires { IsRecorded message_limit
             (host_of width height self.old.bytes.items self.old.rectangles.items) }
+        ensures ok { OnOk result (out.new.items ≡ out.old.items ++ host_of width height self.old.bytes.items self.old.rectangles.items ∷ []) }
         ensures at { IsAt message_limit width height self.new }
         ensures none { self.new.bytes.items ≡ [] }
         ensures over { self.new.over ≡ None }
-        ensures ok { OnOk result (out.new.items ≡ out.old.items ++ host_of width height self.old.bytes.items self.old.rectangles.items ∷ []) }
         ensures err { OnErr result (out.new.items ≡ out.old.items) }
         ensures only { IfErr result (λ f. f ≡ WireFault.NoMemory) }
     {
-        let whole = std::mem::replace(self, Progress::new(alloc));
-        let Progress {
+        let whole = std::mem::replace(self, PartialMessage::new(alloc));
+        let PartialMessage {
             bytes,
             rectangles,
             stage: _,
@@ -311,7 +311,7 @@ impl Progress {
 
     // Takes bytes up to the end of a field or of several, or up to the limit, and answers how many.
     // The message is given once it is whole.
-    fn turn(
+    fn take_some(
         &mut self,
         piece: &[u8],
         alloc: Global,
@@ -363,7 +363,7 @@ impl Progress {
     {
         let mut rest = piece;
         while !rest.is_empty() {
-            let taken = self.turn(rest, alloc, width, height, out)?;
+            let taken = self.take_some(rest, alloc, width, height, out)?;
             rest = &rest[taken..];
         }
         Ok(())

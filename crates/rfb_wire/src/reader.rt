@@ -8,7 +8,7 @@ ghost use Rattle.rfb_wire.specs.Grammar.{message_at, message_limit};
 ghost use Rattle.rfb_wire.specs.Stream.{given};
 
 use crate::message::HostMessage;
-use crate::progress::{MESSAGE_LIMIT, Progress};
+use crate::progress::{MESSAGE_LIMIT, PartialMessage};
 use client_wire::WireFault;
 use pixel_format::NoMemory;
 use std::alloc::Global;
@@ -22,14 +22,14 @@ pub struct ServerReader {
     width: u16,
     height: u16,
     alloc: Global,
-    progress: Progress,
+    progress: PartialMessage,
     fault: Option<WireFault>,
 }
 
 impl Model for ServerReader {
     ghost use Rattle.rfb_wire.specs.Grammar.{message_limit};
     ghost use Rattle.rfb_wire.specs.Reader.{Reader};
-    ghost use Rattle.rfb_wire.specs.Progress.{IsAt, passed_in};
+    ghost use Rattle.rfb_wire.specs.PartialMessage.{IsAt, passed_in};
 
     ghost Value = { Reader };
 
@@ -54,7 +54,7 @@ impl ServerReader {
             width,
             height,
             alloc,
-            progress: Progress::new(alloc),
+            progress: PartialMessage::new(alloc),
             fault: None,
         }
     }
@@ -122,7 +122,7 @@ impl ServerReader {
             .read(self.alloc, self.width, self.height, piece, out);
         if let Err(fault) = read {
             self.fault = Some(fault);
-            self.progress = Progress::new(self.alloc);
+            self.progress = PartialMessage::new(self.alloc);
             return Err(fault);
         }
         Ok(())

@@ -7,10 +7,10 @@ ghost use Rattle.pixel_format.specs.Number.{u16_at, u32_at};
 ghost use Rattle.rect_data.specs.Judging.{HasBytes};
 ghost use Rattle.rect_data.specs.Judging as judging;
 ghost use Rattle.rfb_wire.specs.Grammar.{message_limit, text_limit, read_over, text_data_at, area_of, encoding_number};
-ghost use Rattle.rfb_wire.specs.Progress.{wants_of, start_of, NextBegins, IsOfUpdate, IsOfKind, NextIsOfKind, resume, go_on, step_on, others_at, behind_data};
+ghost use Rattle.rfb_wire.specs.PartialMessage.{wants_of, start_of, NextBegins, IsOfUpdate, IsOfKind, NextIsOfKind, resume, go_on, step_on, others_at, behind_data};
 
 use crate::message::Rectangle;
-use crate::progress::{Begun, Next, Stage, Step};
+use crate::progress::{AfterField, Begun, Next, Stage};
 use client_wire::{Area, WireFault};
 use pixel_format::PixelFormat;
 use rect_data::{Encoding, Judging, lies_inside};
@@ -82,7 +82,7 @@ fn next_of_type(number: u8) -> Result<Next, WireFault>
 }
 
 // Behind the type of a message.
-fn behind_type(field: &[u8]) -> Result<Step, WireFault>
+fn behind_type(field: &[u8]) -> Result<AfterField, WireFault>
     requires { length field.now ≡ 1 }
     ensures goes { IfOk result (λ s. (width height : ℕ) → (more : List ℕ)
         → resume width height Stage.Type (field.now ++ more) ≡ step_on width height s more) }
@@ -95,14 +95,14 @@ fn behind_type(field: &[u8]) -> Result<Step, WireFault>
         Ok(next) => next,
         Err(fault) => return Err(fault),
     };
-    Ok(Step {
+    Ok(AfterField {
         rectangle: None,
         next,
     })
 }
 
 // Behind the head of a colour map: six bytes for each colour.
-fn behind_color_map_head(field: &[u8]) -> Step
+fn behind_color_map_head(field: &[u8]) -> AfterField
     requires { length field.now ≡ 5 }
     ensures goes { (width height : ℕ) → (more : List ℕ)
         → resume width height Stage.ColorMapHead (field.now ++ more) ≡ step_on width height result more }
@@ -110,7 +110,7 @@ fn behind_color_map_head(field: &[u8]) -> Step
     ensures kind { (bytes : List ℕ) → NextIsOfKind result.next bytes }
 {
     let count = u16::from_be_bytes([field[3], field[4]]);
-    Step {
+    AfterField {
         rectangle: None,
         next: Next::ReadOver(6 * count as u64),
     }
@@ -133,50 +133,50 @@ fn next_text(count: u32) -> Next
 }
 
 // Behind the head of a cut text.
-fn behind_text_head(field: &[u8]) -> Step
+fn behind_text_head(field: &[u8]) -> AfterField
     requires { length field.now ≡ 7 }
-    ensures kind { (bytes : List ℕ) → NextIsOfKind result.next bytes }
-    ensures begins { NextBegins 8 result.next }
     ensures goes { (width height : ℕ) → (more : List ℕ)
         → resume width height Stage.TextHead (field.now ++ more) ≡ step_on width height result more }
+    ensures begins { NextBegins 8 result.next }
+    ensures kind { (bytes : List ℕ) → NextIsOfKind result.next bytes }
 {
     let count = u32::from_be_bytes([field[3], field[4], field[5], field[6]]);
-    Step {
+    AfterField {
         rectangle: None,
         next: next_text(count),
     }
 }
 
 // Behind the last byte of a text.
-fn behind_text(count: u32) -> Step
+fn behind_text(count: u32) -> AfterField
     ensures goes { (width height : ℕ) → (text more : List ℕ) → length text ≡ count
         → resume width height (Stage.TextData count) (text ++ more) ≡ step_on width height result more }
     ensures begins { NextBegins (8 + count) result.next }
     ensures kind { (bytes : List ℕ) → NextIsOfKind result.next bytes }
 {
     let _ = count;
-    Step {
+    AfterField {
         rectangle: None,
         next: Next::End,
     }
 }
 
 // Behind the head of an update.
-fn behind_update_head(field: &[u8]) -> Step
+fn behind_update_head(field: &[u8]) -> AfterField
     requires { length field.now ≡ 3 }
     ensures goes { (width height : ℕ) → (more : List ℕ)
         → resume width height Stage.UpdateHead (field.now ++ more) ≡ step_on width height result more }
     ensures begins { NextBegins 4 result.next }
     ensures kind { (bytes : List ℕ) → IsOfUpdate bytes → NextIsOfKind result.next bytes }
 {
-    Step {
+    AfterField {
         rectangle: None,
         next: next_header(4, u16::from_be_bytes([field[1], field[2]])),
     }
 }
 
 // Behind a field of a rectangle's data: the next one, or the rectangle, whose data end here.
-fn next_data(at: usize, begun: Begun, next: Option<Judging>, others: u16) -> Step
+fn next_data(at: usize, begun: Begun, next: Option<Judging>, others: u16) -> AfterField
     requires { HasBytes host_format next }
     ensures goes { (width height : ℕ) → (more : List ℕ)
         → behind_data width height begun others (at + length more) (judging.go_on host_format width height next more) ≡ step_on width height result more }
@@ -190,12 +190,12 @@ fn next_data(at: usize, begun: Begun, next: Option<Judging>, others: u16) -> Ste
             start: begun.start,
             end: at,
         };
-        return Step {
+        return AfterField {
             rectangle: Some(rectangle),
             next: next_header(at, others),
         };
     };
-    Step {
+    AfterField {
         rectangle: None,
         next: Next::Field(Stage::Data {
             at,
@@ -215,7 +215,7 @@ fn behind_content(
     begun: Begun,
     current: Judging,
     others: u16,
-) -> Result<Step, WireFault>
+) -> Result<AfterField, WireFault>
     requires whole { length field.now ≡ judging.wants_of host_format current }
     requires short { at + length field.now ≤ message_limit }
     ensures goes { IfOk result (λ s. (more : List ℕ)
@@ -241,7 +241,7 @@ pub fn run(
     current: Judging,
     others: u16,
     bytes: &[u8],
-) -> Result<(usize, Step), WireFault>
+) -> Result<(usize, AfterField), WireFault>
     requires { at + length bytes.now ≤ message_limit }
     ensures taken { IfOk result (λ x. x.0 ≤ length bytes.now) }
     ensures goes { IfOk result (λ x. (more : List ℕ)
@@ -264,7 +264,7 @@ fn behind_header(
     at: usize,
     others: u16,
     header: &[u8],
-) -> Result<Step, WireFault>
+) -> Result<AfterField, WireFault>
     requires whole { length header.now ≡ 12 }
     requires short { at + 12 ≤ message_limit }
     ensures goes { IfOk result (λ s. (more : List ℕ)
@@ -292,7 +292,7 @@ fn behind_header(
 }
 
 /// What follows from the whole field of a stage.
-pub fn step(width: u16, height: u16, stage: Stage, field: &[u8]) -> Result<Step, WireFault>
+pub fn step(width: u16, height: u16, stage: Stage, field: &[u8]) -> Result<AfterField, WireFault>
     requires whole { length field.now ≡ wants_of stage }
     requires short { start_of stage + length field.now ≤ message_limit }
     ensures goes { IfOk result (λ s. (more : List ℕ)

@@ -37,11 +37,11 @@ fn append_few(
     colors: &[Color],
     bytes: &mut Vec<u8>,
 ) -> Result<bool, NoMemory>
-    requires within { All (IsWithin format.now) colors.now }
     requires size { length colors.now ≡ h * w }
+    requires within { All (IsWithin format.now) colors.now }
+    ensures ok { IfOk result (λ whole. whole ≡ true → Appends (Shows format.now w h colors.now) bytes.old.items bytes.new.items) }
     ensures many { IfOk result (λ whole. whole ≡ false → most < h * w) }
     ensures unchanged { IfOk result (λ whole. whole ≡ false → bytes.new.items ≡ bytes.old.items) }
-    ensures ok { IfOk result (λ whole. whole ≡ true → Appends (Shows format.now w h colors.now) bytes.old.items bytes.new.items) }
     ensures err { OnErr result (bytes.new.items ≡ bytes.old.items) }
 {
     let background = background_color(alloc, format, colors)?;

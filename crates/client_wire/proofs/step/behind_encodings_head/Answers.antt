@@ -2,7 +2,7 @@ use Rattle.std.proofs.Common.{◌≡◌, [], rules, ◌∙◌, sym, ap}
 use Rattle.pixel_format.specs.Reading.{Got}
 use Rattle.pixel_format.specs.Number.{u16_at}
 use Rattle.client_wire.specs.declared.message.ClientMessage.TheVariants as messages
-use Rattle.client_wire.specs.Progress.{resume}
+use Rattle.client_wire.specs.PartialMessage.{resume}
 use Rattle.client_wire.proofs.Resume.{head_goes, no_encodings}
 use Rattle.client_wire.proofs.step.behind_encodings_head.Goals as goal
 

@@ -1,7 +1,7 @@
 use Rattle.std.proofs.Common.{ap, ◌∙◌}
 use Rattle.std.proofs.lemmas.Bool.{ne_eqb}
 use Rattle.client_wire.specs.Grammar.{body_at}
-use Rattle.client_wire.specs.Progress.{resume}
+use Rattle.client_wire.specs.PartialMessage.{resume}
 use Rattle.client_wire.proofs.Fronts.{body_of_pixel_format, body_of_encodings, body_of_request, body_of_key, body_of_pointer, body_of_text, body_unknown}
 use Rattle.client_wire.proofs.step.behind_type.Goals as goal
 

@@ -2,7 +2,7 @@ use Rattle.std.proofs.Common.{◌≡◌, ℕ, List, ◌*◌, ◌++◌, length, �
 use Rattle.std.proofs.lemmas.Result.{err_from_is_err_and}
 use Rattle.pixel_format.specs.Reading.{Got, Bad}
 use Rattle.client_wire.specs.declared.message.ClientMessage.TheVariants as messages
-use Rattle.client_wire.specs.Progress.{wants_of, resume}
+use Rattle.client_wire.specs.PartialMessage.{wants_of, resume}
 use Rattle.client_wire.proofs.Fronts.{unless_memory}
 use Rattle.client_wire.proofs.Resume.{type_goes, format_goes, encodings_go, request_goes}
 use Rattle.client_wire.proofs.step.step.Goals as goal

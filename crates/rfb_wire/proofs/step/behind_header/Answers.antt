@@ -7,7 +7,7 @@ use Rattle.client_wire.specs.Number.{signed}
 use Rattle.rect_data.specs.Grammar.{encoding_of, is_inside, data_at}
 use Rattle.rect_data.specs.Judging.{go_on as data_go_on}
 use Rattle.rfb_wire.specs.Grammar.{area_of, encoding_number}
-use Rattle.rfb_wire.specs.Progress.{behind_data}
+use Rattle.rfb_wire.specs.PartialMessage.{behind_data}
 use Rattle.rfb_wire.proofs.Resume.{header_outside, header_unknown, header_of_data, begun_at}
 use Rattle.rfb_wire.proofs.step.behind_header.Goals as goal
 

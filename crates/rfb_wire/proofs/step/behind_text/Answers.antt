@@ -1,4 +1,4 @@
-use Rattle.rfb_wire.specs.Progress.{go_on}
+use Rattle.rfb_wire.specs.PartialMessage.{go_on}
 use Rattle.rfb_wire.proofs.Resume.{data_of_text}
 use Rattle.rfb_wire.proofs.step.behind_text.Goals as goal
 

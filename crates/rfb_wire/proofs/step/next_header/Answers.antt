@@ -1,5 +1,5 @@
 use Rattle.std.proofs.Common.{◌≡◌, ◌-◌, suc, arith, sym, ap}
-use Rattle.rfb_wire.specs.Progress.{go_on, resume, others_at}
+use Rattle.rfb_wire.specs.PartialMessage.{go_on, resume, others_at}
 use Rattle.rfb_wire.proofs.Resume.{others-zero}
 use Rattle.rfb_wire.proofs.step.next_header.Goals as goal
 

@@ -1,7 +1,7 @@
 use Rattle.std.proofs.Common.{slice_index, nat_eq, eq-eqb, ap, ◌∙◌}
 use Rattle.std.proofs.lemmas.Bool.{ne_eqb}
 use Rattle.rfb_wire.specs.Grammar.{other_at}
-use Rattle.rfb_wire.specs.Progress.{go_on, resume}
+use Rattle.rfb_wire.specs.PartialMessage.{go_on, resume}
 use Rattle.rfb_wire.proofs.Resume.{type_of_update, type_of_other}
 use Rattle.rfb_wire.proofs.Others.{other_of_color_map, other_of_bell, other_of_text, other_unknown}
 use Rattle.rfb_wire.proofs.step.next_of_type.Goals as goal

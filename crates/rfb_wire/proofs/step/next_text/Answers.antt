@@ -1,7 +1,7 @@
 use Rattle.std.proofs.Common.{sym, refl}
 use Rattle.std.proofs.lemmas.Bool.{lt-ltb, le-ltb}
 use Rattle.rfb_wire.specs.Grammar.{text_limit}
-use Rattle.rfb_wire.specs.Progress.{go_on, resume}
+use Rattle.rfb_wire.specs.PartialMessage.{go_on, resume}
 use Rattle.rfb_wire.proofs.Others.{no_text}
 use Rattle.rfb_wire.proofs.step.next_text.Goals as goal
 

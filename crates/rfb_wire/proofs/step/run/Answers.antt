@@ -4,7 +4,7 @@ use Rattle.pixel_format.specs.Format.{Format, host_format}
 use Rattle.pixel_format.specs.Reading.{Bad}
 use Rattle.rect_data.specs.Judging.{wants_of, resume, go_on as data_go_on}
 use Rattle.std.specs.Prelude.{◌<◌, IfSome}
-use Rattle.rfb_wire.specs.Progress.{behind_data}
+use Rattle.rfb_wire.specs.PartialMessage.{behind_data}
 use Rattle.rfb_wire.proofs.Resume.{data_whole, has_bytes}
 use Rattle.rfb_wire.proofs.step.run.Goals as goal
 

@@ -1,7 +1,7 @@
 use Rattle.std.proofs.Common.{◌++◌}
 use Rattle.std.specs.Prelude.{replicate}
 use Rattle.client_wire.specs.Grammar.{message_at}
-use Rattle.client_wire.specs.Progress.{passed_in}
+use Rattle.client_wire.specs.PartialMessage.{passed_in}
 use Rattle.client_wire.specs.Stream.{StandsFor, itself}
 use Rattle.client_wire.proofs.Local.{message_local}
 use Rattle.client_wire.proofs.Streams.{no_fault, given_grows, some_rest}

@@ -11,15 +11,15 @@ turns-preserved c =
     let i = c.turns.invariant in
     let n = c.in-Goes.taken in
     let left = c.turns.rest.now in
-    let t : Goes c.args.expected c.turns.self c.turn.new.self n left c.turns.due.items c.turn.new.due.items = rw c.in-Goes.is at c.in_ok-turn.ensures.turn in
+    let t : Goes c.args.expected c.turns.self c.take_some.new.self n left c.turns.due.items c.take_some.new.due.items = rw c.in-Goes.is at c.in_ok-take_some.ensures.taking in
     let piece : c.args.piece.now ≡ (i.front ++ take n left) ++ drop n left =
     i.piece ∙ rw (append_assoc, take-append-drop) refl in
     record {
       within = t.within;
       front = i.front ++ take n left;
       piece = piece ∙ ap (λ z. (i.front ++ take n left) ++ z) (sym (take_rest left n));
-      leads = leads_more c.args.expected c.args.self.now.position c.turns.self.position c.turn.new.self.position c.args.self.now.kept.items c.turns.self.kept.items c.turn.new.self.kept.items
-          i.front (take n left) c.args.due.now.items c.turns.due.items c.turn.new.due.items i.leads t.leads;
+      leads = leads_more c.args.expected c.args.self.now.position c.turns.self.position c.take_some.new.self.position c.args.self.now.kept.items c.turns.self.kept.items c.take_some.new.self.kept.items
+          i.front (take n left) c.args.due.now.items c.turns.due.items c.take_some.new.due.items i.leads t.leads;
     }
 
 pub returns-in-Whole-clause-taken : goal.returns-in-Whole-clause-taken
@@ -27,13 +27,13 @@ returns-in-Whole-clause-taken c =
     let i = c.turns.invariant in
     let n = c.in-Whole.taken in
     let left = c.turns.rest.now in
-    let t : Whole c.args.expected c.turns.self c.turn.new.self n c.in-Whole.width c.in-Whole.height left c.turns.due.items c.turn.new.due.items = rw c.in-Whole.is at c.in_ok-turn.ensures.turn in
+    let t : Whole c.args.expected c.turns.self c.take_some.new.self n c.in-Whole.width c.in-Whole.height left c.turns.due.items c.take_some.new.due.items = rw c.in-Whole.is at c.in_ok-take_some.ensures.taking in
     let at : length c.args.piece.now - length left + n ≡ length i.front + n = omega (arith, ap length i.piece, length-append i.front left) in
     let front : take (length c.args.piece.now - length left + n) c.args.piece.now ≡ i.front ++ take n left =
     rw at (ap (take (length i.front + n)) i.piece ∙ take-append-add i.front left n) in
     record {
       some = omega (arith, t.some, ap length i.piece, length-append i.front left);
       ends = rw front (leads_end c.args.expected c.args.self.now.position c.turns.self.position c.args.self.now.kept.items c.turns.self.kept.items
-          i.front (take n left) c.args.due.now.items c.turns.due.items c.turn.new.due.items (first_requests c.in-Whole.width c.in-Whole.height)
-          (told_at c.in-Whole.width c.in-Whole.height c.turn.new.self.kept.items) i.leads t.ends);
+          i.front (take n left) c.args.due.now.items c.turns.due.items c.take_some.new.due.items (first_requests c.in-Whole.width c.in-Whole.height)
+          (told_at c.in-Whole.width c.in-Whole.height c.take_some.new.self.kept.items) i.leads t.ends);
     }

@@ -1,6 +1,6 @@
 use Rattle.std.proofs.Common.{◌++◌}
 use Rattle.std.specs.Prelude.{replicate}
-use Rattle.rfb_wire.specs.Progress.{passed_in}
+use Rattle.rfb_wire.specs.PartialMessage.{passed_in}
 use Rattle.client_wire.specs.Stream.{StandsFor, FaultOf}
 use Rattle.rfb_wire.proofs.Over.{at_waits}
 use Rattle.rfb_wire.proofs.Short.{at_short}

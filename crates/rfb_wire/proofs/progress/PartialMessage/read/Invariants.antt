@@ -1,0 +1,20 @@
+use Rattle.std.proofs.Common.{◌≡◌, ℕ, List, ◌++◌, length}
+use Rattle.rfb_wire.specs.PartialMessage.{IsAt, passed_in}
+use Rattle.client_wire.specs.Stream.{StandsFor}
+use Rattle.client_wire.specs.Stream.{Moves}
+use Rattle.rfb_wire.specs.Stream.{given}
+use Rattle.rfb_wire.specs.Grammar.{message_at, message_limit}
+use Rattle.rfb_wire.proofs.progress.PartialMessage.read.Given as goal
+
+-- what of the piece is read is given, kept, or read over
+abbrev pub invariant-loop-rest : goal.invariant-loop-rest
+invariant-loop-rest l = record {
+  at : IsAt message_limit l.width l.height l.self;
+  front : List ℕ;
+  piece : l.initial.rest ≡ front ++ l.rest;
+  moves : (rest : List ℕ) → StandsFor l.initial.self.bytes.items (passed_in l.initial.self.over) rest
+      → Moves (message_at message_limit l.width l.height) (given l.width l.height) l.self.bytes.items (passed_in l.self.over) l.initial.out.items l.out.items (rest ++ front);
+}
+
+abbrev pub decreases-loop-rest : goal.decreases-loop-rest
+decreases-loop-rest l = length l.rest
