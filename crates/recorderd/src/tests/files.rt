@@ -316,13 +316,6 @@ fn key_screens_are_listed_and_judged(rt: HostRuntime) -> Result<(), Fail> {
     Ok(())
 }
 
-// Whether a picture at a moment of the recording `shown` is this file.
-fn is_picture(rt: &HostRuntime, out: &str, moment: &str, bytes: &[u8]) -> Result<bool, Fail> {
-    let words = format!(in rt.alloc(); "picture shown {out} {moment}")?;
-    say(rt, &[(words.as_str(), "0 ")])?;
-    holds(rt, out, bytes)
-}
-
 #[test]
 fn screens_are_written_as_pictures(rt: HostRuntime) -> Result<(), Fail> {
     let files = ["shown", "o.ppm", "o.bmp"];
@@ -334,9 +327,12 @@ fn screens_are_written_as_pictures(rt: HostRuntime) -> Result<(), Fail> {
         ("--at 8", b"P6\n3 1\n255\n\xff\0\0\xff\0\0\0\xff\0"),
         ("--message 3", b"P6\n3 1\n255\n\xff\0\0\xff\0\0\xff\0\0"),
     ] {
-        assert!(rt; is_picture(&rt, "o.ppm", moment, bytes)?, "{moment}");
+        let line = format!(in rt.alloc(); "picture shown o.ppm {moment}")?;
+        say(&rt, &[(line.as_str(), "0 ")])?;
+        assert!(rt; holds(&rt, "o.ppm", bytes)?, "{moment}");
     }
-    assert!(rt; is_picture(&rt, "o.bmp", "--message 1", &BITMAP)?);
+    say(&rt, &[("picture shown o.bmp --message 1", "0 ")])?;
+    assert!(rt; holds(&rt, "o.bmp", &BITMAP)?);
     assert!(rt; is_refused(&rt, "picture", "shown o.ppm --message 4", "replay 1")?);
     assert!(rt; is_refused(&rt, "picture", "shown no/o.ppm --at 0", "file 1")?);
     assert!(rt; holds(&rt, "shown", &KEYED)?);
