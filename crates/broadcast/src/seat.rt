@@ -1,7 +1,7 @@
 //! A viewer's place in the recording.
 
 ghost use Rattle.std.specs.Prelude.{◌≡◌};
-ghost use Rattle.broadcast.specs.Seats.{Card};
+ghost use Rattle.broadcast.specs.Seats.{SeatState};
 
 use std::marker::Model;
 
@@ -39,7 +39,7 @@ pub struct Seat {
 }
 
 impl Model for Seat {
-    ghost Value = { Card };
+    ghost Value = { SeatState };
 
     ghost view = { λ s. record { number = s.number; position = s.place.position; fresh = s.place.fresh } };
 }

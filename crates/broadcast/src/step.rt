@@ -2,7 +2,8 @@
 
 use crate::refusal::{JoinRefusal, LeaveRefusal, NextRefusal, SeekRefusal};
 use crate::seat::{Seated, Start};
-use flusher_core::{FlushRefusal, HostRefused, Slice, TakeRefusal, Taken};
+use flusher_core::{FlushRefusal, HostRefused, TakeRefusal, Taken};
+use replay::Slice;
 use rfb_wire::HostMessage;
 
 /// A step of a desk. Seats are named by their numbers.

@@ -1,12 +1,12 @@
 -- What the grammar says of bytes whose first field is known.
 use Rattle.std.proofs.Common.{◌≡◌, ℕ, ◌*◌, List, nat_eq, false, drop, refl, slice_index}
-use Rattle.pixel_format.specs.Reading.{Got, More, Bad, field}
+use Rattle.terms.specs.Reading.{Got, More, Bad, field}
 use Rattle.pixel_format.specs.Written.{format_at, is_flag}
-use Rattle.pixel_format.specs.Number.{u16_at, u32_at}
-use Rattle.client_wire.specs.declared.fault.WireFault.{WireFault}
-use Rattle.client_wire.specs.declared.fault.WireFault.TheVariants as faults
+use Rattle.terms.specs.Number.{u16_at, u32_at}
+use Rattle.terms.specs.declared.wire_fault.WireFault.{WireFault}
+use Rattle.terms.specs.declared.wire_fault.WireFault.TheVariants as faults
 use Rattle.client_wire.specs.declared.message.ClientMessage.TheVariants as messages
-use Rattle.client_wire.specs.Fault.{UnlessMemory}
+use Rattle.terms.specs.Fault.{UnlessMemory}
 use Rattle.client_wire.specs.Grammar.{judged, set_pixel_format_at, numbers_of, encodings_at, set_encodings_at, request_at, input_at, cut_text_at, body_at, message_at}
 
 pub pixel_format_short : (bytes : List ℕ) → field {E = WireFault} 19 bytes ≡ More → set_pixel_format_at bytes ≡ More

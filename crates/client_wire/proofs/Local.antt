@@ -1,15 +1,15 @@
 -- What bytes say they say whatever follows them: each part of the grammar is local.
 use Rattle.std.proofs.Common.{ℕ, ◌*◌, List, drop, nat_eq, slice_index, refl, inl, inr}
 use Rattle.std.specs.Prelude.{Result, Ok, Err, ◌++◌}
-use Rattle.pixel_format.specs.Reading.{Reading, Got, ◌>>=◌, field, Extends, IsLocal}
+use Rattle.terms.specs.Reading.{Reading, Got, ◌>>=◌, field, Extends, IsLocal}
 use Rattle.pixel_format.specs.Format.{Format}
 use Rattle.pixel_format.specs.Written.{format_at, is_flag}
-use Rattle.pixel_format.specs.declared.fault.FormatFault.{FormatFault}
-use Rattle.pixel_format.proofs.Readings.{field_local, bind_local, true_or_false}
-use Rattle.pixel_format.specs.Number.{u16_at, u32_at}
+use Rattle.terms.specs.declared.format_fault.FormatFault.{FormatFault}
+use Rattle.terms.proofs.Readings.{field_local, bind_local, true_or_false}
+use Rattle.terms.specs.Number.{u16_at, u32_at}
 use Rattle.client_wire.specs.declared.message.ClientMessage.{ClientMessage}
 use Rattle.client_wire.specs.declared.message.ClientMessage.TheVariants as messages
-use Rattle.client_wire.specs.declared.fault.WireFault.{WireFault}
+use Rattle.terms.specs.declared.wire_fault.WireFault.{WireFault}
 use Rattle.client_wire.specs.Grammar.{judged, set_pixel_format_at, numbers_of, encodings_at, set_encodings_at, request_at, input_at, cut_text_at, body_at, message_at}
 
 judged_local : (r : Result Format FormatFault) (rest more : List ℕ) → Extends (judged r rest) more (judged r (rest ++ more))

@@ -3,16 +3,16 @@ use Rattle.std.proofs.Common.{◌≡◌, ℕ, ℤ, suc, ◌+◌, ◌-◌, ◌*�
 use Rattle.std.specs.Prelude.{pos, negsuc, Bool, true, false}
 use Rattle.std.specs.List.{flat_map, AllByRecursion}
 use Rattle.std.proofs.lemmas.Bool.{lt-ltb, le-ltb}
-use Rattle.pixel_format.specs.Reading.{Got}
+use Rattle.terms.specs.Reading.{Got}
 use Rattle.pixel_format.specs.Format.{Format, IsValid}
 use Rattle.pixel_format.specs.Written.{format_bytes, is_flag, flag}
-use Rattle.pixel_format.proofs.Readings.{field-whole}
+use Rattle.terms.proofs.Readings.{field-whole}
 use Rattle.pixel_format.proofs.Valid.{read_written}
-use Rattle.pixel_format.specs.Number.{u32_at}
-use Rattle.client_wire.specs.declared.message.Area.{Area}
+use Rattle.terms.specs.Number.{u32_at}
+use Rattle.terms.specs.declared.area.Area.{Area}
 use Rattle.client_wire.specs.declared.message.ClientMessage.TheVariants as messages
-use Rattle.client_wire.specs.declared.fault.WireFault.{WireFault}
-use Rattle.client_wire.specs.Number.{signed, u32_bytes, unsigned, FitsFourBytes}
+use Rattle.terms.specs.declared.wire_fault.WireFault.{WireFault}
+use Rattle.terms.specs.Number.{signed, u32_bytes, unsigned, FitsFourBytes}
 use Rattle.client_wire.specs.Grammar.{judged, numbers_of, message_at}
 use Rattle.client_wire.specs.Written.{set_pixel_format_bytes, number_bytes, set_encodings_bytes, request_bytes, key_event_bytes, pointer_event_bytes, cut_text_bytes}
 use Rattle.client_wire.proofs.Fronts.{body_of_pixel_format, body_of_encodings, body_of_request, body_of_key, body_of_pointer, body_of_text, pixel_format_read, head_read, encodings_read, request_read, input_read, text_read}

@@ -2,16 +2,16 @@
 use Rattle.std.proofs.Common.{◌≡◌, ℕ, ℤ, zero, suc, ◌+◌, ◌*◌, inl, inr, List, [], ◌∷◌, ◌++◌, length, take, drop, nat_eq, slice_index, refl, sym, ap, ◌∙◌, subst, arith, eqb-true, length-append}
 use Rattle.std.specs.Prelude.{Bool, Result, Ok, Err}
 use Rattle.std.proofs.lemmas.List.{length-take-le, length-drop, take-append-drop, append-nil, drop_at}
-use Rattle.pixel_format.specs.Reading.{Got, field}
-use Rattle.pixel_format.proofs.Readings.{bind_got, field_got, field-whole, true_or_false, field_front, one_number, three_numbers}
+use Rattle.terms.specs.Reading.{Got, field}
+use Rattle.terms.proofs.Readings.{bind_got, field_got, field-whole, true_or_false, field_front, one_number, three_numbers}
 use Rattle.pixel_format.proofs.Valid.{accepted_is, is_accepted, flag_some}
 use Rattle.pixel_format.specs.Format.{Format}
 use Rattle.pixel_format.specs.Written.{format_at, is_flag}
-use Rattle.pixel_format.specs.declared.fault.FormatFault.{FormatFault}
-use Rattle.pixel_format.specs.Number.{u16_at, u32_at}
+use Rattle.terms.specs.declared.format_fault.FormatFault.{FormatFault}
+use Rattle.terms.specs.Number.{u16_at, u32_at}
 use Rattle.client_wire.specs.declared.message.ClientMessage.{ClientMessage}
 use Rattle.client_wire.specs.declared.message.ClientMessage.TheVariants as messages
-use Rattle.client_wire.specs.declared.fault.WireFault.{WireFault}
+use Rattle.terms.specs.declared.wire_fault.WireFault.{WireFault}
 use Rattle.client_wire.specs.Grammar.{judged, set_pixel_format_at, numbers_of, encodings_at, set_encodings_at, request_at, input_at, cut_text_at, body_at, message_at}
 use Rattle.client_wire.specs.Message.{IsSetPixelFormat, AreNumbers, IsSetEncodings, IsRequest, IsMessage}
 use Rattle.client_wire.proofs.Fronts.{type_read, body_of_pixel_format, body_of_encodings, body_of_request, body_of_key, body_of_pointer, body_of_text, pixel_format_read, head_read, encodings_read, request_read, input_read, text_read}

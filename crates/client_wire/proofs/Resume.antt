@@ -1,11 +1,11 @@
 -- What follows from a whole field: one equation for each stage.
 use Rattle.std.proofs.Common.{◌≡◌, ℕ, ◌*◌, ◌<◌, List, [], ◌++◌, length, drop, slice_index, refl}
-use Rattle.pixel_format.specs.Reading.{Got, More}
-use Rattle.pixel_format.proofs.Readings.{field-whole, field-short}
+use Rattle.terms.specs.Reading.{Got, More}
+use Rattle.terms.proofs.Readings.{field-whole, field-short}
 use Rattle.pixel_format.specs.Written.{format_at, is_flag}
-use Rattle.pixel_format.specs.Number.{u16_at, u32_at}
+use Rattle.terms.specs.Number.{u16_at, u32_at}
 use Rattle.client_wire.specs.declared.message.ClientMessage.TheVariants as messages
-use Rattle.client_wire.specs.declared.fault.WireFault.{WireFault}
+use Rattle.terms.specs.declared.wire_fault.WireFault.{WireFault}
 use Rattle.client_wire.specs.declared.progress.Stage.{Stage}
 use Rattle.client_wire.specs.declared.progress.Stage.TheVariants as stages
 use Rattle.client_wire.specs.Grammar.{judged, numbers_of, encodings_at, input_at, body_at}

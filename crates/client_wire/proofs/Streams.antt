@@ -4,9 +4,9 @@ use Rattle.std.proofs.Common.{◌≡◌, ℕ, ◌+◌, ◌-◌, ◌<◌, List, [
 use Rattle.std.specs.List.{flat_map, AllByRecursion}
 use Rattle.std.proofs.lemmas.List.{append-nil, append_cancel_right, length-replicate, take-append-drop, length-take-le, length-drop}
 use Rattle.std.specs.Prelude.{replicate}
-use Rattle.pixel_format.specs.Reading.{Reading, Got, More, Bad, IsLocal}
-use Rattle.client_wire.specs.declared.fault.WireFault.{WireFault}
-use Rattle.client_wire.specs.Fault.{UnlessMemory}
+use Rattle.terms.specs.Reading.{Reading, Got, More, Bad, IsLocal}
+use Rattle.terms.specs.declared.wire_fault.WireFault.{WireFault}
+use Rattle.terms.specs.Fault.{UnlessMemory}
 use Rattle.client_wire.specs.Stream.{Part, bytes_of, IsPart, Reads, BeginsNone, FaultOf, StandsFor, given_of, Gives, Grows, Moves, Stops}
 
 -- a list made of those of two lists

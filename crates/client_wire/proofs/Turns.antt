@@ -1,18 +1,18 @@
 -- What a reader's turn does: what it keeps and counts says what the grammar says.
 use Rattle.std.proofs.Common.{◌≡◌, ℕ, ◌+◌, ◌-◌, ◌<◌, List, [], ◌∷◌, ◌++◌, length, take, drop, refl, sym, ap, ◌∙◌, arith, append_assoc, length-append}
 use Rattle.std.proofs.lemmas.List.{append-nil, drop_all, drop-append-le, take-append-drop, length-drop}
-use Rattle.pixel_format.specs.Reading.{Got, More, Bad}
-use Rattle.pixel_format.proofs.Readings.{skip_more, skip_whole, skip_waits}
+use Rattle.terms.specs.Reading.{Got, More, Bad}
+use Rattle.terms.proofs.Readings.{skip_more, skip_whole, skip_waits}
 use Rattle.client_wire.specs.declared.message.ClientMessage.{ClientMessage}
 use Rattle.client_wire.specs.declared.message.ClientMessage.TheVariants as messages
-use Rattle.client_wire.specs.declared.fault.WireFault.{WireFault}
+use Rattle.terms.specs.declared.wire_fault.WireFault.{WireFault}
 use Rattle.client_wire.specs.declared.progress.Stage.{Stage}
 use Rattle.client_wire.specs.declared.progress.Stage.TheVariants as stages
 use Rattle.client_wire.specs.declared.progress.Over.{Over}
 use Rattle.client_wire.specs.declared.progress.Position.{Position}
 use Rattle.client_wire.specs.declared.progress.Position.TheVariants as positions
 use Rattle.client_wire.specs.declared.progress.PartialMessage.{PartialMessage}
-use Rattle.client_wire.specs.Fault.{UnlessMemory}
+use Rattle.terms.specs.Fault.{UnlessMemory}
 use Rattle.client_wire.specs.Reader.{kept_limit}
 use Rattle.client_wire.specs.Grammar.{input_at, message_at}
 use Rattle.client_wire.specs.PartialMessage.{wants_of, start_of, resume, position_at, BeginsAt, IsLinked, IsInField, IsOver, IsAtPosition, IsAt, passed_in}

@@ -2,16 +2,16 @@
 -- field is judged once it is whole, in the order of the fields: so the first fault is the one that
 -- is met.
 use Rattle.std.specs.Prelude.{ℕ, ℤ, ◌*◌, List, [], ◌∷◌, drop, slice_index, nat_eq, Result, Ok, Err, if◌then◌else◌}
-use Rattle.pixel_format.specs.Reading.{Reading, Got, Bad, ◌>>=◌, field}
+use Rattle.terms.specs.Reading.{Reading, Got, Bad, ◌>>=◌, field}
 use Rattle.pixel_format.specs.Format.{Format}
 use Rattle.pixel_format.specs.Written.{format_at, is_flag}
-use Rattle.pixel_format.specs.declared.fault.FormatFault.{FormatFault}
-use Rattle.pixel_format.specs.Number.{u16_at, u32_at}
-use Rattle.client_wire.specs.Number.{signed}
+use Rattle.terms.specs.declared.format_fault.FormatFault.{FormatFault}
+use Rattle.terms.specs.Number.{u16_at, u32_at}
+use Rattle.terms.specs.Number.{signed}
 use Rattle.client_wire.specs.declared.message.ClientMessage.{ClientMessage}
 use Rattle.client_wire.specs.declared.message.ClientMessage.TheVariants as messages
-use Rattle.client_wire.specs.declared.fault.WireFault.{WireFault}
-use Rattle.client_wire.specs.declared.fault.WireFault.TheVariants as faults
+use Rattle.terms.specs.declared.wire_fault.WireFault.{WireFault}
+use Rattle.terms.specs.declared.wire_fault.WireFault.TheVariants as faults
 
 -- a format that is valid, or the first test that it fails
 abbrev pub judged : Result Format FormatFault → List ℕ → Reading ClientMessage WireFault

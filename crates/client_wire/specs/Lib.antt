@@ -1,6 +1,4 @@
-pub use Rattle.pixel_format.specs.Reading
-pub mod Fault
-pub mod Number
+pub use Rattle.terms.specs.Reading
 pub mod Grammar
 pub mod Plain
 pub mod Message

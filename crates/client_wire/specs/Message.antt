@@ -2,8 +2,8 @@
 use Rattle.std.specs.Prelude.{◌≡◌, ℕ, ℤ, ◌+◌, ◌*◌, ◌<◌, ◌⊎◌, Bool, List, [], ◌∷◌, ◌++◌, length, slice_index}
 use Rattle.pixel_format.specs.Format.{Format, IsValid}
 use Rattle.pixel_format.specs.Written.{format_of, is_flag}
-use Rattle.pixel_format.specs.Number.{u16_at, u32_at}
-use Rattle.client_wire.specs.Number.{signed}
+use Rattle.terms.specs.Number.{u16_at, u32_at}
+use Rattle.terms.specs.Number.{signed}
 use Rattle.client_wire.specs.declared.message.ClientMessage.{ClientMessage}
 use Rattle.client_wire.specs.declared.message.ClientMessage.TheVariants as messages
 

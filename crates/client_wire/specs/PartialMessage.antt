@@ -1,9 +1,9 @@
 -- Where a reader stands in a message: what comes next, and what the bytes from there on say, by the
 -- grammar.
 use Rattle.std.specs.Prelude.{◌≡◌, ℕ, ◌+◌, ◌*◌, ◌<◌, ◌≤◌, ◌^◌, List, ◌++◌, length, drop}
-use Rattle.pixel_format.specs.Reading.{Reading, Got}
+use Rattle.terms.specs.Reading.{Reading, Got}
 use Rattle.client_wire.specs.declared.message.ClientMessage.{ClientMessage}
-use Rattle.client_wire.specs.declared.fault.WireFault.{WireFault}
+use Rattle.terms.specs.declared.wire_fault.WireFault.{WireFault}
 use Rattle.client_wire.specs.declared.progress.Stage.{Stage}
 use Rattle.client_wire.specs.declared.progress.Stage.TheVariants as stages
 use Rattle.client_wire.specs.declared.progress.Over.{Over}

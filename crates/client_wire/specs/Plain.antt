@@ -1,8 +1,8 @@
 -- What a function that reads from the front of bytes answers, by the grammar.
 use Rattle.std.specs.Prelude.{◌≡◌, List, ℕ, Option, Some, None, Result, Ok, Err}
-use Rattle.pixel_format.specs.Reading.{Reading, Got, More, Bad}
-use Rattle.client_wire.specs.declared.fault.WireFault.{WireFault}
-use Rattle.client_wire.specs.Fault.{UnlessMemory}
+use Rattle.terms.specs.Reading.{Reading, Got, More, Bad}
+use Rattle.terms.specs.declared.wire_fault.WireFault.{WireFault}
+use Rattle.terms.specs.Fault.{UnlessMemory}
 
 -- the value and the bytes behind it, nothing where they are too few, or the fault
 abbrev pub Says : {X A : Type 0} → (X → A) → (X → List ℕ) → Result (Option X) WireFault → Reading A WireFault → Type 0

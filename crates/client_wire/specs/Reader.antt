@@ -1,6 +1,6 @@
 -- What contracts see of a reader of a viewer's stream.
 use Rattle.std.specs.Prelude.{ℕ, List, Option}
-use Rattle.client_wire.specs.declared.fault.WireFault.{WireFault}
+use Rattle.terms.specs.declared.wire_fault.WireFault.{WireFault}
 
 -- Fewer bytes than these are kept, whatever comes: the longest message whose bytes are kept, a
 -- SetEncodings of 65,535 encodings, has as many.

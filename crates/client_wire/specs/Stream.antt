@@ -2,9 +2,9 @@
 -- message bytes begin with, and `give` what is given of a message and its bytes.
 use Rattle.std.specs.Prelude.{◌≡◌, ℕ, List, [], ◌∷◌, ◌++◌, length}
 use Rattle.std.specs.List.{flat_map, AllByRecursion}
-use Rattle.pixel_format.specs.Reading.{Reading, Got, More, Bad}
-use Rattle.client_wire.specs.declared.fault.WireFault.{WireFault}
-use Rattle.client_wire.specs.Fault.{UnlessMemory}
+use Rattle.terms.specs.Reading.{Reading, Got, More, Bad}
+use Rattle.terms.specs.declared.wire_fault.WireFault.{WireFault}
+use Rattle.terms.specs.Fault.{UnlessMemory}
 
 -- a message in a stream, and its bytes
 pub record Part (M : Type 0) : Type 0 where

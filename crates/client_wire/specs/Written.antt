@@ -3,8 +3,9 @@ use Rattle.std.specs.List.{flat_map}
 use Rattle.std.specs.Prelude.{ℕ, ℤ, ◌/◌, ◌%◌, List, [], ◌∷◌, ◌++◌, length, Bool}
 use Rattle.pixel_format.specs.Format.{Format}
 use Rattle.pixel_format.specs.Written.{format_bytes, flag}
-use Rattle.client_wire.specs.declared.message.Area.{Area}
-use Rattle.client_wire.specs.Number.{u32_bytes, unsigned}
+use Rattle.terms.specs.declared.area.Area.{Area}
+use Rattle.terms.specs.Area.{area_bytes}
+use Rattle.terms.specs.Number.{u32_bytes, unsigned}
 
 -- SetPixelFormat: type 0, three bytes of padding, and the format (RFC 6143, section 7.5.1)
 abbrev pub set_pixel_format_bytes : Format → List ℕ
@@ -20,10 +21,6 @@ number_bytes n = u32_bytes (unsigned n)
 
 abbrev pub set_encodings_bytes : List ℤ → List ℕ
 set_encodings_bytes numbers = encodings_head (length numbers) ++ flat_map number_bytes numbers
-
--- x, y, width and height of an area
-abbrev pub area_bytes : Area → List ℕ
-area_bytes a = a.x / 256 ∷ a.x % 256 ∷ a.y / 256 ∷ a.y % 256 ∷ a.w / 256 ∷ a.w % 256 ∷ a.h / 256 ∷ a.h % 256 ∷ []
 
 -- FramebufferUpdateRequest: type 3, the flag of an incremental request, and the area: x, y, width,
 -- height (section 7.5.3)

@@ -1,15 +1,15 @@
 //! What the fields of a viewer's messages say.
 
 ghost use Rattle.std.specs.Prelude.{◌≡◌, ℕ, List, length, drop, slice_index, IfOk, MatchResult};
-ghost use Rattle.pixel_format.specs.Reading.{Got, Bad};
+ghost use Rattle.terms.specs.Reading.{Got, Bad};
 ghost use Rattle.pixel_format.specs.Written.{format_at, is_flag};
-ghost use Rattle.pixel_format.specs.Number.{u16_at};
+ghost use Rattle.terms.specs.Number.{u16_at};
 ghost use Rattle.client_wire.specs.Grammar.{judged, numbers_of};
 
-use crate::fault::WireFault;
 use crate::message::{ClientMessage, Encodings};
 use pixel_format::PixelFormat;
 use std::alloc::{AllocError, Global};
+use terms::WireFault;
 
 /// The message of the field behind the type of a SetPixelFormat (RFC 6143, section 7.5.1).
 pub fn pixel_format_in(field: &[u8]) -> Result<ClientMessage, WireFault>

@@ -1,7 +1,6 @@
 //! Messages of a viewer in the remote framebuffer protocol (RFC 6143, section 7.5).
 #![tactic(auto)]
 
-mod fault;
 mod field;
 mod laws;
 mod message;
@@ -11,12 +10,11 @@ mod reader;
 mod step;
 mod write;
 
-pub use fault::WireFault;
 pub use laws::{
     a_rest_begins_none, grammar_reads_messages, no_message_begins_another, one_reading_of_a_stream,
     one_reading_of_bytes,
 };
-pub use message::{Area, ClientMessage, Encodings};
+pub use message::{ClientMessage, Encodings};
 pub use plain::read_client_message;
 pub use reader::ClientReader;
 pub use write::{

@@ -1,16 +1,16 @@
 //! The grammar of a viewer's messages as a plain function, which has all the bytes before it.
 
 ghost use Rattle.std.specs.Prelude.{◌≡◌, ◌+◌, length, IfSome, MatchOption};
-ghost use Rattle.pixel_format.specs.Reading.{Got, More};
-ghost use Rattle.pixel_format.specs.Reading as reading;
-ghost use Rattle.client_wire.specs.declared.fault.WireFault.{WireFault};
+ghost use Rattle.terms.specs.Reading.{Got, More};
+ghost use Rattle.terms.specs.Reading as reading;
+ghost use Rattle.terms.specs.declared.wire_fault.WireFault.{WireFault};
 ghost use Rattle.client_wire.specs.Grammar.{set_pixel_format_at, set_encodings_at, request_at, input_at, cut_text_at, message_at};
 ghost use Rattle.client_wire.specs.Plain.{Says};
 
-use crate::fault::WireFault;
 use crate::field::{encodings_in, pixel_format_in, request_in};
 use crate::message::ClientMessage;
 use std::alloc::Global;
+use terms::WireFault;
 
 // The first bytes, where there are so many, and the bytes behind them.
 fn field(count: usize, bytes: &[u8]) -> Option<(&[u8], &[u8])>

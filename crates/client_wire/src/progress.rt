@@ -1,15 +1,15 @@
 //! Where a reader stands in a message.
 
 ghost use Rattle.std.specs.Prelude.{◌≡◌, ℕ, ◌<◌, ◌≤◌, ◌^◌, ◌+◌, ◌++◌, [], ◌∷◌, List, length, take, IfOk, OnOk, IfErr, OnErr, Ok, Err};
-ghost use Rattle.pixel_format.specs.Reading.{Bad};
-ghost use Rattle.client_wire.specs.Fault.{UnlessMemory};
+ghost use Rattle.terms.specs.Reading.{Bad};
+ghost use Rattle.terms.specs.Fault.{UnlessMemory};
 ghost use Rattle.client_wire.specs.Grammar.{message_at};
 ghost use Rattle.client_wire.specs.Stream.{Moves, Stops, StandsFor, itself};
 
-use crate::fault::WireFault;
 use crate::message::ClientMessage;
 use crate::step::step;
 use std::alloc::Global;
+use terms::WireFault;
 
 /// The field of a message that comes next.
 #[derive(Clone, Copy)]

@@ -1,16 +1,16 @@
 //! The reader of a viewer's stream.
 
 ghost use Rattle.std.specs.Prelude.{◌≡◌, ℕ, List, [], ◌++◌, ◌<◌, length, Option, Some, None, Ok, Err, OnOk, IfErr, OnErr};
-ghost use Rattle.client_wire.specs.declared.fault.WireFault.{WireFault};
+ghost use Rattle.terms.specs.declared.wire_fault.WireFault.{WireFault};
 ghost use Rattle.client_wire.specs.Grammar.{message_at};
 ghost use Rattle.client_wire.specs.Reader.{kept_limit};
 ghost use Rattle.client_wire.specs.Stream.{Goes, Stops, FaultOf, StandsFor, Grows, itself};
 
-use crate::fault::WireFault;
 use crate::message::ClientMessage;
 use crate::progress::PartialMessage;
 use std::alloc::Global;
 use std::marker::Model;
+use terms::WireFault;
 
 /// Reads a viewer's messages from its stream, which comes in pieces of any length (RFC 6143,
 /// section 7.5). Each byte is looked at once, and memory is taken for bytes that have come alone;

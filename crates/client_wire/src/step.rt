@@ -1,16 +1,16 @@
 //! What follows from a whole field of a message.
 
 ghost use Rattle.std.specs.Prelude.{◌≡◌, ℕ, ◌+◌, List, ◌++◌, length, slice_index, IfOk, IfErr};
-ghost use Rattle.pixel_format.specs.Reading.{Bad};
-ghost use Rattle.client_wire.specs.Fault.{UnlessMemory};
+ghost use Rattle.terms.specs.Reading.{Bad};
+ghost use Rattle.terms.specs.Fault.{UnlessMemory};
 ghost use Rattle.client_wire.specs.Grammar.{body_at};
 ghost use Rattle.client_wire.specs.PartialMessage.{wants_of, start_of, resume, position_at, follow, BeginsAt, StepBeginsAt};
 
-use crate::fault::WireFault;
 use crate::field::{encodings_in, pixel_format_in, request_in};
 use crate::message::{ClientMessage, Encodings};
 use crate::progress::{AfterField, Over, Position, Stage};
 use std::alloc::Global;
+use terms::WireFault;
 
 // Behind the type of a message.
 fn behind_type(kind: u8) -> Result<Position, WireFault>

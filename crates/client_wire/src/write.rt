@@ -4,15 +4,15 @@
 ghost use Rattle.std.specs.Prelude.{◌≡◌, ◌<◌, ◌^◌, ℕ, ℤ, List, [], ◌++◌, Bool, take, length, OnOk, OnErr};
 ghost use Rattle.std.specs.List.{AllByRecursion};
 ghost use Rattle.pixel_format.specs.Format.{Format, IsValid};
-ghost use Rattle.pixel_format.specs.Reading.{Got};
-ghost use Rattle.client_wire.specs.declared.message.Area.{Area};
+ghost use Rattle.terms.specs.Reading.{Got};
+ghost use Rattle.terms.specs.declared.area.Area.{Area};
 ghost use Rattle.client_wire.specs.declared.message.ClientMessage.TheVariants as messages;
-ghost use Rattle.client_wire.specs.Number.{FitsFourBytes};
+ghost use Rattle.terms.specs.Number.{FitsFourBytes};
 ghost use Rattle.client_wire.specs.Grammar.{message_at};
 ghost use Rattle.client_wire.specs.Written.{set_pixel_format_bytes, set_encodings_bytes, request_bytes, key_event_bytes, pointer_event_bytes, text_bytes, cut_text_bytes, one_rectangle_head};
 
-use crate::message::Area;
-use pixel_format::{NoMemory, PixelFormat, whole_or_none};
+use pixel_format::PixelFormat;
+use terms::{Area, NoMemory, whole_or_none};
 
 /// Appends a SetPixelFormat message (RFC 6143, section 7.5.1).
 pub fn write_set_pixel_format(format: &PixelFormat, out: &mut Vec<u8>) -> Result<(), NoMemory>

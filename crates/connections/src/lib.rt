@@ -4,6 +4,7 @@
 
 mod bell;
 mod clock;
+mod connection;
 mod host;
 mod limits;
 mod plan;
@@ -14,6 +15,7 @@ mod viewer;
 
 pub use bell::{Bell, Woken};
 pub use clock::{Stopwatch, time_after};
+pub use connection::Connection;
 pub use host::{Host, Messages};
 pub use limits::pause;
 pub use plan::{Audience, Plan, Stop};

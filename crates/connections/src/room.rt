@@ -7,7 +7,7 @@ use crate::bell::Bell;
 use crate::plan::Plan;
 use crate::telling::{Event, Telling};
 use broadcast::Start;
-use file_commands::LastError;
+use file_disk::LastError;
 use reception::{Arrival, Backlog, Reception, Term};
 use shared_book::Mark;
 use std::alloc::Global;

@@ -1,20 +1,18 @@
-//! The connection to a viewer, which two threads share.
+//! A viewer, which two threads share.
 
-ghost use Rattle.std.specs.Prelude.{◌≡◌, ◌<◌, ◌≤◌, ◌^◌, ◌+◌, IfOk, length};
+ghost use Rattle.std.specs.Prelude.{◌≡◌, ◌<◌, ◌^◌, ◌+◌, length};
 ghost use Rattle.shared_book.specs.Receipts.{IsOfSize};
 
 use crate::bell::{Bell, Woken};
-use crate::limits::{ANSWER, FAREWELL, HANDSHAKE, time_left, watch_over, write_within};
+use crate::connection::Connection;
+use crate::limits::{ANSWER, FAREWELL, HANDSHAKE, time_left};
 use crate::room::Hall;
 use disk::Disk;
-use flusher_core::Slice;
+use replay::Slice;
 use shared_book::{Mark, Shared};
 use std::alloc::Global;
 use std::io;
-use std::io::Read;
 use std::marker::PhantomData;
-use std::net::{Shutdown, TcpStream};
-use std::os::fd::AsRawFd;
 use std::sync::atomic::{AtomicBool, Ordering};
 use std::sync::{Condvar, Mutex, Wait};
 use std::time::{Clock, Duration, Instant};
@@ -59,13 +57,18 @@ impl<M: Mark> Talk<M> {
 
     // Writes what is due, with an update where one is, within the time that an answer may take. A
     // viewer that has not come to where it begins isn't answered yet.
-    fn answer<R: Clock>(&mut self, rt: &R, alloc: Global, stream: &TcpStream) -> io::Result<()> {
+    fn answer<C: Connection, R: Clock>(
+        &mut self,
+        rt: &R,
+        alloc: Global,
+        connection: &C,
+    ) -> io::Result<()> {
         if self.session.position() < self.shows_from {
             return Ok(());
         }
         let mut due = Vec::new(alloc);
         self.session.answer(&mut due)?;
-        write_within(rt, stream, &due, ANSWER)
+        connection.write_within(rt, &due, ANSWER)
     }
 
     // Whether the viewer asks for what changes next, so that it was shown all that there is.
@@ -74,34 +77,34 @@ impl<M: Mark> Talk<M> {
     }
 }
 
-/// A viewer's connection: its socket, its session under a lock, and whether it has gone. Bytes are
+/// A viewer: its connection, its session under a lock, and whether it has gone. Bytes are
 /// written under the lock, so that they keep their order. A viewer that doesn't read holds up its
 /// own two threads alone.
 #[derive(Drop)]
-pub struct Viewer<M: Mark> {
+pub struct Viewer<M: Mark, C: Connection> {
     alloc: Global,
-    stream: TcpStream,
+    connection: C,
     talk: Mutex<Talk<M>>,
     changed: Condvar,
     has_left: AtomicBool,
 }
 
-impl<M: Mark> Viewer<M> {
-    /// A viewer behind this socket, of the recording's size and name.
+impl<M: Mark, C: Connection> Viewer<M, C> {
+    /// A viewer behind this connection, of the recording's size and name.
     pub fn new(
         alloc: Global,
-        stream: TcpStream,
+        connection: C,
         size: (u16, u16),
         name: &[u8],
-    ) -> io::Result<Viewer<M>>
+    ) -> io::Result<Viewer<M, C>>
         requires size { (size.0 ≡ M.head.width) × (size.1 ≡ M.head.height) }
         requires name { length name.now < 2 ^ 32 }
     {
-        watch_over(&stream)?;
+        connection.watch_over()?;
         let session = Session::new(alloc, size.0, size.1, name)?;
         Ok(Viewer {
             alloc,
-            stream,
+            connection,
             talk: Mutex::new(Talk {
                 session,
                 shows_from: 0,
@@ -120,7 +123,7 @@ impl<M: Mark> Viewer<M> {
     /// Ends the connection. A write that waits for the viewer fails then.
     pub fn leave<R: Wait>(&self, rt: &R) {
         self.has_left.store(true, Ordering::SeqCst);
-        let _ended = self.stream.shutdown(Shutdown::Both);
+        self.connection.shut();
         // Who looked before is asleep once the lock is free, and is woken.
         drop(self.talk.lock(rt));
         self.changed.notify_all();
@@ -137,7 +140,7 @@ impl<M: Mark> Viewer<M> {
         requires room { slice.now.first + length slice.now.messages.items < 2 ^ 64 }
     {
         let mut talk = self.talk.lock(rt);
-        let is_shown = talk.advance(slice) && talk.answer(rt, self.alloc, &self.stream).is_ok();
+        let is_shown = talk.advance(slice) && talk.answer(rt, self.alloc, &self.connection).is_ok();
         drop(talk);
         if !is_shown {
             self.leave(rt);
@@ -158,23 +161,10 @@ impl<M: Mark> Viewer<M> {
     fn hear<R: Clock + Wait>(&self, rt: &R, piece: &[u8]) -> bool {
         let mut talk = self.talk.lock(rt);
         let goes_on = talk.feed(piece);
-        let is_answered = talk.answer(rt, self.alloc, &self.stream).is_ok();
+        let is_answered = talk.answer(rt, self.alloc, &self.connection).is_ok();
         drop(talk);
         self.changed.notify_all();
         is_answered && goes_on
-    }
-
-    // Reads a piece, at most as long as the buffer: how many bytes came, and none at the end.
-    fn read(&self, buffer: &mut [u8]) -> io::Result<usize>
-        ensures { IfOk result (λ count. count ≤ length buffer.old) }
-    {
-        for _ in 0..u64::MAX {
-            match (&mut &self.stream).read(buffer) {
-                Err(error) if error.kind() == io::ErrorKind::Interrupted => {}
-                outcome => return outcome,
-            }
-        }
-        Ok(0)
     }
 
     /// Hears the viewer's handshake, for 30 seconds at most, or until the bell rings: whether it is
@@ -190,11 +180,11 @@ impl<M: Mark> Viewer<M> {
                 return Ok(true);
             }
             let left = time_left(rt, started, HANDSHAKE)?;
-            match bell.wait(Some(self.stream.as_raw_fd()), Some(left)) {
+            match self.connection.wait(bell, left) {
                 Woken::Rung => return Ok(false),
                 Woken::TimedOut => {}
                 Woken::Ready => {
-                    let count = self.read(&mut buffer)?;
+                    let count = self.connection.read(&mut buffer)?;
                     if count == 0 || !self.hear(rt, &buffer[..count]) {
                         return Ok(false);
                     }
@@ -209,7 +199,7 @@ impl<M: Mark> Viewer<M> {
         let mut buffer = Vec::new(self.alloc);
         buffer.resize(PIECE, 0)?;
         for _ in 0..u64::MAX {
-            let count = self.read(&mut buffer)?;
+            let count = self.connection.read(&mut buffer)?;
             if count == 0 || !self.hear(rt, &buffer[..count]) {
                 return Ok(());
             }
@@ -227,7 +217,7 @@ impl<M: Mark> Viewer<M> {
 }
 
 // Reads over the version of a connection, until the bell rings: whether it came.
-fn hear_version<R: Clock>(rt: &R, stream: &TcpStream, bell: &Bell) -> io::Result<bool> {
+fn hear_version<C: Connection, R: Clock>(rt: &R, connection: &C, bell: &Bell) -> io::Result<bool> {
     let started = Instant::now(rt)?;
     let mut version = [0u8; VERSION.len()];
     let mut heard = 0;
@@ -236,10 +226,10 @@ fn hear_version<R: Clock>(rt: &R, stream: &TcpStream, bell: &Bell) -> io::Result
             return Ok(true);
         }
         let left = time_left(rt, started, HANDSHAKE)?;
-        match bell.wait(Some(stream.as_raw_fd()), Some(left)) {
+        match connection.wait(bell, left) {
             Woken::Rung => return Ok(false),
             Woken::TimedOut => {}
-            Woken::Ready => match (&mut &*stream).read(&mut version[heard..])? {
+            Woken::Ready => match connection.read(&mut version[heard..])? {
                 0 => return Ok(false),
                 count => heard += count,
             },
@@ -250,20 +240,20 @@ fn hear_version<R: Clock>(rt: &R, stream: &TcpStream, bell: &Bell) -> io::Result
 
 /// Tells a connection why it is turned away, by no security type and a reason: RFC 6143, section
 /// 7.1.2. It may take 30 seconds, or until the bell rings.
-pub fn turn_away<R: Clock>(
+pub fn turn_away<C: Connection, R: Clock>(
     rt: &R,
-    stream: &TcpStream,
+    connection: &C,
     bell: &Bell,
     reason: &str,
 ) -> io::Result<()> {
     let Ok(count) = u32::try_from(reason.len()) else {
         return Err(io::ErrorKind::InvalidInput.into());
     };
-    write_within(rt, stream, &VERSION, HANDSHAKE)?;
-    if !hear_version(rt, stream, bell)? {
+    connection.write_within(rt, &VERSION, HANDSHAKE)?;
+    if !hear_version(rt, connection, bell)? {
         return Ok(());
     }
-    write_within(rt, stream, &[0], HANDSHAKE)?;
-    write_within(rt, stream, &count.to_be_bytes(), HANDSHAKE)?;
-    write_within(rt, stream, reason.as_bytes(), HANDSHAKE)
+    connection.write_within(rt, &[0], HANDSHAKE)?;
+    connection.write_within(rt, &count.to_be_bytes(), HANDSHAKE)?;
+    connection.write_within(rt, reason.as_bytes(), HANDSHAKE)
 }

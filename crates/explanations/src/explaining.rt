@@ -1,11 +1,36 @@
 //! The text for a refusal.
 
-ghost use Rattle.std.specs.Prelude.{◌≡◌, ◌↔◌, IsSome};
+ghost use Rattle.std.specs.Prelude.{◌≡◌, ◌↔◌, ◌≤◌, IsSome, length};
 ghost use Rattle.explanations.specs.declared.area.Area.{Area};
 ghost use Rattle.explanations.specs.Areas.{word_of, IsNumberOf};
 
 use crate::area::Area;
-use crate::{exports, peers, recordings, system};
+use crate::exports::{EXPORT, FBS};
+use crate::peers::{HANDSHAKE, WIRE};
+use crate::recordings::{BOOK, INDEX, JOURNAL, REPLAY};
+use crate::system::{FILE, NET, THREAD};
+
+// The text of a number, counted from 1.
+fn text_of(texts: &[&'static str], number: u64) -> Option<&'static str>
+    ensures { IsSome result ↔ (1 ≤ number) × (number ≤ length texts.now) }
+{
+    let place = number.checked_sub(1)?;
+    if place < texts.len() as u64 {
+        Some(texts[place as usize])
+    } else {
+        None
+    }
+}
+
+// The text of a host: of a message's fault, or of one of the handshake, which have 20 and more.
+fn text_of_host(number: u64) -> Option<&'static str>
+    ensures { IsSome result ↔ IsNumberOf Area.Host number }
+{
+    match number.checked_sub(19) {
+        Some(behind) if behind > 0 => text_of(&HANDSHAKE, behind),
+        _ => text_of(&WIRE, number),
+    }
+}
 
 /// What a refusal of this area and number means, where it comes from, and what to do: two or three
 /// lines of at most 80 columns, the last one without a newline behind it.
@@ -13,17 +38,17 @@ pub fn explanation(area: Area, number: u64) -> Option<&'static str>
     ensures { IsSome result ↔ IsNumberOf area number }
 {
     match area {
-        Area::Journal => recordings::journal(number),
-        Area::Index => recordings::index(number),
-        Area::Replay => recordings::replay(number),
-        Area::Export => exports::export(number),
-        Area::Fbs => exports::fbs(number),
-        Area::Wire => peers::wire(number),
-        Area::Host => peers::host(number),
-        Area::Book => recordings::book(number),
-        Area::File => system::file(number),
-        Area::Net => system::net(number),
-        Area::Thread => system::thread(number),
+        Area::Journal => text_of(&JOURNAL, number),
+        Area::Index => text_of(&INDEX, number),
+        Area::Replay => text_of(&REPLAY, number),
+        Area::Export => text_of(&EXPORT, number),
+        Area::Fbs => text_of(&FBS, number),
+        Area::Wire => text_of(&WIRE, number),
+        Area::Host => text_of_host(number),
+        Area::Book => text_of(&BOOK, number),
+        Area::File => text_of(&FILE, number),
+        Area::Net => text_of(&NET, number),
+        Area::Thread => text_of(&THREAD, number),
     }
 }
 

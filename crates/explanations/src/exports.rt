@@ -1,10 +1,5 @@
 //! Refusals of an FBS file: written, or read.
 
-ghost use Rattle.std.specs.Prelude.{◌↔◌, IsSome};
-ghost use Rattle.explanations.specs.Areas.{IsNumberOf};
-
-use crate::area::Area;
-
 const NO_BLOCK: &str = "\
 The recording has no block FROM. OUT wasn't touched.
 Blocks count from 0, and `recorderd list PATH` prints a line for each: give FROM
@@ -66,34 +61,24 @@ const CANNOT_READ: &str = "\
 The FBS file can't be read to its end: the device failed, or it is a folder.
 This says nothing of what it holds. See to the device, or name another PATH.";
 
-/// The texts of `export`.
-pub fn export(number: u64) -> Option<&'static str>
-    ensures { IsSome result ↔ IsNumberOf Area.Export number }
-{
-    match number {
-        1 => Some(NO_BLOCK),
-        2 => Some(BAD_END),
-        3 => Some(DEVICE_FAILED),
-        4 => Some(NO_MEMORY_TO_EXPORT),
-        5 => Some(CANNOT_WRITE),
-        _ => None,
-    }
-}
+/// The texts of `export`, from 1 on.
+pub const EXPORT: [&str; 5] = [
+    NO_BLOCK,
+    BAD_END,
+    DEVICE_FAILED,
+    NO_MEMORY_TO_EXPORT,
+    CANNOT_WRITE,
+];
 
-/// The texts of `fbs`.
-pub fn fbs(number: u64) -> Option<&'static str>
-    ensures { IsSome result ↔ IsNumberOf Area.Fbs number }
-{
-    match number {
-        1 => Some(NO_FBS_FILE),
-        2 => Some(TRUNCATED),
-        3 => Some(OTHER_VERSION),
-        4 => Some(OTHER_SECURITY),
-        5 => Some(OTHER_FORMAT),
-        6 => Some(OTHER_SIZE),
-        7 => Some(BAD_MESSAGE),
-        8 => Some(NO_MEMORY_TO_READ),
-        9 => Some(CANNOT_READ),
-        _ => None,
-    }
-}
+/// The texts of `fbs`, from 1 on.
+pub const FBS: [&str; 9] = [
+    NO_FBS_FILE,
+    TRUNCATED,
+    OTHER_VERSION,
+    OTHER_SECURITY,
+    OTHER_FORMAT,
+    OTHER_SIZE,
+    BAD_MESSAGE,
+    NO_MEMORY_TO_READ,
+    CANNOT_READ,
+];

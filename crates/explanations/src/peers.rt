@@ -1,10 +1,5 @@
 //! Refusals of a host, or of its messages within an FBS file.
 
-ghost use Rattle.std.specs.Prelude.{◌↔◌, IsSome};
-ghost use Rattle.explanations.specs.Areas.{IsNumberOf};
-
-use crate::area::Area;
-
 const UNKNOWN_TYPE: &str = "\
 A message has a type that no message of a host has.
 The host, or what wrote the FBS file, keeps to another protocol or extension.
@@ -72,34 +67,24 @@ const TOO_LARGE: &str = "\
 The host's screen is too large: a side of more than 8,192, or more than 2^23
 pixels; or a side is 0. Set the screen to a smaller size at the host.";
 
-/// The texts of `wire`.
-pub fn wire(number: u64) -> Option<&'static str>
-    ensures { IsSome result ↔ IsNumberOf Area.Wire number }
-{
-    match number {
-        1 => Some(UNKNOWN_TYPE),
-        2 => Some(OUTSIDE_SCREEN),
-        3 => Some(ENCODING),
-        4 => Some(TOO_LONG),
-        5 => Some(BAD_RRE),
-        6 => Some(BAD_HEXTILE),
-        7 => Some(SOURCE_OUTSIDE),
-        8 => Some(BAD_FORMAT),
-        9 => Some(NO_MEMORY),
-        _ => None,
-    }
-}
+/// The texts of `wire`, from 1 on.
+pub const WIRE: [&str; 9] = [
+    UNKNOWN_TYPE,
+    OUTSIDE_SCREEN,
+    ENCODING,
+    TOO_LONG,
+    BAD_RRE,
+    BAD_HEXTILE,
+    SOURCE_OUTSIDE,
+    BAD_FORMAT,
+    NO_MEMORY,
+];
 
-/// The texts of `host`: those of a message, and those of the handshake.
-pub fn host(number: u64) -> Option<&'static str>
-    ensures { IsSome result ↔ IsNumberOf Area.Host number }
-{
-    match number {
-        20 => Some(OTHER_VERSION),
-        21 => Some(WANTS_PASSWORD),
-        22 => Some(REFUSED_BY_HOST),
-        23 => Some(SIZE_DIFFERS),
-        24 => Some(TOO_LARGE),
-        _ => wire(number),
-    }
-}
+/// The texts of `host` for the handshake, from 20 on.
+pub const HANDSHAKE: [&str; 5] = [
+    OTHER_VERSION,
+    WANTS_PASSWORD,
+    REFUSED_BY_HOST,
+    SIZE_DIFFERS,
+    TOO_LARGE,
+];

@@ -1,10 +1,5 @@
 //! Refusals of a recording: opened, made, read, or written.
 
-ghost use Rattle.std.specs.Prelude.{◌↔◌, IsSome};
-ghost use Rattle.explanations.specs.Areas.{IsNumberOf};
-
-use crate::area::Area;
-
 const NO_RECORDING: &str = "\
 The file isn't a recording; or bytes lie where a new one was to be made.
 It is another file, or an older version's creation was cut off. Nothing was
@@ -80,54 +75,20 @@ Memory ran out for a message of the host, so that nothing more is recorded.
 All that was committed is safe. Free memory or raise its limit, and start again:
 the recorder opens the recording and goes on.";
 
-/// The texts of `journal`.
-pub fn journal(number: u64) -> Option<&'static str>
-    ensures { IsSome result ↔ IsNumberOf Area.Journal number }
-{
-    match number {
-        1 => Some(NO_RECORDING),
-        2 => Some(DAMAGED),
-        3 => Some(DEVICE_FAILED),
-        4 => Some(NO_MEMORY_TO_OPEN),
-        _ => None,
-    }
-}
+/// The texts of `journal`, from 1 on.
+pub const JOURNAL: [&str; 4] = [NO_RECORDING, DAMAGED, DEVICE_FAILED, NO_MEMORY_TO_OPEN];
 
-/// The texts of `index`.
-pub fn index(number: u64) -> Option<&'static str>
-    ensures { IsSome result ↔ IsNumberOf Area.Index number }
-{
-    match number {
-        1 => Some(BAD_ENTRY),
-        2 => Some(BAD_MESSAGE),
-        3 => Some(KEY_DIFFERS),
-        4 => Some(TIMES_FALL),
-        5 => Some(NO_MEMORY_FOR_MESSAGES),
-        _ => None,
-    }
-}
+/// The texts of `index`, from 1 on.
+pub const INDEX: [&str; 5] = [
+    BAD_ENTRY,
+    BAD_MESSAGE,
+    KEY_DIFFERS,
+    TIMES_FALL,
+    NO_MEMORY_FOR_MESSAGES,
+];
 
-/// The texts of `replay`.
-pub fn replay(number: u64) -> Option<&'static str>
-    ensures { IsSome result ↔ IsNumberOf Area.Replay number }
-{
-    match number {
-        1 => Some(NOT_COMMITTED),
-        2 => Some(DEVICE_FAILED_AT_SCREEN),
-        3 => Some(NO_MEMORY_FOR_SCREEN),
-        _ => None,
-    }
-}
+/// The texts of `replay`, from 1 on.
+pub const REPLAY: [&str; 3] = [NOT_COMMITTED, DEVICE_FAILED_AT_SCREEN, NO_MEMORY_FOR_SCREEN];
 
-/// The texts of `book`.
-pub fn book(number: u64) -> Option<&'static str>
-    ensures { IsSome result ↔ IsNumberOf Area.Book number }
-{
-    match number {
-        1 => Some(BACKLOG),
-        2 => Some(FULL),
-        3 => Some(BROKEN),
-        4 => Some(NO_MEMORY_FOR_MESSAGE),
-        _ => None,
-    }
-}
+/// The texts of `book`, from 1 on.
+pub const BOOK: [&str; 4] = [BACKLOG, FULL, BROKEN, NO_MEMORY_FOR_MESSAGE];

@@ -1,7 +1,7 @@
 -- The bytes in front of a name, one by one.
 use Rattle.std.proofs.Common.{◌≡◌, ◌+◌, ℕ, List, [], ◌++◌, take, drop, sym, ap, ◌∙◌, arith, append_assoc, take-append-drop}
 use Rattle.std.proofs.Math.Seq.{take-add}
-use Rattle.pixel_format.specs.Reading.{Bad}
+use Rattle.terms.specs.Reading.{Bad}
 use Rattle.fbs_export.specs.declared.fault.FbsFault.{FbsFault}
 use Rattle.fbs_export.specs.declared.fault.FbsFault.TheVariants as faults
 use Rattle.fbs_export.specs.declared.judge.Announced.{Announced}

@@ -2,8 +2,8 @@
 use Rattle.std.proofs.Common.{◌≡◌, ◌<◌, ◌≤◌, ℕ, ◌+◌, List, [], ◌++◌, length, take, drop, refl, sym, ap, ◌∙◌, arith, append-nil, append_assoc, take-append-drop, length-drop, drop-drop, Result, Ok, Err}
 use Rattle.std.specs.Prelude.{Option, Some, None}
 use Rattle.std.proofs.lemmas.List.{length-take}
-use Rattle.pixel_format.specs.Reading.{Reading, More, Bad, ◌>>=◌, field}
-use Rattle.pixel_format.proofs.Readings.{field-whole, field-short}
+use Rattle.terms.specs.Reading.{Reading, More, Bad, ◌>>=◌, field}
+use Rattle.terms.proofs.Readings.{field-whole, field-short}
 use Rattle.fbs_export.specs.declared.fault.FbsFault.{FbsFault}
 use Rattle.fbs_export.specs.declared.fault.FbsFault.TheVariants as faults
 use Rattle.fbs_export.specs.declared.judge.Announced.{Announced}

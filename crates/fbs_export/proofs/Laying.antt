@@ -5,12 +5,12 @@ use Rattle.std.specs.List.{flat_map}
 use Rattle.std.specs.Io.KnownBytes.{Consumes}
 use Rattle.std.proofs.lemmas.Bool.{cases_lt, le-ltb, lt-ltb}
 use Rattle.std.proofs.lemmas.List.{take-append-le, drop-append-le, take_all, take_at, length-take, length-replicate}
-use Rattle.pixel_format.specs.Reading.{Got, More, field}
-use Rattle.pixel_format.proofs.Readings.{field-whole, field-short}
-use Rattle.pixel_format.specs.Number.{u32_at}
-use Rattle.client_wire.specs.Number.{u32_bytes}
+use Rattle.terms.specs.Reading.{Got, More, field}
+use Rattle.terms.proofs.Readings.{field-whole, field-short}
+use Rattle.terms.specs.Number.{u32_at}
+use Rattle.terms.specs.Number.{u32_bytes}
 use Rattle.client_wire.specs.Stream.{Part, bytes_of, IsPart}
-use Rattle.client_wire.specs.declared.fault.WireFault.{WireFault}
+use Rattle.terms.specs.declared.wire_fault.WireFault.{WireFault}
 use Rattle.client_wire.proofs.Streams.{flat_append, all_append}
 use Rattle.fbs_export.specs.declared.fault.FbsFault.{FbsFault}
 use Rattle.fbs_export.specs.declared.fault.FbsFault.TheVariants as faults

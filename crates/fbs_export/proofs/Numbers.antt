@@ -1,7 +1,7 @@
 -- Four bytes are the number that they spell.
 use Rattle.std.proofs.Common.{◌≡◌, ◌<◌, ◌/◌, ◌%◌, ℕ, List, [], ◌∷◌, length, slice_index, refl, arith}
-use Rattle.pixel_format.specs.Number.{u32_at}
-use Rattle.client_wire.specs.Number.{u32_bytes}
+use Rattle.terms.specs.Number.{u32_at}
+use Rattle.terms.specs.Number.{u32_bytes}
 
 pub number_bytes : (bytes : List ℕ) (n : ℕ) → length bytes ≡ 4 → ((i : ℕ) → slice_index bytes i < 256) → n ≡ u32_at bytes 0 → u32_bytes n ≡ bytes
 number_bytes [] n e small is = absurd (omega (arith, e))

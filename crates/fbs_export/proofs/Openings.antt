@@ -2,16 +2,18 @@
 use Rattle.std.proofs.Common.{◌≡◌, ◌≤◌, ℕ, ◌*◌, List, [], ◌++◌, length, true, refl, arith}
 use Rattle.std.proofs.lemmas.Bool.{lt-ltb}
 use Rattle.std.proofs.lemmas.List.{take_all}
-use Rattle.pixel_format.specs.Reading.{Got, More}
+use Rattle.terms.specs.Reading.{Got, More}
 use Rattle.pixel_format.specs.Format.{host_format}
 use Rattle.pixel_format.specs.Written.{format_bytes}
-use Rattle.pixel_format.proofs.Readings.{field-short, field-whole}
-use Rattle.pixel_format.specs.Number.{u16_at}
-use Rattle.client_wire.specs.Number.{u32_bytes}
+use Rattle.terms.proofs.Readings.{field-short, field-whole}
+use Rattle.terms.specs.Number.{u16_at}
+use Rattle.terms.specs.Number.{u32_bytes}
 use Rattle.rfb_wire.specs.Written.{two_bytes}
-use Rattle.gated_journal.specs.Recording.{Head, IsHead, IsSize}
+use Rattle.gated_journal.specs.Recording.{Head, IsHead}
 use Rattle.fbs_export.specs.declared.fault.FbsFault.{FbsFault}
-use Rattle.fbs_export.specs.Opening.{opening_at, security_then, size_then, format_then, name_at, named, is_size, is_host, version}
+use Rattle.terms.specs.Size.{IsSize}
+use Rattle.terms.proofs.Sizes.{size_is}
+use Rattle.fbs_export.specs.Opening.{opening_at, security_then, size_then, format_then, name_at, named, is_host, version}
 use Rattle.fbs_export.specs.Export.{opening_text}
 use Rattle.fbs_export.proofs.Blocks.{number_again}
 
@@ -34,16 +36,6 @@ format_is_read : (w h : ℕ) (name more : List ℕ) → length name ≤ 1024
 unfolding format_then
 format_is_read w h name more short =
     rw (field-whole {E = FbsFault} 16 (format_bytes host_format) (u32_bytes (length name) ++ (name ++ more)) refl, host_is_host) (name_is_read w h name more short)
-
-size_is : (w h : ℕ) → IsSize w h → is_size w h ≡ true
-size_is w h s =
-    rw (
-      lt-ltb 0 w (omega (arith, s.wide)),
-      lt-ltb w 8193 (omega (arith, s.not_wider)),
-      lt-ltb 0 h (omega (arith, s.high)),
-      lt-ltb h 8193 (omega (arith, s.not_higher)),
-      lt-ltb (w * h) 8388609 (omega (arith, s.area)),
-    ) refl
 
 first_number : (w h : ℕ) → u16_at (two_bytes w ++ two_bytes h) 0 ≡ w
 first_number w h = omega arith

@@ -5,7 +5,7 @@ use Rattle.std.proofs.Math.Nat.{mul-suc}
 use Rattle.std.proofs.lemmas.Bool.{le-leb}
 use Rattle.rect_data.specs.Grammar.{is_inside}
 use Rattle.std.specs.List.{flat_map, AllByRecursion}
-use Rattle.pixel_format.specs.Reading.{Got}
+use Rattle.terms.specs.Reading.{Got}
 use Rattle.pixel_format.specs.Canvas.{Picture}
 use Rattle.client_wire.specs.Stream.{Part, IsPart, bytes_of}
 use Rattle.rfb_wire.specs.Grammar.{message_at, message_limit, Message, Recorded}

@@ -4,7 +4,7 @@ use Rattle.std.specs.List.{flat_map, AllByRecursion}
 use Rattle.std.proofs.lemmas.Bool.{cases_lt}
 use Rattle.std.proofs.lemmas.List.{get_or-replicate, get_or_append_left, get_or-append_right, map-append, drop-replicate, drop-append-le, take-append-le, take_at, drop_all, drop-drop}
 use Rattle.std.proofs.Math.Seq.{drop-append-add}
-use Rattle.pixel_format.specs.Reading.{More}
+use Rattle.terms.specs.Reading.{More}
 use Rattle.client_wire.specs.Stream.{Part, bytes_of, IsPart, BeginsNone, given_of}
 use Rattle.client_wire.proofs.Streams.{waits_begins_none}
 use Rattle.rfb_wire.specs.Grammar.{message_at, message_limit, Message}

@@ -2,10 +2,10 @@
 use Rattle.std.specs.Prelude.{◌≡◌, ℕ, ◌-◌, ◌%◌, Bool, true, ◌&&◌, nat_eq, nat_lt, List, [], ◌∷◌, ◌++◌, length, take, drop, replicate, slice_index, if◌then◌else◌}
 use Rattle.std.specs.List.{flat_map}
 use Rattle.std.specs.Str.{bytes_eq}
-use Rattle.pixel_format.specs.Reading.{Reading, Got, More, ◌>>=◌, field}
-use Rattle.pixel_format.specs.Number.{u32_at}
+use Rattle.terms.specs.Reading.{Reading, Got, More, ◌>>=◌, field}
+use Rattle.terms.specs.Number.{u32_at}
 use Rattle.client_wire.specs.Stream.{Part, Reads}
-use Rattle.client_wire.specs.declared.fault.WireFault.{WireFault}
+use Rattle.terms.specs.declared.wire_fault.WireFault.{WireFault}
 
 -- the data of a block, whatever pads them, and the time behind them in milliseconds
 pub record Block : Type 0 where

@@ -7,7 +7,7 @@ use Rattle.pixel_format.specs.declared.Color.{Color}
 use Rattle.pixel_format.specs.Canvas.{Picture}
 use Rattle.pixel_format.specs.Format.{host_format}
 use Rattle.pixel_format.specs.Written.{format_bytes}
-use Rattle.client_wire.specs.Number.{u32_bytes}
+use Rattle.terms.specs.Number.{u32_bytes}
 use Rattle.rfb_wire.specs.Written.{two_bytes, raw_update_bytes, raw_rectangle}
 use Rattle.gated_journal.specs.Recording.{Head}
 use Rattle.keyed_entries.specs.declared.entry.Stamped.{Stamped}

@@ -14,9 +14,9 @@ fbs_number fbs.Version = 3
 fbs_number fbs.Security = 4
 fbs_number fbs.Format = 5
 fbs_number fbs.Size = 6
+fbs_number (fbs.Message f) = 7
 fbs_number fbs.NoMemory = 8
 fbs_number fbs.Read = 9
-fbs_number (fbs.Message f) = 7
 
 abbrev pub export_faults : List ExportFault
 export_faults = export.NoBlock ∷ export.BadEnd ∷ export.Device ∷ export.NoMemory ∷ export.Write ∷ []

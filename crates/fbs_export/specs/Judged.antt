@@ -1,6 +1,6 @@
 -- What is judged of the front of an opening.
 use Rattle.std.specs.Prelude.{◌≡◌, ◌<◌, ◌≤◌, ℕ, List, ◌++◌, length, drop, Option, Some, None, Result, Ok, Err}
-use Rattle.pixel_format.specs.Reading.{Reading, More, Bad}
+use Rattle.terms.specs.Reading.{Reading, More, Bad}
 use Rattle.fbs_export.specs.declared.fault.FbsFault.{FbsFault}
 use Rattle.fbs_export.specs.declared.fault.FbsFault.TheVariants as faults
 use Rattle.fbs_export.specs.declared.judge.Announced.{Announced}

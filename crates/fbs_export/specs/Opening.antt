@@ -1,10 +1,11 @@
 -- The opening of the stream of an FBS file: a version, a security type, and a ServerInit (RFC 6143,
 -- section 7.3.2) in the host format. Each part is judged once it is whole, in the order of the parts.
-use Rattle.std.specs.Prelude.{ℕ, ◌*◌, Bool, ◌&&◌, nat_eq, nat_lt, List, [], ◌∷◌, take, slice_index, slice_range}
+use Rattle.std.specs.Prelude.{ℕ, Bool, ◌&&◌, nat_eq, List, [], ◌∷◌, take, slice_index, slice_range}
 use Rattle.std.specs.Str.{bytes_eq}
-use Rattle.pixel_format.specs.Reading.{Reading, Got, ◌>>=◌, field, guard}
+use Rattle.terms.specs.Reading.{Reading, Got, ◌>>=◌, field, guard}
 use Rattle.pixel_format.specs.Written.{is_flag}
-use Rattle.pixel_format.specs.Number.{u16_at, u32_at}
+use Rattle.terms.specs.Number.{u16_at, u32_at}
+use Rattle.terms.specs.Size.{is_size}
 use Rattle.fbs_export.specs.declared.fault.FbsFault.{FbsFault}
 use Rattle.fbs_export.specs.declared.fault.FbsFault.TheVariants as faults
 
@@ -17,10 +18,6 @@ pub record Opening : Type 0 where
 -- 'RFB 003.003' and a newline
 abbrev pub version : List ℕ
 version = 82 ∷ 70 ∷ 66 ∷ 32 ∷ 48 ∷ 48 ∷ 51 ∷ 46 ∷ 48 ∷ 48 ∷ 51 ∷ 10 ∷ []
-
--- sides of 1 to 8,192, and an area of at most 2^23
-abbrev pub is_size : ℕ → ℕ → Bool
-is_size w h = nat_lt 0 w && nat_lt w 8193 && nat_lt 0 h && nat_lt h 8193 && nat_lt (w * h) 8388609
 
 -- of red, green and blue, each maximum in two bytes and each shift in one
 abbrev pub maxima_and_shifts : List ℕ

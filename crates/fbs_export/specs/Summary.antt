@@ -1,8 +1,8 @@
 -- What an FBS file says: a summary, or its first fault.
 use Rattle.std.specs.Prelude.{◌≡◌, ◌≢◌, ◌⊎◌, ℕ, ◌-◌, List, [], ◌∷◌, ◌++◌, length, take, drop, map, slice_index, false}
-use Rattle.pixel_format.specs.Reading.{Got, More, Bad}
+use Rattle.terms.specs.Reading.{Got, More, Bad}
 use Rattle.client_wire.specs.Stream.{Part, Reads, FaultOf}
-use Rattle.client_wire.specs.declared.fault.WireFault.{WireFault}
+use Rattle.terms.specs.declared.wire_fault.WireFault.{WireFault}
 use Rattle.rfb_wire.specs.Grammar.{message_at, message_limit, Message}
 use Rattle.rfb_wire.specs.Host.{Host}
 use Rattle.rfb_wire.specs.Stream.{given}

@@ -2,7 +2,7 @@
 
 ghost use Rattle.std.specs.Prelude.{◌≡◌, ◌≤◌, ◌<◌, [], ◌++◌, ℕ, List, false, length, take, IfSome, IfOk, IfErr, OnOk};
 ghost use Rattle.std.specs.Io.KnownBytes.{Consumes, IsAtEnd};
-ghost use Rattle.client_wire.specs.Number.{u32_bytes};
+ghost use Rattle.terms.specs.Number.{u32_bytes};
 ghost use Rattle.fbs_export.specs.Blocks.{is_start, is_digit as digit};
 ghost use Rattle.fbs_export.specs.Counted.{IsCounted};
 ghost use Rattle.fbs_export.specs.declared.fault.FbsFault.TheVariants.{Read as FbsRead};

@@ -15,13 +15,14 @@ use crate::fault::{ExportFault, Stop};
 use crate::judge::{NONE, VERSION};
 use crate::writing::{four_bytes, two_bytes, write_block, write_bytes};
 use disk::Disk;
-use gated_journal::{NoMemory, ReadFault};
+use gated_journal::ReadFault;
 use key_index::{Indexed, Stamped};
 use painter::Screen;
 use pixel_format::PixelFormat;
 use replay::{ReplayFault, from_block};
 use std::alloc::Global;
 use std::io::Write;
+use terms::NoMemory;
 
 /// The first bytes of a file.
 const START: [u8; 12] = *b"FBS 001.000\n";

@@ -5,8 +5,8 @@ ghost use Rattle.fbs_export.specs.Faults.{export_faults, fault_of, fbs_number};
 ghost use Rattle.fbs_export.specs.declared.fault.FbsFault.TheVariants.{NoMemory as FbsNoMemory};
 ghost use Rattle.fbs_export.specs.declared.fault.Stop.TheVariants.{NoMemory as StopNoMemory};
 
-use client_wire::WireFault;
 use std::alloc::AllocError;
+use terms::WireFault;
 use thiserror::Error;
 
 /// Why a file is refused: the fault that stands first in it, or what kept it from being read.

@@ -2,9 +2,10 @@
 
 ghost use Rattle.std.specs.Prelude.{◌≡◌, ◌≤◌, ◌↔◌, IsTrue, true, length, Ok};
 ghost use Rattle.fbs_export.specs.Judged.{IsJudged};
-ghost use Rattle.fbs_export.specs.Opening.{is_host, is_size, name_at, format_then, size_then, security_then, opening_at};
+ghost use Rattle.fbs_export.specs.Opening.{is_host, name_at, format_then, size_then, security_then, opening_at};
 
 use crate::fault::FbsFault;
+use terms::is_size;
 
 /// The version of a file's stream.
 pub const VERSION: [u8; 12] = *b"RFB 003.003\n";
@@ -38,17 +39,6 @@ fn is_host_format(format: &[u8]) -> bool
         return false;
     }
     &format[4..13] == MAXIMA_AND_SHIFTS.as_slice()
-}
-
-// Sides of 1 to 8,192, and an area of at most 2^23.
-fn is_allowed(width: u16, height: u16) -> bool
-    ensures { result ≡ is_size width height }
-{
-    0 < width
-        && width < 8_193
-        && 0 < height
-        && height < 8_193
-        && u32::from(width) * u32::from(height) < 8_388_609
 }
 
 fn judge_name(width: u16, height: u16, bytes: &[u8]) -> Option<Announced>
@@ -88,7 +78,7 @@ fn judge_size(bytes: &[u8]) -> Result<Option<Announced>, FbsFault>
     let (size, rest) = bytes.split_at(4);
     let width = u16::from_be_bytes([size[0], size[1]]);
     let height = u16::from_be_bytes([size[2], size[3]]);
-    if !is_allowed(width, height) {
+    if !is_size(width, height) {
         return Err(FbsFault::Size);
     }
     judge_format(width, height, rest)

@@ -1,14 +1,14 @@
 //! The opening of a stream, read in pieces.
 
 ghost use Rattle.std.specs.Prelude.{◌≡◌, ◌≤◌, ◌<◌, ◌++◌, [], ℕ, List, length, take, drop, None, IfOk, IfErr, IfSome, MatchOption};
-ghost use Rattle.pixel_format.specs.Reading.{More};
+ghost use Rattle.terms.specs.Reading.{More};
 ghost use Rattle.fbs_export.specs.Opening.{opening_at, named};
 ghost use Rattle.fbs_export.specs.Reader.{IsDataFault, IsInHead, IsInName, IsInOpening, IsOpened, name_in};
 
 use crate::fault::FbsFault;
 use crate::judge::{Announced, judge};
-use pixel_format::NoMemory;
 use std::alloc::Global;
+use terms::NoMemory;
 
 // Of a longer name the first bytes are kept.
 const NAME_LIMIT: usize = 1_024;

@@ -6,7 +6,7 @@ ghost use Rattle.keyed_entries.specs.declared.entry.Stamped.{Stamped};
 ghost use Rattle.fbs_export.specs.Opening.{opening_at};
 ghost use Rattle.fbs_export.specs.Reader.{IsDataFault, OfMessage, Stands};
 ghost use Rattle.fbs_export.specs.Told.{IsTold};
-ghost use Rattle.pixel_format.specs.Reading.{More};
+ghost use Rattle.terms.specs.Reading.{More};
 ghost use Rattle.rfb_wire.specs.Host.{Host};
 ghost use Rattle.rfb_wire.specs.Stream.{given};
 ghost use Rattle.rfb_wire.specs.Grammar.{message_at, message_limit};
@@ -14,10 +14,9 @@ ghost use Rattle.rfb_wire.specs.Grammar.{message_at, message_limit};
 use crate::fault::FbsFault;
 use crate::opening::OpeningReader;
 use crate::tally::Tally;
-use client_wire::WireFault;
-use pixel_format::NoMemory;
 use rfb_wire::{HostMessage, ServerReader};
 use std::alloc::Global;
+use terms::{NoMemory, WireFault};
 
 /// What is read of a stream: its opening, and once this is whole, the messages behind it, which a
 /// tally is told. Those of the block that comes wait for its time.

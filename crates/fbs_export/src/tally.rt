@@ -6,10 +6,10 @@ ghost use Rattle.rfb_wire.specs.Host.{Host};
 ghost use Rattle.fbs_export.specs.Summary.{at_time};
 
 use key_index::Stamped;
-use pixel_format::NoMemory;
 use rfb_wire::HostMessage;
 use std::alloc::{AllocError, Global};
 use std::mem;
+use terms::NoMemory;
 
 /// What is kept of messages that become whole one by one. Those that wait for their time get it
 /// together, all the same. After an error nothing is said of what it stands for.

@@ -6,7 +6,7 @@ ghost use Rattle.fbs_export.specs.Written.{WroteFront};
 ghost use Rattle.fbs_export.specs.declared.fault.Stop.TheVariants.{Write as StopWrite};
 ghost use Rattle.fbs_export.specs.Blocks.{padding_length};
 ghost use Rattle.fbs_export.specs.Export.{block_text};
-ghost use Rattle.client_wire.specs.Number.{u32_bytes};
+ghost use Rattle.terms.specs.Number.{u32_bytes};
 ghost use Rattle.rfb_wire.specs.Written.{two_bytes as u16_bytes};
 
 use crate::fault::Stop;

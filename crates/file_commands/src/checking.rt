@@ -1,8 +1,8 @@
 //! The commands `check` and `fbs-check`.
 
-use crate::progress::{Progress, Watched};
 use crate::recording::{open_file, open_recording};
 use crate::refusal::{Ended, Refusal, answer};
+use file_disk::{Progress, Watched};
 use std::fs::File;
 use std::io;
 use std::io::{BufReader, Write};

@@ -1,9 +1,9 @@
 //! The command `export`.
 
-use crate::progress::{Progress, Watched};
 use crate::recording::{open_file, open_recording};
 use crate::refusal::{Ended, Refusal, answer};
 use fbs_export::{ExportFault, first_exported};
+use file_disk::{Progress, Watched};
 use std::fs::{File, Metadata, OpenOptions};
 use std::io;
 use std::io::{BufWriter, Write};

@@ -1,9 +1,8 @@
 //! A recording that is kept in a new file.
 
-use crate::disk_of_file::FileDisk;
-use crate::folder::sync_folder;
 use crate::refusal::Refusal;
 use disk::Disk;
+use file_disk::{FileDisk, sync_folder};
 use std::fs::File;
 use std::rt::Files;
 

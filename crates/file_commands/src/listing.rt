@@ -1,9 +1,8 @@
 //! The command `list`.
 
-use crate::disk_of_file::FileDisk;
-use crate::progress::Progress;
 use crate::recording::{open_file, open_recording};
 use crate::refusal::{Ended, answer};
+use file_disk::{FileDisk, Progress};
 use key_index::Indexed;
 use std::fs::File;
 use std::io;

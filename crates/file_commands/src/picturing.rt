@@ -1,10 +1,9 @@
 //! The command `picture`.
 
-use crate::disk_of_file::FileDisk;
 use crate::exporting::open_out;
-use crate::progress::{Progress, Watched};
 use crate::recording::{open_file, open_recording};
 use crate::refusal::{Ended, Refusal, answer};
+use file_disk::{FileDisk, Progress, Watched};
 use gated_journal::ReadFault;
 use key_index::Indexed;
 use painter::Screen;

@@ -1,8 +1,7 @@
 //! A recording in a file, opened to be read.
 
-use crate::disk_of_file::FileDisk;
-use crate::progress::Progress;
 use crate::refusal::Refusal;
+use file_disk::{FileDisk, Progress};
 use key_index::Indexed;
 use std::alloc::Global;
 use std::fs::File;

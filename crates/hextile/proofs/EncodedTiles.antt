@@ -11,7 +11,7 @@ use Rattle.std.proofs.lemmas.Nat.{mul-add-lt, div-mul-add, mod-mul-add}
 use Rattle.pixel_format.specs.declared.Color.{Color}
 use Rattle.pixel_format.specs.Format.{Format}
 use Rattle.pixel_format.specs.Canvas.{black, nth, rows_of}
-use Rattle.pixel_format.specs.Appending.{Appends}
+use Rattle.terms.specs.Appending.{Appends}
 use Rattle.pixel_format.proofs.Covering.{in_is}
 use Rattle.hextile.specs.declared.writing.Known.{Known}
 use Rattle.hextile.specs.Tiles.{tile_count, tile_number, tile_left, tile_top, tile_width, tile_height}

@@ -6,7 +6,7 @@ use Rattle.std.proofs.lemmas.List.{length-take-le, length-drop, take-append-drop
 use Rattle.pixel_format.specs.declared.Color.{Color}
 use Rattle.pixel_format.specs.Format.{Format, pixel_bytes}
 use Rattle.pixel_format.specs.Pixel.{pixel_color, ArePixels}
-use Rattle.pixel_format.proofs.Readings.{one_number}
+use Rattle.terms.proofs.Readings.{one_number}
 use Rattle.hextile.specs.declared.fields.Subrectangle.{Subrectangle}
 use Rattle.hextile.specs.declared.fields.Mask.{Mask}
 use Rattle.hextile.specs.declared.fields.Named.{Named}

@@ -5,7 +5,7 @@ use Rattle.std.proofs.Math.Nat.{zero-div, zero-mod}
 use Rattle.pixel_format.specs.declared.Color.{Color}
 use Rattle.pixel_format.specs.Format.{Channel, Format, pixel_bytes}
 use Rattle.pixel_format.specs.Pixel.{pixel_number, channel_value, pixel_color}
-use Rattle.pixel_format.proofs.Readings.{true_or_false}
+use Rattle.terms.proofs.Readings.{true_or_false}
 use Rattle.hextile.specs.Grammar.{color_if}
 
 no_number : (f : Format) → pixel_number f [] ≡ 0

@@ -7,8 +7,8 @@ use Rattle.pixel_format.specs.declared.Color.{Color}
 use Rattle.pixel_format.specs.Format.{Format, pixel_bytes}
 use Rattle.pixel_format.specs.Pixel.{pixel_color}
 use Rattle.pixel_format.specs.Canvas.{Picture, covers, filled, laid_over, pixel_in, pixel_rows, Agree, black}
-use Rattle.pixel_format.specs.Reading.{Got, ◌>>=◌, field, guard}
-use Rattle.pixel_format.proofs.Readings.{bind_got, guard_got, field_got}
+use Rattle.terms.specs.Reading.{Got, ◌>>=◌, field, guard}
+use Rattle.terms.proofs.Readings.{bind_got, guard_got, field_got}
 use Rattle.pixel_format.proofs.PixelsLaid.{within_area}
 use Rattle.pixel_format.proofs.Covering.{in_is, shifted, part_outside}
 use Rattle.hextile.specs.declared.fields.Subrectangle.{Subrectangle}

@@ -5,8 +5,8 @@ use Rattle.std.proofs.lemmas.List.{get_or-take, take_rest}
 use Rattle.pixel_format.specs.declared.Color.{Color}
 use Rattle.pixel_format.specs.Format.{Format, pixel_bytes}
 use Rattle.pixel_format.specs.Canvas.{Picture, covers, filled, Agree, laid_over, pixel_rows}
-use Rattle.pixel_format.specs.Reading.{Got, ◌>>=◌, field, guard}
-use Rattle.pixel_format.proofs.Readings.{bind_got, guard_got, field_got}
+use Rattle.terms.specs.Reading.{Got, ◌>>=◌, field, guard}
+use Rattle.terms.proofs.Readings.{bind_got, guard_got, field_got}
 use Rattle.hextile.specs.declared.fields.Subrectangle.{Subrectangle}
 use Rattle.hextile.specs.declared.fields.Mask.{Mask}
 use Rattle.hextile.specs.declared.fields.Named.{Named}

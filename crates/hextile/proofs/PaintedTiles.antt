@@ -5,8 +5,8 @@ use Rattle.std.proofs.lemmas.Bool.{cases_Bool, cases_eq, cases_lt, lt-ltb, le-lt
 use Rattle.std.proofs.lemmas.List.{append-nil}
 use Rattle.pixel_format.specs.Format.{Format}
 use Rattle.pixel_format.specs.Canvas.{Picture, covers, Agree, black, laid_over}
-use Rattle.pixel_format.specs.Reading.{Got, ◌>>=◌}
-use Rattle.pixel_format.proofs.Readings.{bind_got}
+use Rattle.terms.specs.Reading.{Got, ◌>>=◌}
+use Rattle.terms.proofs.Readings.{bind_got}
 use Rattle.pixel_format.proofs.Covering.{in_is, shifted, part_outside}
 use Rattle.hextile.specs.declared.fields.Named.{Named}
 use Rattle.hextile.specs.declared.painting.TileColors.{TileColors}

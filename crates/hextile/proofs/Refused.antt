@@ -3,11 +3,11 @@
 use Rattle.std.proofs.Common.{◌≡◌, ℕ, zero, suc, ◌+◌, ◌-◌, ◌*◌, ◌<◌, ◌⊎◌, inl, inr, Bool, true, false, List, [], ◌∷◌, ◌++◌, length, refl, sym, ap, ◌∙◌, subst, arith, append_assoc, cond, Err}
 use Rattle.std.specs.Prelude.{slice_index}
 use Rattle.pixel_format.specs.Format.{Format, pixel_bytes}
-use Rattle.pixel_format.specs.Reading.{Got, Bad, ◌>>=◌, field, guard}
-use Rattle.pixel_format.proofs.Readings.{field_got, field-whole, true_or_false, field_front, one_number}
-use Rattle.pixel_format.proofs.Refusals.{bind_bad, field_never_bad, got_never_bad, guard_bad}
-use Rattle.pixel_format.proofs.Measured.{measured_bad}
-use Rattle.pixel_format.proofs.Listed.{StopsIn, stops_here, stops_behind}
+use Rattle.terms.specs.Reading.{Got, Bad, ◌>>=◌, field, guard}
+use Rattle.terms.proofs.Readings.{field_got, field-whole, true_or_false, field_front, one_number}
+use Rattle.terms.proofs.Refusals.{bind_bad, field_never_bad, got_never_bad, guard_bad}
+use Rattle.terms.proofs.Measured.{measured_bad}
+use Rattle.terms.proofs.Listed.{StopsIn, stops_here, stops_behind}
 use Rattle.hextile.specs.declared.fields.Subrectangle.{Subrectangle}
 use Rattle.hextile.specs.declared.fields.Named.{Named}
 use Rattle.hextile.specs.declared.fault.Measure.TheVariants as answers

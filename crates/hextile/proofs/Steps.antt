@@ -4,8 +4,8 @@ use Rattle.std.specs.Prelude.{slice_index, is_some}
 use Rattle.std.proofs.lemmas.Bool.{le-ltb}
 use Rattle.std.proofs.lemmas.List.{take-append-drop, take_at, take_rest, length-drop, length-append, append-nil}
 use Rattle.pixel_format.specs.Format.{Format, pixel_bytes}
-use Rattle.pixel_format.specs.Reading.{Reading, Got, More, Bad, ◌>>=◌, field, guard}
-use Rattle.pixel_format.proofs.Readings.{field-whole, field-short}
+use Rattle.terms.specs.Reading.{Reading, Got, More, Bad, ◌>>=◌, field, guard}
+use Rattle.terms.proofs.Readings.{field-whole, field-short}
 use Rattle.hextile.specs.declared.fields.Mask.{Mask}
 use Rattle.hextile.specs.declared.fields.Named.{Named}
 use Rattle.hextile.specs.declared.fields.Subrectangle.{Subrectangle}

@@ -4,10 +4,10 @@ use Rattle.std.specs.Prelude.{slice_index}
 use Rattle.std.proofs.lemmas.List.{append-nil}
 use Rattle.pixel_format.specs.declared.Color.{Color}
 use Rattle.pixel_format.specs.Format.{Format, pixel_bytes}
-use Rattle.pixel_format.specs.Reading.{Got, Bad, ◌>>=◌, field, guard}
-use Rattle.pixel_format.proofs.Readings.{bind_got, guard_got, field_got, field-whole, true_or_false, field_front, one_number}
-use Rattle.pixel_format.proofs.Measured.{Front}
-use Rattle.pixel_format.proofs.Listed.{ListRead, none_read, one_more_read}
+use Rattle.terms.specs.Reading.{Got, Bad, ◌>>=◌, field, guard}
+use Rattle.terms.proofs.Readings.{bind_got, guard_got, field_got, field-whole, true_or_false, field_front, one_number}
+use Rattle.terms.proofs.Measured.{Front}
+use Rattle.terms.proofs.Listed.{ListRead, none_read, one_more_read}
 use Rattle.hextile.specs.declared.fields.Subrectangle.{Subrectangle}
 use Rattle.hextile.specs.declared.fields.Mask.{Mask}
 use Rattle.hextile.specs.declared.fields.Named.{Named}

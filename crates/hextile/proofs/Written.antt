@@ -6,8 +6,8 @@ use Rattle.std.proofs.lemmas.List.{append-nil, take_more, map-append}
 use Rattle.pixel_format.specs.declared.Color.{Color}
 use Rattle.pixel_format.specs.Format.{Format}
 use Rattle.pixel_format.specs.Pixel.{IsPixel, ArePixels}
-use Rattle.pixel_format.specs.Appending.{Appends}
-use Rattle.pixel_format.proofs.Appends.{joined}
+use Rattle.terms.specs.Appending.{Appends}
+use Rattle.terms.proofs.Appends.{joined}
 use Rattle.hextile.specs.declared.fields.Mask.{Mask}
 use Rattle.hextile.specs.declared.fields.Subrectangle.{Subrectangle}
 use Rattle.hextile.specs.declared.cover.Part.{Part}

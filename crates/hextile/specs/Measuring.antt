@@ -1,7 +1,7 @@
 -- What is left of data that are judged field by field.
 use Rattle.std.specs.Prelude.{ℕ, suc, ◌-◌, ◌*◌, List, Option, Some, None, Result, Bool, ◌||◌}
 use Rattle.pixel_format.specs.Format.{Format, pixel_bytes}
-use Rattle.pixel_format.specs.Reading.{Reading, Got, ◌>>=◌, field, measured_as}
+use Rattle.terms.specs.Reading.{Reading, Got, ◌>>=◌, field, measured_as}
 use Rattle.hextile.specs.declared.fields.Mask.{Mask}
 use Rattle.hextile.specs.declared.fields.Named.{Named}
 use Rattle.hextile.specs.declared.fault.Measure.{Measure}

@@ -3,7 +3,7 @@ use Rattle.std.specs.Prelude.{◌≡◌, ℕ, ◌+◌, Bool, List, [], ◌∷◌
 use Rattle.pixel_format.specs.declared.Color.{Color}
 use Rattle.pixel_format.specs.Format.{Format}
 use Rattle.pixel_format.specs.Canvas.{Picture, covers, Agree}
-use Rattle.pixel_format.specs.Reading.{Got}
+use Rattle.terms.specs.Reading.{Got}
 use Rattle.hextile.specs.declared.fields.Mask.{Mask}
 use Rattle.hextile.specs.declared.fields.Named.{Named}
 use Rattle.hextile.specs.declared.fields.Subrectangle.{Subrectangle}

@@ -2,7 +2,7 @@
 
 ghost use Rattle.std.specs.Prelude.{◌≡◌, ℕ, List, ◌+◌, ◌*◌, ◌<◌, ◌≤◌, All, IsTrue, IfSome, IfOk, OnOk, OnErr, length, Some, None};
 ghost use Rattle.pixel_format.specs.Pixel.{IsWithin};
-ghost use Rattle.pixel_format.specs.Appending.{Appends, Grows};
+ghost use Rattle.terms.specs.Appending.{Appends, Grows};
 ghost use Rattle.hextile.specs.declared.cover.Part.{Part};
 ghost use Rattle.hextile.specs.Grammar.{Tile};
 ghost use Rattle.hextile.specs.Encoded.{IsMaskFor, known_behind, IsKnown, ShowsTile, Shows};
@@ -11,7 +11,8 @@ use crate::cover::{Part, Parts, cover, most_voted, tile_colors};
 use crate::fields::{Mask, pixel_size};
 use crate::position::{count_tiles, tile_area};
 use crate::writing::{Known, append_parts_tile, append_raw_tile};
-use pixel_format::{Color, NoMemory, PixelFormat, same, whole_or_none};
+use pixel_format::{Color, PixelFormat, same};
+use terms::{NoMemory, whole_or_none};
 
 const NOTHING_KNOWN: Known = Known {
     background: None,

@@ -2,7 +2,7 @@
 
 ghost use Rattle.std.specs.Prelude.{◌≡◌, ◌↔◌, ℕ, List, [], ◌++◌};
 ghost use Rattle.pixel_format.specs.Format.{Format};
-ghost use Rattle.pixel_format.specs.Reading.{Got};
+ghost use Rattle.terms.specs.Reading.{Got};
 ghost use Rattle.hextile.specs.Grammar.{Tile, data_at};
 ghost use Rattle.hextile.specs.Data.{IsData};
 

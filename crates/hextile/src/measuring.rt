@@ -27,7 +27,7 @@ pub enum Measuring {
 }
 
 ghost use Rattle.std.specs.Prelude.{◌↔◌, ℕ, ◌+◌, ◌++◌, suc, List, length, take, IfOk, IfErr, IfSome, Ok, Err, None};
-ghost use Rattle.pixel_format.specs.Reading.{Bad};
+ghost use Rattle.terms.specs.Reading.{Bad};
 ghost use Rattle.pixel_format.specs.Format.{Format};
 ghost use Rattle.hextile.specs.Grammar.{Refused, mask_of, head_bytes, subrectangle_bytes, tiles_at, data_at};
 ghost use Rattle.hextile.specs.Data.{AreData, IsRefused};

@@ -4,7 +4,7 @@ ghost use Rattle.std.specs.Prelude.{◌≡◌, ℕ, List, ◌<◌, ◌≤◌, �
 ghost use Rattle.pixel_format.specs.Format.{pixel_bytes};
 ghost use Rattle.pixel_format.specs.Pixel.{pixel_color};
 ghost use Rattle.pixel_format.specs.Canvas.{laid_over, pixel_rows, Agree};
-ghost use Rattle.pixel_format.specs.Reading.{Got};
+ghost use Rattle.terms.specs.Reading.{Got};
 ghost use Rattle.hextile.specs.declared.fields.Subrectangle.{Subrectangle};
 ghost use Rattle.hextile.specs.declared.fields.Named.{Named};
 ghost use Rattle.hextile.specs.Grammar.{Tile, pixel_if, color_if, head_bytes, subrectangles_at, tile_at};

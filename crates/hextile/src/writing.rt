@@ -3,7 +3,7 @@
 ghost use Rattle.std.specs.Prelude.{◌≡◌, ℕ, ◌+◌, ◌*◌, ◌<◌, ◌≤◌, [], ◌∷◌, ◌++◌, length, map, All, OnOk, if◌then◌else◌};
 ghost use Rattle.pixel_format.specs.Format.{pixel_bytes};
 ghost use Rattle.pixel_format.specs.Pixel.{IsWithin, pixel_of};
-ghost use Rattle.pixel_format.specs.Appending.{Appends, Grows};
+ghost use Rattle.terms.specs.Appending.{Appends, Grows};
 ghost use Rattle.std.specs.List.{flat_map};
 ghost use Rattle.hextile.specs.Grammar.{mask_of};
 ghost use Rattle.hextile.specs.Data.{IsPixelIf, AreBytesOf, AreSubrectangles, IsHead, AreRaw};
@@ -11,7 +11,8 @@ ghost use Rattle.hextile.specs.Encoded.{shown_if, drawn, pixel_if, part_bytes, m
 
 use crate::cover::Part;
 use crate::fields::Mask;
-use pixel_format::{Color, NoMemory, PixelFormat};
+use pixel_format::{Color, PixelFormat};
+use terms::NoMemory;
 
 /// The colours that the tiles behind a tile need not name again.
 #[derive(Clone, Copy)]

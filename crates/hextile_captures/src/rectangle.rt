@@ -6,7 +6,7 @@ ghost use Rattle.hextile.specs.Data.{AreData};
 
 use hextile::{Measure, measure, paint};
 use pixel_format::{Color, PixelFormat};
-use wire_tests::{HEIGHT, Sheet, WIDTH, hextile_in_pieces};
+use wire_tests::{HEIGHT, TestCanvas, WIDTH, hextile_in_pieces};
 
 const BLACK: Color = Color { r: 0, g: 0, b: 0 };
 
@@ -54,7 +54,7 @@ impl Rectangle<'_> {
         requires columns { self.now.w ≤ 320 }
         requires rows { self.now.h ≤ 120 }
     {
-        let mut sheet = Sheet::new(BLACK);
+        let mut test_canvas = TestCanvas::new(BLACK);
         paint(
             &PixelFormat::host(),
             0,
@@ -62,12 +62,12 @@ impl Rectangle<'_> {
             self.w,
             self.h,
             self.bytes,
-            &mut sheet,
+            &mut test_canvas,
         );
         let mut sum = 0u32;
         for y in 0..self.h {
             for x in 0..self.w {
-                let color = sheet.color(x, y);
+                let color = test_canvas.color(x, y);
                 let number = ((color.r as u32) << 16) | ((color.g as u32) << 8) | color.b as u32;
                 sum = sum.wrapping_mul(31).wrapping_add(number).wrapping_add(1);
             }

@@ -2,8 +2,9 @@
 
 ghost use Rattle.std.specs.Prelude.{◌<◌};
 
-use rfb_wire::{HostMessage, ServerReader, WireFault};
+use rfb_wire::{HostMessage, ServerReader};
 use std::alloc::Global;
+use terms::WireFault;
 
 /// The width of the screens.
 pub(crate) const WIDTH: u16 = 320;

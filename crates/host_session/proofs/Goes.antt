@@ -4,13 +4,13 @@ use Rattle.std.specs.Prelude.{min, Option}
 use Rattle.std.specs.Str.{bytes_eq}
 use Rattle.std.proofs.lemmas.Bool.{ltb-true, ltb-false, le-ltb, lt-ltb}
 use Rattle.std.proofs.Math.Seq.{drop-append-add}
-use Rattle.pixel_format.specs.Reading.{Got, More, Bad, field}
-use Rattle.pixel_format.proofs.Readings.{field-whole, field-short, true_or_false}
+use Rattle.terms.specs.Reading.{Got, More, Bad, field}
+use Rattle.terms.proofs.Readings.{field-whole, field-short, true_or_false}
 use Rattle.host_session.specs.declared.fault.HostFault.TheVariants as faults
 use Rattle.host_session.specs.declared.stage.Stage.{Stage}
 use Rattle.host_session.specs.declared.stage.Stage.TheVariants as stages
-use Rattle.pixel_format.specs.Talk.{Talk, silent, say, hear}
-use Rattle.pixel_format.specs.Number.{u16_at, u32_at}
+use Rattle.terms.specs.Talk.{Talk, silent, say, hear}
+use Rattle.terms.specs.Number.{u16_at, u32_at}
 use Rattle.host_session.specs.Handshake.{Told, Refusal, version, text_limit, offers_security_none, reason_at, failure_at, rest_of_name, name_at, head_at, sized, size_at, judged, outcome_at, offered, types_at, counted, count_at, versioned, handshake_at, first_requests}
 use Rattle.host_session.specs.Stage.{wants_of, resume}
 

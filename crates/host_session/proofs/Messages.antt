@@ -2,9 +2,9 @@
 use Rattle.std.proofs.Common.{◌≡◌, ℕ, List, ◌++◌, length, drop, refl, ap, ◌∙◌}
 use Rattle.std.specs.Prelude.{Result, Ok, Err, OnOk, IfErr, None}
 use Rattle.std.proofs.lemmas.List.{drop_at}
-use Rattle.client_wire.specs.declared.fault.WireFault.{WireFault}
-use Rattle.client_wire.specs.declared.fault.WireFault.TheVariants as faults
-use Rattle.client_wire.specs.Fault.{UnlessMemory}
+use Rattle.terms.specs.declared.wire_fault.WireFault.{WireFault}
+use Rattle.terms.specs.declared.wire_fault.WireFault.TheVariants as faults
+use Rattle.terms.specs.Fault.{UnlessMemory}
 use Rattle.client_wire.specs.Stream.{StandsFor, Gives, Goes, Stops, given_of}
 use Rattle.rfb_wire.specs.Grammar.{message_at}
 use Rattle.rfb_wire.specs.Host.{Host}

@@ -1,9 +1,9 @@
 -- A stream is one conversation.
 use Rattle.std.proofs.Common.{◌≡◌, ℕ, List, ◌++◌, refl, sym, ap, ◌∙◌, subst}
 use Rattle.std.specs.Prelude.{Option, None, Some}
-use Rattle.pixel_format.specs.Reading.{Reading, More, Bad}
-use Rattle.pixel_format.specs.Talk.{Talk}
-use Rattle.client_wire.specs.declared.fault.WireFault.{WireFault}
+use Rattle.terms.specs.Reading.{Reading, More, Bad}
+use Rattle.terms.specs.Talk.{Talk}
+use Rattle.terms.specs.declared.wire_fault.WireFault.{WireFault}
 use Rattle.client_wire.specs.Stream.{Reads, BeginsNone, given_of}
 use Rattle.client_wire.proofs.Streams.{one_reading, waits_begins_none, fault_begins_none}
 use Rattle.rfb_wire.specs.Grammar.{message_at}

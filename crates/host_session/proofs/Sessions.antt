@@ -2,10 +2,10 @@
 use Rattle.std.proofs.Common.{◌≡◌, ℕ, List, [], ◌++◌, take, drop, refl, sym, ap, ◌∙◌, subst, append_assoc, arith, length-append}
 use Rattle.std.specs.Prelude.{Result, Ok, Err, OnOk, IfErr, Option, None, Some}
 use Rattle.std.proofs.lemmas.List.{append-nil, take-append-drop, append_cancel_left}
-use Rattle.pixel_format.specs.Reading.{Reading, More}
-use Rattle.pixel_format.specs.Talk.{say, silent}
-use Rattle.pixel_format.proofs.Readings.{field-short}
-use Rattle.client_wire.specs.declared.fault.WireFault.{WireFault}
+use Rattle.terms.specs.Reading.{Reading, More}
+use Rattle.terms.specs.Talk.{say, silent}
+use Rattle.terms.proofs.Readings.{field-short}
+use Rattle.terms.specs.declared.wire_fault.WireFault.{WireFault}
 use Rattle.client_wire.specs.Stream.{Gives}
 use Rattle.client_wire.proofs.Streams.{gives_then, gives_none, flat_append}
 use Rattle.rfb_wire.specs.Grammar.{message_at}

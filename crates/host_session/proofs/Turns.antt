@@ -11,9 +11,9 @@ use Rattle.host_session.specs.declared.stage.Position.TheVariants as positions
 use Rattle.host_session.specs.Fault.{UnlessMemory}
 use Rattle.host_session.specs.Stage.{position_at, resume, failed, Leads, Ends, Fails}
 use Rattle.host_session.specs.Take.{Says}
-use Rattle.pixel_format.specs.Talk.{Talk, say, silent}
+use Rattle.terms.specs.Talk.{Talk, say, silent}
 use Rattle.host_session.specs.Handshake.{Told, Refusal}
-use Rattle.pixel_format.specs.Reading.{Got}
+use Rattle.terms.specs.Reading.{Got}
 
 pub unless_memory : (f : HostFault) (P : Type 0) → P → UnlessMemory f P
 unless_memory (faults.Wire f) P p = unless_wire_memory f P p

@@ -1,7 +1,7 @@
 -- What a session with a host has done, in the words of the host's stream alone.
 use Rattle.std.specs.Prelude.{◌≡◌, ℕ, List, [], ◌++◌, Option, None, Some}
-use Rattle.pixel_format.specs.Reading.{Got, More, Bad}
-use Rattle.client_wire.specs.declared.fault.WireFault.{WireFault}
+use Rattle.terms.specs.Reading.{Got, More, Bad}
+use Rattle.terms.specs.declared.wire_fault.WireFault.{WireFault}
 use Rattle.client_wire.specs.Stream.{Part, Reads, given_of}
 use Rattle.rfb_wire.specs.Grammar.{Message, message_at}
 use Rattle.rfb_wire.specs.Host.{Host}

@@ -1,15 +1,16 @@
 -- The handshake of a host's stream, as it is heard and answered (RFC 6143, sections 7.1 to 7.3, in
 -- version 3.8).
-use Rattle.std.specs.Prelude.{ℕ, ◌-◌, ◌*◌, min, List, [], ◌∷◌, ◌++◌, slice_index, nat_eq, nat_le, Bool, true, false, ◌&&◌, ◌||◌, Option, Some, None, if◌then◌else◌}
+use Rattle.std.specs.Prelude.{ℕ, ◌-◌, ◌*◌, min, List, [], ◌∷◌, ◌++◌, slice_index, nat_eq, Bool, true, false, ◌&&◌, ◌||◌, Option, Some, None, if◌then◌else◌}
 use Rattle.std.specs.Str.{bytes_eq}
 use Rattle.pixel_format.specs.Format.{host_format}
-use Rattle.pixel_format.specs.Reading.{Got, Bad, field}
-use Rattle.client_wire.specs.declared.message.Area.{Area}
+use Rattle.terms.specs.Reading.{Got, Bad, field}
+use Rattle.terms.specs.declared.area.Area.{Area}
 use Rattle.client_wire.specs.Written.{set_pixel_format_bytes, request_bytes}
 use Rattle.host_session.specs.declared.fault.HostFault.{HostFault}
 use Rattle.host_session.specs.declared.fault.HostFault.TheVariants as faults
-use Rattle.pixel_format.specs.Talk.{Talk, silent, say, hear}
-use Rattle.pixel_format.specs.Number.{u16_at, u32_at}
+use Rattle.terms.specs.Talk.{Talk, silent, say, hear}
+use Rattle.terms.specs.Number.{u16_at, u32_at}
+use Rattle.terms.specs.Size.{is_size}
 
 -- what a host says of its screen
 pub record Told : Type 0 where
@@ -32,10 +33,6 @@ version = 82 ∷ 70 ∷ 66 ∷ 32 ∷ 48 ∷ 48 ∷ 51 ∷ 46 ∷ 48 ∷ 48 ∷ 
 -- of names and reasons the first so many bytes are kept
 abbrev pub text_limit : ℕ
 text_limit = 1024
-
--- the sizes that are taken
-abbrev pub is_allowed : ℕ → ℕ → Bool
-is_allowed width height = (nat_le 1 width && nat_le width 8192) && ((nat_le 1 height && nat_le height 8192) && nat_le (width * height) 8388608)
 
 -- the size that is expected, where one is
 abbrev pub is_expected : Option (ℕ × ℕ) → ℕ → ℕ → Bool
@@ -84,7 +81,7 @@ head_at width height bytes = hear (field 20 bytes) (λ f rest. name_at width hei
 -- a size, and what follows
 abbrev pub sized : Option (ℕ × ℕ) → ℕ → ℕ → List ℕ → Talk Told Refusal
 sized expected width height rest =
-    if is_allowed width height then (if is_expected expected width height then head_at width height rest else refused faults.SizeDiffers)
+    if is_size width height then (if is_expected expected width height then head_at width height rest else refused faults.SizeDiffers)
     else refused faults.TooLarge
 
 -- ServerInit: width, height, format, name (section 7.3.2)

@@ -1,5 +1,5 @@
-pub use Rattle.pixel_format.specs.Reading
-pub use Rattle.pixel_format.specs.Talk
+pub use Rattle.terms.specs.Reading
+pub use Rattle.terms.specs.Talk
 pub mod Fault
 pub mod Handshake
 pub mod Stage

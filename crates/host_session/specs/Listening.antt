@@ -1,7 +1,7 @@
 -- What becomes of a piece behind a host's handshake.
 use Rattle.std.specs.Prelude.{◌≡◌, ℕ, List, [], ◌++◌}
-use Rattle.pixel_format.specs.Reading.{More, Bad}
-use Rattle.client_wire.specs.declared.fault.WireFault.{WireFault}
+use Rattle.terms.specs.Reading.{More, Bad}
+use Rattle.terms.specs.declared.wire_fault.WireFault.{WireFault}
 use Rattle.client_wire.specs.Stream.{Gives, StandsFor}
 use Rattle.rfb_wire.specs.Grammar.{message_at}
 use Rattle.rfb_wire.specs.Host.{Host}

@@ -2,8 +2,8 @@
 -- update of more than `limit` bytes is refused.
 use Rattle.std.specs.Prelude.{◌≡◌, ℕ, List, [], ◌++◌, true, Option, None, Some, if◌then◌else◌}
 use Rattle.std.specs.List.{flat_map}
-use Rattle.pixel_format.specs.Reading.{More, Bad}
-use Rattle.client_wire.specs.declared.fault.WireFault.{WireFault}
+use Rattle.terms.specs.Reading.{More, Bad}
+use Rattle.terms.specs.declared.wire_fault.WireFault.{WireFault}
 use Rattle.client_wire.specs.Stream.{Gives, StandsFor}
 use Rattle.client_wire.specs.Written.{request_bytes}
 use Rattle.rfb_wire.specs.Grammar.{message_at}

@@ -1,6 +1,6 @@
 -- Where a session stands in a host's handshake.
 use Rattle.std.specs.Prelude.{◌≡◌, ℕ, ◌<◌, ◌≤◌, ◌^◌, min, List, [], ◌∷◌, ◌++◌, length, Option}
-use Rattle.pixel_format.specs.Reading.{Got, Bad}
+use Rattle.terms.specs.Reading.{Got, Bad}
 use Rattle.host_session.specs.declared.fault.HostFault.{HostFault}
 use Rattle.host_session.specs.declared.fault.HostFault.TheVariants as faults
 use Rattle.host_session.specs.declared.stage.Stage.{Stage}
@@ -10,7 +10,7 @@ use Rattle.host_session.specs.declared.stage.Position.TheVariants as positions
 use Rattle.host_session.specs.declared.stage.Answer.{Answer}
 use Rattle.host_session.specs.declared.stage.AfterField.{AfterField}
 use Rattle.host_session.specs.declared.stage.Answer.TheVariants as answers
-use Rattle.pixel_format.specs.Talk.{Talk, silent, say}
+use Rattle.terms.specs.Talk.{Talk, silent, say}
 use Rattle.host_session.specs.Handshake.{Told, Refusal, text_limit, version, handshake_at, count_at, types_at, outcome_at, failure_at, reason_at, size_at, head_at, name_at, rest_of_name}
 
 -- how many bytes of the field are kept

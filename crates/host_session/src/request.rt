@@ -4,9 +4,10 @@ ghost use Rattle.std.specs.Prelude.{◌≡◌, List, ◌++◌, OnOk};
 ghost use Rattle.host_session.specs.Handshake.{first_requests, whole as whole_area};
 ghost use Rattle.host_session.specs.Session.{requests_after};
 
-use client_wire::{Area, write_request, write_set_encodings, write_set_pixel_format};
-use pixel_format::{NoMemory, PixelFormat};
+use client_wire::{write_request, write_set_encodings, write_set_pixel_format};
+use pixel_format::PixelFormat;
 use rfb_wire::HostMessage;
+use terms::{Area, NoMemory};
 
 // CopyRect, Hextile, RRE and Raw, by their numbers; the host takes the first that it knows.
 const ENCODINGS: [i32; 4] = [1, 5, 2, 0];

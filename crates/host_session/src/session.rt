@@ -9,11 +9,10 @@ ghost use Rattle.host_session.specs.Session.{IsAfter, Fed, Stopped, told_by, siz
 
 use crate::fault::HostFault;
 use crate::progress::Exchange;
-use client_wire::WireFault;
-use pixel_format::NoMemory;
 use rfb_wire::HostMessage;
 use std::alloc::Global;
 use std::marker::Model;
+use terms::{NoMemory, WireFault};
 
 // Makes due what was said in a piece, of which this came; nothing of it where memory ran out.
 fn make_due(heard: Result<(), HostFault>, said: &[u8], due: &mut Vec<u8>) -> Result<(), HostFault>

@@ -1,11 +1,11 @@
 //! The fields of a host's handshake.
 
 ghost use Rattle.std.specs.Prelude.{◌≡◌, ℕ, ◌<◌, ◌++◌, min, length, IfOk, IfErr, OnOk, OnErr, Option};
-ghost use Rattle.host_session.specs.Handshake.{is_allowed, is_expected, offers_security_none, text_limit};
+ghost use Rattle.host_session.specs.Handshake.{is_expected, offers_security_none, text_limit};
 ghost use Rattle.host_session.specs.Stage.{wants_of, rank_of, answer_bytes, IsStep, IsFault, IsFurther};
 
 use crate::fault::HostFault;
-use pixel_format::NoMemory;
+use terms::{NoMemory, is_size};
 
 /// A field of the handshake.
 #[derive(Clone, Copy)]
@@ -81,17 +81,6 @@ impl Stage {
             Stage::Name { count, .. } => count.min(TEXT_LIMIT) as usize,
         }
     }
-}
-
-// Whether a screen of this size is within the limits.
-fn allows(width: u16, height: u16) -> bool
-    ensures { result ≡ is_allowed width height }
-{
-    1 <= width
-        && width <= 8192
-        && 1 <= height
-        && height <= 8192
-        && width as u32 * height as u32 <= 8_388_608
 }
 
 // Whether this is the size that is expected, if one is.
@@ -198,7 +187,7 @@ fn behind_size(expected: Option<(u16, u16)>, field: &[u8]) -> Result<AfterField,
 {
     let width = u16::from_be_bytes([field[0], field[1]]);
     let height = u16::from_be_bytes([field[2], field[3]]);
-    if !allows(width, height) {
+    if !is_size(width, height) {
         return Err(HostFault::TooLarge);
     }
     if !expects(expected, width, height) {

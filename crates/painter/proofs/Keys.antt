@@ -2,9 +2,9 @@
 use Rattle.std.proofs.Common.{◌≡◌, ℕ, ◌+◌, ◌≤◌, List, [], ◌∷◌, length, inl, inr, ◌++◌, ◌*◌, refl, sym, ap, subst, ◌∙◌, arith}
 use Rattle.pixel_format.specs.declared.Color.{Color}
 use Rattle.pixel_format.specs.Format.{host_format}
-use Rattle.pixel_format.specs.Appending.{Appends}
+use Rattle.terms.specs.Appending.{Appends}
 use Rattle.pixel_format.specs.Canvas.{Picture, rows_of}
-use Rattle.client_wire.specs.declared.message.Area.{Area}
+use Rattle.terms.specs.declared.area.Area.{Area}
 use Rattle.rect_data.specs.Data.{LiesWithin}
 use Rattle.rect_data.specs.declared.encoding.Encoding.TheVariants as encodings
 use Rattle.rect_codec.specs.Written.{IsUpdate, IsUpdateFor}

@@ -8,7 +8,7 @@ use borrow.Rule.Slice.PartMut.{put_mid}
 use Rattle.pixel_format.specs.declared.Color.{Color}
 use Rattle.pixel_format.specs.Canvas.{Picture}
 use Rattle.pixel_format.specs.Pixel.{host_color}
-use Rattle.client_wire.specs.declared.message.Area.{Area}
+use Rattle.terms.specs.declared.area.Area.{Area}
 use Rattle.painter.specs.declared.pixel.Pixel.{Pixel}
 use Rattle.pixel_format.specs.Format.{host_format}
 use Rattle.rect_codec.specs.Picture.{is_in, raw_picture, copied_picture}

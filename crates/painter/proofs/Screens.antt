@@ -6,9 +6,9 @@ use Rattle.std.proofs.Math.Nat.{mod-lt}
 use Rattle.pixel_format.specs.declared.Color.{Color}
 use Rattle.pixel_format.specs.Format.{Channel, host_format}
 use Rattle.pixel_format.specs.Pixel.{pixel_number, channel_value, pixel_color, IsScreenColor}
-use Rattle.pixel_format.specs.Reading.{Reading}
+use Rattle.terms.specs.Reading.{Reading}
 use Rattle.pixel_format.specs.Canvas.{Picture, filled, laid_over, pixel_rows, Agree}
-use Rattle.client_wire.specs.declared.message.Area.{Area}
+use Rattle.terms.specs.declared.area.Area.{Area}
 use Rattle.rre.specs.Grammar as rre
 use Rattle.rre.specs.Data as rre_data
 use Rattle.rre.specs.Picture as rre_picture

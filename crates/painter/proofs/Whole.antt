@@ -3,7 +3,7 @@ use Rattle.std.proofs.Common.{◌≡◌, ◌⊎◌, ℕ, true, List, [], ◌∷�
 use Rattle.std.specs.Prelude.{◌↔◌, slice_range}
 use Rattle.pixel_format.specs.Format.{host_format}
 use Rattle.pixel_format.specs.Canvas.{Picture, Agree}
-use Rattle.client_wire.specs.declared.message.Area.{Area}
+use Rattle.terms.specs.declared.area.Area.{Area}
 use Rattle.rect_data.specs.declared.encoding.Encoding.{Encoding}
 use Rattle.rect_data.specs.declared.encoding.Encoding.TheVariants.{Raw, Hextile}
 use Rattle.rect_codec.specs.Picture.{is_in, picture_of, painted_data}

@@ -4,7 +4,7 @@ use Rattle.pixel_format.specs.declared.Color.{Color}
 use Rattle.rfb_wire.specs.Host.{Host}
 use Rattle.pixel_format.specs.Canvas.{Picture, rows_of}
 use Rattle.pixel_format.specs.Pixel.{IsScreenColor}
-use Rattle.client_wire.specs.declared.message.Area.{Area}
+use Rattle.terms.specs.declared.area.Area.{Area}
 use Rattle.painter.specs.Picture.{black, painted}
 
 -- its size, and the colours of its places by rows, from the top and the left

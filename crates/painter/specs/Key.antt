@@ -1,7 +1,7 @@
 -- A key screen: an update that paints a whole screen, whatever stood there before.
 use Rattle.std.specs.Prelude.{◌≡◌, ◌⊎◌, ℕ, [], ◌∷◌}
 use Rattle.pixel_format.specs.Canvas.{Picture, Agree}
-use Rattle.client_wire.specs.declared.message.Area.{Area}
+use Rattle.terms.specs.declared.area.Area.{Area}
 use Rattle.rect_data.specs.declared.encoding.Encoding.TheVariants.{Raw, Hextile}
 use Rattle.rfb_wire.specs.declared.message.Rectangle.{Rectangle}
 use Rattle.rfb_wire.specs.Host.{Host}

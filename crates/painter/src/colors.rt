@@ -8,7 +8,7 @@ ghost use Rattle.painter.specs.Pixels.{color_in, pixel_color_at};
 use crate::pixel::Pixel;
 use crate::row::color_of_pixel;
 use pixel_format::Color;
-use rfb_wire::Area;
+use terms::Area;
 
 // The colours of a row of places.
 fn read_row(pixels: &[Pixel], colors: &mut [Color])

@@ -5,10 +5,11 @@ ghost use Rattle.painter.specs.Framebuffer.{SameSize, color_at};
 ghost use Rattle.painter.specs.Key.{IsKey, IsWhole};
 
 use crate::screen::Screen;
-use pixel_format::{NoMemory, PixelFormat};
+use pixel_format::PixelFormat;
 use rect_codec::write_update;
-use rfb_wire::{Area, Encoding, HostMessage, Rectangle};
+use rfb_wire::{Encoding, HostMessage, Rectangle};
 use std::alloc::{AllocError, Global};
+use terms::{Area, NoMemory};
 
 // Whether the rectangle is one of all places of a screen of this size, in an encoding that doesn't
 // look at what stood there.

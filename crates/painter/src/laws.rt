@@ -7,7 +7,7 @@ ghost use Rattle.rect_codec.specs.Written.{IsUpdateFor};
 ghost use Rattle.rfb_wire.specs.Grammar.{message_limit};
 ghost use Rattle.painter.specs.Update.{PaintsColors};
 ghost use Rattle.pixel_format.specs.declared.Color.{Color};
-ghost use Rattle.client_wire.specs.declared.message.Area.{Area};
+ghost use Rattle.terms.specs.declared.area.Area.{Area};
 ghost use Rattle.rect_data.specs.declared.encoding.Encoding.{Encoding};
 
 /// What `rect_codec::write_update` appends in the host format, for an area within the screen, is one

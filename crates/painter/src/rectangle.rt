@@ -8,7 +8,7 @@ ghost use Rattle.rect_codec.specs.Picture.{is_in, raw_picture, copied_picture};
 
 use crate::pixel::Pixel;
 use crate::row::{TILE, fill_row, paint_row};
-use rfb_wire::Area;
+use terms::Area;
 
 /// Paints a Raw rectangle (RFC 6143, section 7.7.1), row by row.
 pub(crate) fn paint_raw(pixels: &mut [Pixel], width: u16, area: Area, bytes: &[u8])

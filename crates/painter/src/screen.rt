@@ -13,11 +13,12 @@ use crate::colors::read_area;
 use crate::pixel::{BLACK, Pixel};
 use crate::rectangle::{copy_area, fill_area, paint_raw};
 use crate::row::{color_of_pixel, pixel_of_color};
-use pixel_format::{Canvas, Color, NoMemory, PixelFormat};
+use pixel_format::{Canvas, Color, PixelFormat};
 use rect_data::source_at;
-use rfb_wire::{Area, Encoding, HostMessage};
+use rfb_wire::{Encoding, HostMessage};
 use std::alloc::Global;
 use std::marker::Model;
+use terms::{Area, NoMemory};
 
 /// A screen: a colour for each of its places. It takes four bytes a place.
 #[derive(Drop)]

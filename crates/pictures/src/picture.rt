@@ -6,10 +6,11 @@ ghost use Rattle.painter.specs.Framebuffer.{color_at};
 ghost use Rattle.pictures.specs.Pictures.{bmp_head, four_bytes, head_text, picture_text, pixel_text, ppm_head, row_at, row_text, two_bytes};
 
 use painter::Screen;
-use pixel_format::{Color, NoMemory};
+use pixel_format::Color;
 use std::alloc::Global;
 use std::io;
 use std::io::Write;
+use terms::NoMemory;
 
 /// The format of a picture file.
 #[derive(Clone, Copy, Debug, PartialEq, Eq)]

@@ -1,8 +1,3 @@
-pub mod Readings
-pub mod Refusals
-pub mod Measured
-pub mod Listed
-pub mod Appends
 pub mod Lanes
 pub mod Valid
 pub mod Covering

@@ -6,10 +6,10 @@ use Rattle.std.proofs.Math.Nat.{pow-le-pow_right}
 use Rattle.std.proofs.lemmas.Nat.{pow_pos, pow-add, mul-le}
 use Rattle.std.proofs.lemmas.Bool.{cases_lt, eqb-true, ne_eqb, lt-ltb, le-ltb, ltb-true}
 use Rattle.pixel_format.specs.Format.{Channel, Format, IsChannel, IsValid, mask}
-use Rattle.pixel_format.specs.declared.fault.FormatFault.{FormatFault}
-use Rattle.pixel_format.specs.declared.fault.FormatFault.TheVariants as faults
+use Rattle.terms.specs.declared.format_fault.FormatFault.{FormatFault}
+use Rattle.terms.specs.declared.format_fault.FormatFault.TheVariants as faults
 use Rattle.pixel_format.specs.Written.{unless, is_ones, is_flag, flag, has_bits, has_maxima, lies_inside, has_fields_inside, are_apart, has_fields_apart, format_of, format_at, format_bytes}
-use Rattle.pixel_format.proofs.Readings.{true_or_false}
+use Rattle.terms.proofs.Readings.{true_or_false}
 
 -- a maximum of N bits
 pub ones_is : (n max : ℕ) → is_ones n max ≡ true → (k : ℕ) × (k ≤ n) × (max + 1 ≡ 2 ^ k)

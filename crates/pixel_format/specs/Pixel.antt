@@ -2,7 +2,7 @@
 use Rattle.std.specs.Prelude.{◌≡◌, ℕ, ◌+◌, ◌*◌, ◌/◌, ◌%◌, ◌^◌, ◌≤◌, List, [], ◌∷◌, length, if◌then◌else◌}
 use Rattle.pixel_format.specs.declared.Color.{Color}
 use Rattle.std.specs.Int.{bytes_low_first, bytes_high_first}
-use Rattle.pixel_format.specs.Appending.{AreEach}
+use Rattle.terms.specs.Appending.{AreEach}
 use Rattle.pixel_format.specs.Format.{Channel, Format, host_format, pixel_bytes}
 
 -- the number that bytes are, the lowest byte first

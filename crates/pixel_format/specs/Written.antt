@@ -2,8 +2,8 @@
 -- the true-color flag, three maxima of two bytes, three shifts, and three bytes of padding.
 use Rattle.std.specs.Prelude.{ℕ, zero, suc, ◌+◌, ◌*◌, ◌/◌, ◌%◌, ◌^◌, List, [], ◌∷◌, slice_index, Bool, not, ◌&&◌, ◌||◌, nat_eq, nat_lt, bit_and, Result, Ok, Err, if◌then◌else◌}
 use Rattle.pixel_format.specs.Format.{Channel, Format, mask}
-use Rattle.pixel_format.specs.declared.fault.FormatFault.{FormatFault}
-use Rattle.pixel_format.specs.declared.fault.FormatFault.TheVariants as faults
+use Rattle.terms.specs.declared.format_fault.FormatFault.{FormatFault}
+use Rattle.terms.specs.declared.format_fault.FormatFault.TheVariants as faults
 
 -- a flag is true when it isn't 0
 abbrev pub is_flag : ℕ → Bool

@@ -1,30 +1,14 @@
-//! Appending bytes: pixels, and what is appended whole or not at all.
+//! Appending pixels to bytes.
 
-ghost use Rattle.std.specs.Prelude.{◌≡◌, ◌≤◌, ◌++◌, All, OnOk, OnErr, take};
+ghost use Rattle.std.specs.Prelude.{◌≡◌, ◌≤◌, ◌++◌, All, OnOk};
 ghost use Rattle.std.specs.List.{flat_map};
 ghost use Rattle.pixel_format.specs.Format.{pixel_bytes};
 ghost use Rattle.pixel_format.specs.Pixel.{IsWithin, IsPixel, ArePixels, pixel_of};
-ghost use Rattle.pixel_format.specs.Appending.{Appends, Grows};
+ghost use Rattle.terms.specs.Appending.{Appends, Grows};
 
+use crate::Color;
 use crate::format::PixelFormat;
-use crate::{Color, NoMemory};
-
-/// Takes back what was appended behind the first so many bytes, unless all of it was. Answers what
-/// the appending answered.
-pub fn whole_or_none(
-    appended: Result<(), NoMemory>,
-    start: usize,
-    bytes: &mut Vec<u8>,
-) -> Result<(), NoMemory>
-    ensures same { result ≡ appended }
-    ensures ok { OnOk result (bytes.new.items ≡ bytes.old.items) }
-    ensures err { OnErr result (bytes.new.items ≡ take start bytes.old.items) }
-{
-    if appended.is_err() {
-        bytes.truncate(start);
-    }
-    appended
-}
+use terms::NoMemory;
 
 impl PixelFormat {
     /// Appends the pixel of a colour. Want of memory may leave a part of it.

@@ -6,8 +6,8 @@ ghost use Rattle.pixel_format.specs.Written.{channel_at, format_of, format_at, f
 ghost use Rattle.pixel_format.specs.Pixel.{pixel_number, channel_value, pixel_color, host_color, IsWithin, color_number, number_bytes, pixel_of, IsScreenColor, converted, converted_channel};
 
 use crate::Color;
-use crate::fault::FormatFault;
 use std::marker::Model;
+use terms::FormatFault;
 
 /// A true-color pixel format that is valid (RFC 6143, section 7.4): a pixel has 8, 16 or 32 bits,
 /// and each channel takes bits of its own within them.

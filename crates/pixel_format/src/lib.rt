@@ -5,19 +5,13 @@
 mod appending;
 mod canvas;
 mod colors;
-mod fault;
 mod format;
 mod laws;
 
-pub use appending::whole_or_none;
 pub use canvas::Canvas;
 pub use colors::{end_of_color, same};
-pub use fault::FormatFault;
 pub use format::{PixelFormat, host_pixel};
 pub use laws::{valid_formats, written_as_read};
-
-/// The fault of want of memory.
-pub type NoMemory = std::alloc::AllocError;
 
 /// A colour: how much of red, green and blue, each from 0 to its channel's maximum. A colour of a
 /// screen has channels of at most 255.

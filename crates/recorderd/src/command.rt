@@ -3,7 +3,8 @@
 ghost use Rattle.std.specs.Prelude.{◌≤◌};
 
 use crate::words::{Chosen, read_words};
-use file_commands::{Progress, create_new, keep, refuse};
+use file_commands::{create_new, keep, refuse};
+use file_disk::Progress;
 use std::fs::File;
 use std::io;
 use std::io::{Read, Write};

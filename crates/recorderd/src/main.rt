@@ -4,7 +4,7 @@
 mod command;
 mod words;
 
-use file_commands::Progress;
+use file_disk::Progress;
 use std::fs::{File, OpenOptions};
 use std::os::fd::AsRawFd;
 use std::process::ExitCode;

@@ -3,7 +3,7 @@
 mod files;
 
 use crate::command::command;
-use file_commands::Progress;
+use file_disk::Progress;
 use std::fs::File;
 use std::io;
 use std::io::{Read, Write};

@@ -5,13 +5,13 @@ use Rattle.std.proofs.lemmas.List.{append-nil, take_all}
 use Rattle.std.proofs.lemmas.Bool.{le-leb, lt-ltb}
 use Rattle.pixel_format.specs.declared.Color.{Color}
 use Rattle.pixel_format.specs.Format.{Format}
-use Rattle.pixel_format.specs.Reading.{Got}
+use Rattle.terms.specs.Reading.{Got}
 use Rattle.pixel_format.specs.Canvas.{Picture, rows_of}
-use Rattle.pixel_format.proofs.Readings.{field-whole}
-use Rattle.pixel_format.specs.Number.{u32_at}
-use Rattle.pixel_format.specs.Appending.{Appends}
-use Rattle.client_wire.specs.declared.message.Area.{Area}
-use Rattle.client_wire.specs.declared.fault.WireFault.{WireFault}
+use Rattle.terms.proofs.Readings.{field-whole}
+use Rattle.terms.specs.Number.{u32_at}
+use Rattle.terms.specs.Appending.{Appends}
+use Rattle.terms.specs.declared.area.Area.{Area}
+use Rattle.terms.specs.declared.wire_fault.WireFault.{WireFault}
 use Rattle.rre.proofs.Content as rre_content
 use Rattle.hextile.proofs.TilesRead as hextile_content
 use Rattle.rect_data.specs.declared.encoding.Encoding.{Encoding}

@@ -10,7 +10,7 @@ use Rattle.pixel_format.specs.declared.Color.{Color}
 use Rattle.pixel_format.specs.Format.{Format, pixel_bytes}
 use Rattle.pixel_format.specs.Pixel.{IsWithin}
 use Rattle.pixel_format.specs.Canvas.{nth, black}
-use Rattle.pixel_format.specs.Appending.{Appends}
+use Rattle.terms.specs.Appending.{Appends}
 use Rattle.rect_codec.specs.Picture.{pixel_at}
 use Rattle.rect_codec.specs.Written.{IsPixelOf, ArePixels}
 

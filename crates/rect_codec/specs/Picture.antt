@@ -1,9 +1,9 @@
 -- What the data of a rectangle show (RFC 6143, section 7.7), in any pixel format.
 use Rattle.std.specs.Prelude.{ℕ, ◌+◌, ◌-◌, ◌*◌, Bool, List, take, drop, if◌then◌else◌}
 use Rattle.pixel_format.specs.Format.{Format, pixel_bytes}
-use Rattle.pixel_format.specs.Reading.{Reading, Got, More, Bad}
+use Rattle.terms.specs.Reading.{Reading, Got, More, Bad}
 use Rattle.pixel_format.specs.Canvas.{Picture, covers, pixel_rows}
-use Rattle.client_wire.specs.declared.message.Area.{Area}
+use Rattle.terms.specs.declared.area.Area.{Area}
 use Rattle.rre.specs.Grammar as rre
 use Rattle.rre.specs.Picture as rre_picture
 use Rattle.hextile.specs.Grammar as hextile

@@ -2,13 +2,13 @@
 use Rattle.std.specs.Prelude.{◌≡◌, ℕ, zero, suc, ◌+◌, ◌-◌, ◌<◌, false, List, [], ◌∷◌, length, take, nat_eq, slice_index, Option, Some, None}
 use Rattle.pixel_format.specs.declared.Color.{Color}
 use Rattle.pixel_format.specs.Format.{Format}
-use Rattle.pixel_format.specs.Reading.{Reading, Got, Bad, ◌>>=◌, field, guard}
+use Rattle.terms.specs.Reading.{Reading, Got, Bad, ◌>>=◌, field, guard}
 use Rattle.pixel_format.specs.Canvas.{Picture, rows_of}
-use Rattle.pixel_format.specs.Number.{u16_at, u32_at}
-use Rattle.client_wire.specs.declared.message.Area.{Area}
-use Rattle.client_wire.specs.declared.fault.WireFault.{WireFault}
-use Rattle.client_wire.specs.declared.fault.WireFault.TheVariants as faults
-use Rattle.client_wire.specs.Number.{signed}
+use Rattle.terms.specs.Number.{u16_at, u32_at}
+use Rattle.terms.specs.declared.area.Area.{Area}
+use Rattle.terms.specs.declared.wire_fault.WireFault.{WireFault}
+use Rattle.terms.specs.declared.wire_fault.WireFault.TheVariants as faults
+use Rattle.terms.specs.Number.{signed}
 use Rattle.rect_data.specs.declared.encoding.Encoding.{Encoding}
 use Rattle.rect_data.specs.Grammar.{encoding_of, is_inside, data_at}
 use Rattle.rect_codec.specs.Picture.{is_in, painted_data}

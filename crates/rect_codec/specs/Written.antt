@@ -5,7 +5,7 @@ use Rattle.pixel_format.specs.declared.Color.{Color}
 use Rattle.pixel_format.specs.Format.{Format, pixel_bytes}
 use Rattle.pixel_format.specs.Pixel.{pixel_color, pixel_of}
 use Rattle.pixel_format.specs.Canvas.{Agree, nth, rows_of, pixel_rows}
-use Rattle.client_wire.specs.declared.message.Area.{Area}
+use Rattle.terms.specs.declared.area.Area.{Area}
 use Rattle.client_wire.specs.Written.{one_rectangle_head}
 use Rattle.rre.specs.Encoded as rre
 use Rattle.hextile.specs.Encoded as hextile

@@ -3,7 +3,7 @@
 ghost use Rattle.std.specs.Prelude.{ℕ, List};
 ghost use Rattle.pixel_format.specs.declared.Color.{Color};
 ghost use Rattle.pixel_format.specs.Format.{Format};
-ghost use Rattle.client_wire.specs.declared.message.Area.{Area};
+ghost use Rattle.terms.specs.declared.area.Area.{Area};
 ghost use Rattle.rect_data.specs.Data.{LiesWithin};
 ghost use Rattle.rect_data.specs.declared.encoding.Encoding.{Encoding};
 ghost use Rattle.rect_codec.specs.Update.{DrawsColors};

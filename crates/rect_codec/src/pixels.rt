@@ -4,11 +4,12 @@ ghost use Rattle.std.specs.Prelude.{◌≡◌, ℕ, ◌+◌, ◌*◌, ◌<◌, �
 ghost use Rattle.pixel_format.specs.Format.{pixel_bytes};
 ghost use Rattle.pixel_format.specs.Pixel.{IsWithin};
 ghost use Rattle.pixel_format.specs.Canvas.{nth};
-ghost use Rattle.pixel_format.specs.Appending.{Appends};
+ghost use Rattle.terms.specs.Appending.{Appends};
 ghost use Rattle.rect_codec.specs.Picture.{pixel_at};
 ghost use Rattle.rect_codec.specs.Written.{IsPixelOf, ArePixels};
 
-use pixel_format::{Color, NoMemory, PixelFormat};
+use pixel_format::{Color, PixelFormat};
+use terms::NoMemory;
 
 // How many pixels are appended at once.
 const AT_ONCE: usize = 256;

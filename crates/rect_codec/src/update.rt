@@ -2,14 +2,15 @@
 
 ghost use Rattle.std.specs.Prelude.{◌≡◌, ◌+◌, ◌*◌, ◌++◌, All, IfOk, OnOk, OnErr, length, true, false};
 ghost use Rattle.pixel_format.specs.Pixel.{IsWithin};
-ghost use Rattle.pixel_format.specs.Appending.{Appends};
+ghost use Rattle.terms.specs.Appending.{Appends};
 ghost use Rattle.rect_codec.specs.Written.{Shows, IsUpdate, IsUpdateFor};
 
 use crate::pixels::append_pixels;
-use client_wire::{Area, write_update_head};
-use pixel_format::{Color, NoMemory, PixelFormat};
+use client_wire::write_update_head;
+use pixel_format::{Color, PixelFormat};
 use rect_data::Encoding;
 use std::alloc::Global;
+use terms::{Area, NoMemory};
 
 // How many bytes an update of one rectangle has before the rectangle's data.
 const HEAD_SIZE: usize = 16;

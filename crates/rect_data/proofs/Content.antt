@@ -5,11 +5,11 @@ use Rattle.std.specs.Prelude.{IfSome}
 use Rattle.std.proofs.lemmas.Bool.{leb-true, le-leb}
 use Rattle.std.proofs.lemmas.List.{take_at, append-nil}
 use Rattle.pixel_format.specs.Format.{Format, pixel_bytes}
-use Rattle.pixel_format.specs.Reading.{Reading, Got, More, Bad, field, guard}
-use Rattle.pixel_format.proofs.Readings.{bind_got, guard_got, field_got, field-whole, true_or_false, field_front}
-use Rattle.client_wire.specs.declared.message.Area.{Area}
-use Rattle.client_wire.specs.declared.fault.WireFault.{WireFault}
-use Rattle.client_wire.specs.declared.fault.WireFault.TheVariants as faults
+use Rattle.terms.specs.Reading.{Reading, Got, More, Bad, field, guard}
+use Rattle.terms.proofs.Readings.{bind_got, guard_got, field_got, field-whole, true_or_false, field_front}
+use Rattle.terms.specs.declared.area.Area.{Area}
+use Rattle.terms.specs.declared.wire_fault.WireFault.{WireFault}
+use Rattle.terms.specs.declared.wire_fault.WireFault.TheVariants as faults
 use Rattle.rre.specs.Grammar as rre
 use Rattle.rre.proofs.Content as rre_content
 use Rattle.hextile.specs.Grammar as hextile

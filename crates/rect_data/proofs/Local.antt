@@ -1,11 +1,11 @@
 -- What bytes say of a rectangle's data they say whatever follows them.
 use Rattle.std.proofs.Common.{◌≡◌, ℕ, ◌*◌, List, ◌∷◌, ◌++◌, inl, inr, refl, ap, ◌∙◌, append_assoc}
 use Rattle.pixel_format.specs.Format.{Format, pixel_bytes}
-use Rattle.pixel_format.specs.Reading.{Reading, Got, More, Bad, field, guard, Extends, IsLocal}
-use Rattle.pixel_format.proofs.Readings.{field_local, bind_local, guard_local}
-use Rattle.client_wire.specs.declared.message.Area.{Area}
-use Rattle.client_wire.specs.declared.fault.WireFault.{WireFault}
-use Rattle.client_wire.specs.declared.fault.WireFault.TheVariants as faults
+use Rattle.terms.specs.Reading.{Reading, Got, More, Bad, field, guard, Extends, IsLocal}
+use Rattle.terms.proofs.Readings.{field_local, bind_local, guard_local}
+use Rattle.terms.specs.declared.area.Area.{Area}
+use Rattle.terms.specs.declared.wire_fault.WireFault.{WireFault}
+use Rattle.terms.specs.declared.wire_fault.WireFault.TheVariants as faults
 use Rattle.rre.specs.Grammar as rre
 use Rattle.rre.specs.Data as rre_data
 use Rattle.rre.proofs.Content as rre_content

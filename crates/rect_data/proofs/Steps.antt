@@ -10,11 +10,11 @@ use Rattle.rre.specs.declared.measuring.Measuring.TheVariants as rre_stages
 use Rattle.rre.specs.declared.measuring.Measuring.{Measuring as RreMeasuring}
 use Rattle.hextile.specs.declared.measuring.Measuring.{Measuring as HextileMeasuring}
 use Rattle.pixel_format.specs.Format.{Format, pixel_bytes}
-use Rattle.pixel_format.specs.Reading.{Reading, Got, More, Bad}
-use Rattle.pixel_format.proofs.Readings.{field-whole, field-short}
-use Rattle.client_wire.specs.declared.message.Area.{Area}
-use Rattle.client_wire.specs.declared.fault.WireFault.{WireFault}
-use Rattle.client_wire.specs.declared.fault.WireFault.TheVariants as faults
+use Rattle.terms.specs.Reading.{Reading, Got, More, Bad}
+use Rattle.terms.proofs.Readings.{field-whole, field-short}
+use Rattle.terms.specs.declared.area.Area.{Area}
+use Rattle.terms.specs.declared.wire_fault.WireFault.{WireFault}
+use Rattle.terms.specs.declared.wire_fault.WireFault.TheVariants as faults
 use Rattle.rre.specs.Grammar as rre
 use Rattle.rre.specs.Measuring as rre_measuring
 use Rattle.rre.proofs.Steps as rre_steps

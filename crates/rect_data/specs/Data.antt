@@ -2,7 +2,7 @@
 -- the size of the screen, an encoding, the rectangle's area, and bytes.
 use Rattle.std.specs.Prelude.{◌≡◌, ℕ, ◌+◌, ◌*◌, ◌≤◌, List, length}
 use Rattle.pixel_format.specs.Format.{Format, pixel_bytes}
-use Rattle.client_wire.specs.declared.message.Area.{Area}
+use Rattle.terms.specs.declared.area.Area.{Area}
 use Rattle.rre.specs.Data as rre
 use Rattle.hextile.specs.Data as hextile
 use Rattle.rect_data.specs.declared.encoding.Encoding.{Encoding}

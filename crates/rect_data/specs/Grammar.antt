@@ -2,11 +2,11 @@
 -- field is judged once it is whole.
 use Rattle.std.specs.Prelude.{ℕ, ◌+◌, ◌-◌, ◌*◌, List, Bool, ◌&&◌, nat_le, nat_eq, Option, Some, None, Result, Ok, Err, length, if◌then◌else◌}
 use Rattle.pixel_format.specs.Format.{Format, pixel_bytes}
-use Rattle.pixel_format.specs.Reading.{Reading, Got, More, Bad, ◌>>=◌, field, guard}
-use Rattle.pixel_format.specs.Number.{u16_at}
-use Rattle.client_wire.specs.declared.message.Area.{Area}
-use Rattle.client_wire.specs.declared.fault.WireFault.{WireFault}
-use Rattle.client_wire.specs.declared.fault.WireFault.TheVariants as faults
+use Rattle.terms.specs.Reading.{Reading, Got, More, Bad, ◌>>=◌, field, guard}
+use Rattle.terms.specs.Number.{u16_at}
+use Rattle.terms.specs.declared.area.Area.{Area}
+use Rattle.terms.specs.declared.wire_fault.WireFault.{WireFault}
+use Rattle.terms.specs.declared.wire_fault.WireFault.TheVariants as faults
 use Rattle.rre.specs.Grammar as rre
 use Rattle.hextile.specs.Grammar as hextile
 use Rattle.rect_data.specs.declared.encoding.Encoding.{Encoding}

@@ -1,9 +1,9 @@
 -- What is left of data that are judged field by field.
 use Rattle.std.specs.Prelude.{ℕ, ◌*◌, ◌<◌, List, Option, Some, None}
 use Rattle.pixel_format.specs.Format.{Format, pixel_bytes}
-use Rattle.pixel_format.specs.Reading.{Reading, Got}
-use Rattle.client_wire.specs.declared.fault.WireFault.{WireFault}
-use Rattle.client_wire.specs.declared.fault.WireFault.TheVariants as faults
+use Rattle.terms.specs.Reading.{Reading, Got}
+use Rattle.terms.specs.declared.wire_fault.WireFault.{WireFault}
+use Rattle.terms.specs.declared.wire_fault.WireFault.TheVariants as faults
 use Rattle.rre.specs.Measuring as rre
 use Rattle.hextile.specs.Measuring as hextile
 use Rattle.rect_data.specs.declared.judging.Judging.{Judging}

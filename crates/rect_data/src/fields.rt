@@ -3,7 +3,7 @@
 ghost use Rattle.std.specs.Prelude.{◌≡◌, length};
 ghost use Rattle.rect_data.specs.Grammar.{source_of, is_inside};
 
-use client_wire::Area;
+use terms::Area;
 
 /// Whether the area lies within a screen of this size.
 #[tactic(auto, unfolding(crate::specs::Grammar::is_inside))]

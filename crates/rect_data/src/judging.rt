@@ -1,14 +1,14 @@
 //! Judging data field by field, as they come.
 
 ghost use Rattle.std.specs.Prelude.{◌≡◌, ℕ, ◌<◌, ◌^◌, ◌≤◌, ◌+◌, ◌++◌, List, length, take, IfOk, IfErr, IfSome};
-ghost use Rattle.pixel_format.specs.Reading.{Bad};
+ghost use Rattle.terms.specs.Reading.{Bad};
 ghost use Rattle.rect_data.specs.Grammar.{data_at};
 ghost use Rattle.rect_data.specs.Judging.{wants_of, resume, go_on, HasBytes};
 
 use crate::encoding::Encoding;
 use crate::fields::{lies_inside, source_at};
-use client_wire::{Area, WireFault};
 use pixel_format::PixelFormat;
+use terms::{Area, WireFault};
 
 /// Which field of a rectangle's data comes next: what stands for the part that is judged. Data that
 /// come in pieces are judged by taking [`wants`](Judging::wants) bytes for each

@@ -2,8 +2,8 @@
 
 ghost use Rattle.std.specs.Prelude.{◌≡◌, ◌↔◌, ℕ, List, [], ◌++◌};
 ghost use Rattle.pixel_format.specs.Format.{Format};
-ghost use Rattle.pixel_format.specs.Reading.{Got};
-ghost use Rattle.client_wire.specs.declared.message.Area.{Area};
+ghost use Rattle.terms.specs.Reading.{Got};
+ghost use Rattle.terms.specs.declared.area.Area.{Area};
 ghost use Rattle.rect_data.specs.declared.encoding.Encoding.{Encoding};
 ghost use Rattle.rect_data.specs.Grammar.{data_at};
 ghost use Rattle.rect_data.specs.Data.{AreData};

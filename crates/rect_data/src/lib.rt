@@ -7,7 +7,6 @@ mod judging;
 mod laws;
 mod measuring;
 
-pub use client_wire::{Area, WireFault};
 pub use encoding::Encoding;
 pub use fields::{lies_inside, source_at};
 pub use judging::Judging;

@@ -8,8 +8,8 @@ ghost use Rattle.rect_data.specs.Data.{AreData};
 
 use crate::encoding::Encoding;
 use crate::fields::{lies_inside, source_at};
-use client_wire::{Area, WireFault};
 use pixel_format::PixelFormat;
+use terms::{Area, WireFault};
 
 // The length of Raw data.
 fn measure_raw(format: &PixelFormat, area: Area, bytes: &[u8]) -> Option<usize>

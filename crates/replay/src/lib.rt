@@ -4,7 +4,9 @@
 mod fault;
 mod playing;
 mod screens;
+mod slice;
 
 pub use fault::ReplayFault;
 pub use playing::{Replay, from_block};
 pub use screens::screen_at;
+pub use slice::Slice;

@@ -3,11 +3,11 @@ use Rattle.std.proofs.Common.{◌≡◌, ℕ, ◌-◌, ◌<◌, ◌≤◌, true,
 use Rattle.std.specs.Prelude.{min}
 use Rattle.std.proofs.lemmas.List.{take_all, take_at, length-take, get_or-take}
 use Rattle.std.proofs.lemmas.Bool.{ltb-true, ltb-false}
-use Rattle.pixel_format.specs.Reading.{Got, More, Bad, field, within}
-use Rattle.pixel_format.proofs.Readings.{true_or_false, within-short, within-long}
+use Rattle.terms.specs.Reading.{Got, More, Bad, field, within}
+use Rattle.terms.proofs.Readings.{true_or_false, within-short, within-long}
 use Rattle.rfb_wire.specs.declared.message.Rectangle.{Rectangle}
-use Rattle.client_wire.specs.declared.fault.WireFault.{WireFault}
-use Rattle.client_wire.specs.declared.fault.WireFault.TheVariants as faults
+use Rattle.terms.specs.declared.wire_fault.WireFault.{WireFault}
+use Rattle.terms.specs.declared.wire_fault.WireFault.TheVariants as faults
 use Rattle.rfb_wire.specs.Grammar.{update_at, message_at, other_at, Message, Recorded, message_limit}
 use Rattle.rfb_wire.specs.Host.{host_of, IsRecorded}
 use Rattle.rfb_wire.proofs.Messages.{update_read, message_is_read}

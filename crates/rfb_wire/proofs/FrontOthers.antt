@@ -2,14 +2,14 @@
 use Rattle.std.proofs.Common.{◌≡◌, ℕ, ◌+◌, ◌*◌, ◌-◌, ◌≤◌, Bool, true, false, List, [], ◌∷◌, ◌++◌, length, take, drop, slice_index, nat_eq, refl, sym, ap, ◌∙◌, inl, inr, arith, append_assoc, length-append, Option, Some, None, Ok}
 use Rattle.std.specs.Prelude.{nat_lt, nat_le}
 use Rattle.std.proofs.lemmas.Bool.{lt-ltb, le-ltb, leb-true, leb-false}
-use Rattle.pixel_format.specs.Reading.{Got, More, field}
-use Rattle.client_wire.specs.declared.fault.WireFault.{WireFault}
+use Rattle.terms.specs.Reading.{Got, More, field}
+use Rattle.terms.specs.declared.wire_fault.WireFault.{WireFault}
 use Rattle.rfb_wire.specs.Grammar.{message_at, other_at, Recorded, ReadOver, color_map_at, text_at, text_data_at, read_over, text_limit}
 use Rattle.rfb_wire.specs.Plain.{kind_of, Says}
 use Rattle.std.specs.Prelude.{MatchOption, if◌then◌else◌}
 use Rattle.std.proofs.lemmas.List.{drop_at, take_at}
-use Rattle.pixel_format.proofs.Readings.{bind_got, field_got, true_or_false, field_front, one_number}
-use Rattle.pixel_format.specs.Number.{u16_at, u32_at}
+use Rattle.terms.proofs.Readings.{bind_got, field_got, true_or_false, field_front, one_number}
+use Rattle.terms.specs.Number.{u16_at, u32_at}
 use Rattle.rfb_wire.proofs.Others.{other_read, other_of_bell, other_of_text, text_again}
 use Rattle.rfb_wire.proofs.Messages.{other_is_read}
 

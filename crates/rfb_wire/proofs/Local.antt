@@ -2,17 +2,17 @@
 use Rattle.std.proofs.Common.{◌≡◌, ℕ, zero, suc, ◌+◌, ◌-◌, ◌*◌, List, ◌∷◌, ◌++◌, length, length-append, nat_eq, slice_index, Option, Some, None, refl, ap, arith}
 use Rattle.std.proofs.Common.{inl, inr}
 use Rattle.std.specs.Prelude.{nat_lt, [], if◌then◌else◌}
-use Rattle.pixel_format.specs.Reading.{Reading, Got, ◌>>=◌, field, guard, within, Extends, IsLocal}
-use Rattle.pixel_format.proofs.Readings.{field_local, bind_local, guard_local, within_local, true_or_false}
-use Rattle.client_wire.specs.declared.message.Area.{Area}
+use Rattle.terms.specs.Reading.{Reading, Got, ◌>>=◌, field, guard, within, Extends, IsLocal}
+use Rattle.terms.proofs.Readings.{field_local, bind_local, guard_local, within_local, true_or_false}
+use Rattle.terms.specs.declared.area.Area.{Area}
 use Rattle.rfb_wire.specs.declared.message.Rectangle.{Rectangle}
 use Rattle.pixel_format.specs.Format.{host_format}
-use Rattle.pixel_format.specs.Number.{u16_at, u32_at}
+use Rattle.terms.specs.Number.{u16_at, u32_at}
 use Rattle.rect_data.specs.declared.encoding.Encoding.{Encoding}
 use Rattle.rect_data.specs.Grammar.{encoding_of, is_inside, data_at}
 use Rattle.rect_data.proofs.Local.{data_local}
-use Rattle.client_wire.specs.declared.fault.WireFault.{WireFault}
-use Rattle.client_wire.specs.declared.fault.WireFault.TheVariants as faults
+use Rattle.terms.specs.declared.wire_fault.WireFault.{WireFault}
+use Rattle.terms.specs.declared.wire_fault.WireFault.TheVariants as faults
 use Rattle.rfb_wire.specs.Grammar.{area_of, encoding_number, content_at, encoded_at, rectangle_at, rectangles_at, update_at, message_at, other_at, color_map_at, text_at, text_data_at, read_over, text_limit, Message, Recorded, ReadOver}
 
 -- the end of what is read is the same

@@ -2,19 +2,19 @@
 use Rattle.std.proofs.Common.{◌≡◌, ℕ, zero, suc, ◌+◌, ◌*◌, ◌≤◌, ◌⊎◌, length-append, inl, inr, true, false, List, [], ◌∷◌, ◌++◌, ◌-◌, length, take, drop, nat_eq, slice_index, Option, Some, None, refl, sym, ap, ◌∙◌, subst, arith, append_assoc, eqb-true}
 use Rattle.std.specs.Prelude.{if◌then◌else◌}
 use Rattle.std.proofs.lemmas.List.{length-drop, take_all, append-nil}
-use Rattle.pixel_format.specs.Reading.{Got, ◌>>=◌, field, guard, within}
-use Rattle.pixel_format.proofs.Readings.{bind_got, guard_got, field_got, field-whole, within_got, within-short, true_or_false, field_front, one_number, three_numbers}
-use Rattle.client_wire.specs.declared.message.Area.{Area}
-use Rattle.pixel_format.proofs.Listed.{ListRead, none_read, one_more_read}
+use Rattle.terms.specs.Reading.{Got, ◌>>=◌, field, guard, within}
+use Rattle.terms.proofs.Readings.{bind_got, guard_got, field_got, field-whole, within_got, within-short, true_or_false, field_front, one_number, three_numbers}
+use Rattle.terms.specs.declared.area.Area.{Area}
+use Rattle.terms.proofs.Listed.{ListRead, none_read, one_more_read}
 use Rattle.rfb_wire.specs.declared.message.Rectangle.{Rectangle}
 use Rattle.pixel_format.specs.Format.{host_format}
-use Rattle.pixel_format.specs.Number.{u16_at}
+use Rattle.terms.specs.Number.{u16_at}
 use Rattle.rect_data.specs.declared.encoding.Encoding.{Encoding}
 use Rattle.rect_data.specs.Grammar.{encoding_of, is_inside, data_at}
 use Rattle.rect_data.specs.Data.{number_of, AreData}
 use Rattle.rect_data.proofs.Content.{inside_within, within_inside, number_again, encoding_number_is, data_read, data_again}
-use Rattle.client_wire.specs.declared.fault.WireFault.{WireFault}
-use Rattle.client_wire.specs.declared.fault.WireFault.TheVariants as faults
+use Rattle.terms.specs.declared.wire_fault.WireFault.{WireFault}
+use Rattle.terms.specs.declared.wire_fault.WireFault.TheVariants as faults
 use Rattle.rfb_wire.specs.Grammar.{area_of, encoding_number, content_at, encoded_at, rectangle_at, rectangles_at, update_at, message_at, other_at, Recorded}
 use Rattle.rfb_wire.specs.Message.{IsRectangle, AreRectangles, IsUpdate, IsMessage}
 use Rattle.rfb_wire.proofs.Others.{TextRead, other_read, other_of_bell, other_of_text, text_again}

@@ -3,12 +3,12 @@ use Rattle.std.proofs.Common.{◌≡◌, ℕ, ◌*◌, ◌<◌, ◌≤◌, List,
 use Rattle.std.specs.Prelude.{nat_lt, if◌then◌else◌}
 use Rattle.std.proofs.lemmas.Bool.{ltb-false, lt-ltb, le-ltb}
 use Rattle.std.proofs.lemmas.List.{append-nil}
-use Rattle.pixel_format.specs.Reading.{Got, Bad, field}
-use Rattle.pixel_format.proofs.Readings.{bind_got, field_got, field-whole, true_or_false, field_front}
-use Rattle.pixel_format.specs.Number.{u16_at, u32_at}
+use Rattle.terms.specs.Reading.{Got, Bad, field}
+use Rattle.terms.proofs.Readings.{bind_got, field_got, field-whole, true_or_false, field_front}
+use Rattle.terms.specs.Number.{u16_at, u32_at}
 use Rattle.rfb_wire.specs.declared.message.Rectangle.{Rectangle}
-use Rattle.client_wire.specs.declared.fault.WireFault.{WireFault}
-use Rattle.client_wire.specs.declared.fault.WireFault.TheVariants as faults
+use Rattle.terms.specs.declared.wire_fault.WireFault.{WireFault}
+use Rattle.terms.specs.declared.wire_fault.WireFault.TheVariants as faults
 use Rattle.rfb_wire.specs.Grammar.{Recorded, ReadOver, other_at, color_map_at, text_at, text_data_at, read_over, text_limit}
 
 over_never : (n : ℕ) (bytes : List ℕ) (rs : List Rectangle) (rest : List ℕ) → read_over n bytes ≡ Got (Recorded rs) rest → ⊥

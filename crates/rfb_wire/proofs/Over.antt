@@ -2,9 +2,9 @@
 use Rattle.std.proofs.Common.{◌≡◌, ℕ, ◌+◌, ◌-◌, ◌<◌, ◌≤◌, ◌^◌, List, [], ◌∷◌, ◌++◌, length, nat_eq, replicate, refl, sym, ap, ◌∙◌, subst, inl, inr, arith}
 use Rattle.std.specs.Prelude.{Option, Some, None, MatchOption}
 use Rattle.std.proofs.lemmas.List.{length-replicate, append-nil}
-use Rattle.pixel_format.specs.Reading.{Got, More, ◌>>=◌, field}
-use Rattle.pixel_format.proofs.Readings.{bind_got, skip_more, skip_whole, skip_waits, true_or_false}
-use Rattle.pixel_format.specs.Number.{u16_at}
+use Rattle.terms.specs.Reading.{Got, More, ◌>>=◌, field}
+use Rattle.terms.proofs.Readings.{bind_got, skip_more, skip_whole, skip_waits, true_or_false}
+use Rattle.terms.specs.Number.{u16_at}
 use Rattle.rfb_wire.specs.declared.progress.Over.{Over}
 use Rattle.rfb_wire.specs.declared.progress.PartialMessage.{PartialMessage}
 use Rattle.rfb_wire.specs.Grammar.{Recorded, ReadOver, message_at, update_at, rectangles_at, read_over}

@@ -1,21 +1,21 @@
 -- What follows from a whole field: one equation for each stage.
 use Rattle.std.proofs.Common.{◌≡◌, ℕ, ◌+◌, ◌-◌, ◌*◌, true, false, List, [], ◌∷◌, ◌++◌, length, length-append, nat_eq, slice_index, Some, None, refl, ap, ◌∙◌, append_assoc, arith}
 use Rattle.std.specs.Prelude.{◌<◌, ◌≤◌, Option, IfSome, nat_lt, if◌then◌else◌}
-use Rattle.pixel_format.specs.Reading.{Reading, Got, More, Bad, ◌>>=◌, field, guard}
-use Rattle.pixel_format.proofs.Readings.{field-whole}
-use Rattle.client_wire.specs.declared.message.Area.{Area}
+use Rattle.terms.specs.Reading.{Reading, Got, More, Bad, ◌>>=◌, field, guard}
+use Rattle.terms.proofs.Readings.{field-whole}
+use Rattle.terms.specs.declared.area.Area.{Area}
 use Rattle.rfb_wire.specs.declared.message.Rectangle.{Rectangle}
 use Rattle.pixel_format.specs.Format.{host_format}
-use Rattle.pixel_format.specs.Number.{u16_at, u32_at}
+use Rattle.terms.specs.Number.{u16_at, u32_at}
 use Rattle.rect_data.specs.declared.encoding.Encoding.{Encoding}
 use Rattle.rect_data.specs.declared.judging.Judging.{Judging}
 use Rattle.rect_data.specs.Grammar.{encoding_of, is_inside, data_at}
 use Rattle.rect_data.specs.Judging as judging
 use Rattle.rfb_wire.specs.declared.progress.Begun.{Begun}
-use Rattle.client_wire.specs.declared.fault.WireFault.{WireFault}
-use Rattle.client_wire.specs.declared.fault.WireFault.TheVariants as faults
+use Rattle.terms.specs.declared.wire_fault.WireFault.{WireFault}
+use Rattle.terms.specs.declared.wire_fault.WireFault.TheVariants as faults
 use Rattle.rfb_wire.specs.declared.progress.Stage.TheVariants as stages
-use Rattle.client_wire.specs.Number.{signed}
+use Rattle.terms.specs.Number.{signed}
 use Rattle.rfb_wire.specs.Grammar.{area_of, encoding_number, content_at, encoded_at, rectangle_at, rectangles_at, update_at, Message, Recorded, ReadOver, other_at, color_map_at, text_at, text_data_at, read_over, text_limit}
 use Rattle.rfb_wire.specs.PartialMessage.{unlimited_at, behind, others_at, ended, behind_data, resume}
 

@@ -1,10 +1,10 @@
 -- What is kept of an unfinished message is short.
 use Rattle.std.proofs.Common.{◌≡◌, ℕ, ◌+◌, ◌<◌, ◌≤◌, List, [], ◌∷◌, ◌++◌, length, take, drop, nat_eq, false, inl, inr, sym, ap, ◌∙◌, arith}
 use Rattle.std.specs.Prelude.{Option, Some, None, MatchOption}
-use Rattle.pixel_format.specs.Reading.{Got, ◌>>=◌, field, within}
-use Rattle.pixel_format.proofs.Readings.{bind_got, within_got, true_or_false}
-use Rattle.client_wire.specs.declared.fault.WireFault.{WireFault}
-use Rattle.client_wire.specs.declared.fault.WireFault.TheVariants as faults
+use Rattle.terms.specs.Reading.{Got, ◌>>=◌, field, within}
+use Rattle.terms.proofs.Readings.{bind_got, within_got, true_or_false}
+use Rattle.terms.specs.declared.wire_fault.WireFault.{WireFault}
+use Rattle.terms.specs.declared.wire_fault.WireFault.TheVariants as faults
 use Rattle.rfb_wire.specs.declared.message.Rectangle.{Rectangle}
 use Rattle.rfb_wire.specs.declared.progress.Over.{Over}
 use Rattle.rfb_wire.specs.declared.progress.PartialMessage.{PartialMessage}

@@ -1,7 +1,7 @@
 -- Recorded messages in a stream.
 use Rattle.std.proofs.Common.{◌≡◌, ℕ, List, [], ◌∷◌, ◌++◌, refl, sym, ap, ◌∙◌}
 use Rattle.std.proofs.lemmas.List.{append-nil}
-use Rattle.pixel_format.specs.Reading.{Got}
+use Rattle.terms.specs.Reading.{Got}
 use Rattle.client_wire.specs.Stream.{Part, Reads}
 use Rattle.rfb_wire.specs.Grammar.{message_at, Message, Recorded}
 use Rattle.rfb_wire.specs.Host.{Host}

@@ -5,11 +5,11 @@ use Rattle.std.proofs.lemmas.List.{append-nil, drop_all, drop-append-le, take_at
 use Rattle.pixel_format.specs.Format.{host_format}
 use Rattle.rect_data.proofs.Steps.{field_waits as data_waits}
 use Rattle.rfb_wire.specs.Host.{host_of, IsRecorded}
-use Rattle.pixel_format.specs.Reading.{Reading, Got, More, Bad, ◌>>=◌, field, within}
-use Rattle.pixel_format.proofs.Readings.{field-whole, field-short, within-short, within-long}
+use Rattle.terms.specs.Reading.{Reading, Got, More, Bad, ◌>>=◌, field, within}
+use Rattle.terms.proofs.Readings.{field-whole, field-short, within-short, within-long}
 use Rattle.rfb_wire.specs.declared.message.Rectangle.{Rectangle}
-use Rattle.client_wire.specs.declared.fault.WireFault.{WireFault}
-use Rattle.client_wire.specs.declared.fault.WireFault.TheVariants as faults
+use Rattle.terms.specs.declared.wire_fault.WireFault.{WireFault}
+use Rattle.terms.specs.declared.wire_fault.WireFault.TheVariants as faults
 use Rattle.rfb_wire.specs.declared.progress.Stage.{Stage}
 use Rattle.rfb_wire.specs.declared.progress.Stage.TheVariants as stages
 use Rattle.rfb_wire.specs.Grammar.{update_at, message_at, other_at, color_map_at, text_at, text_data_at, read_over, Message, Recorded, rectangle_at, rectangles_at}
@@ -18,7 +18,7 @@ use Rattle.rfb_wire.specs.declared.progress.PartialMessage.{PartialMessage}
 use Rattle.rfb_wire.specs.declared.progress.Next.{Next}
 use Rattle.rfb_wire.specs.declared.progress.Next.TheVariants as nexts
 use Rattle.rfb_wire.specs.declared.progress.AfterField.{AfterField}
-use Rattle.client_wire.specs.Fault.{UnlessMemory}
+use Rattle.terms.specs.Fault.{UnlessMemory}
 use Rattle.std.specs.Option.{option_to_list}
 use Rattle.client_wire.proofs.Fronts.{unless_memory_map}
 use Rattle.rfb_wire.proofs.Resume.{behind_nil, behind_behind, behind_over}

@@ -2,15 +2,15 @@
 use Rattle.std.proofs.Common.{◌≡◌, ℕ, ◌+◌, List, [], ◌∷◌, ◌++◌, length, refl, sym, ap, subst, ◌∙◌, arith, append_assoc, length-append}
 use Rattle.std.specs.List.{flat_map, AllByRecursion}
 use Rattle.std.proofs.lemmas.List.{append-nil}
-use Rattle.pixel_format.specs.Reading.{Got, More, Bad}
-use Rattle.pixel_format.proofs.Readings.{field-short}
-use Rattle.client_wire.specs.declared.fault.WireFault.{WireFault}
-use Rattle.client_wire.specs.Fault.{UnlessMemory}
+use Rattle.terms.specs.Reading.{Got, More, Bad}
+use Rattle.terms.proofs.Readings.{field-short}
+use Rattle.terms.specs.declared.wire_fault.WireFault.{WireFault}
+use Rattle.terms.specs.Fault.{UnlessMemory}
 use Rattle.client_wire.specs.Stream.{Part, IsPart, bytes_of, given_of, Goes, FaultOf, Stops}
 use Rattle.rfb_wire.specs.Grammar.{message_at, Message, Recorded, ReadOver}
 use Rattle.rfb_wire.specs.Host.{Host, host_of}
 use Rattle.rfb_wire.specs.Stream.{IsFor, given}
-use Rattle.client_wire.specs.declared.fault.WireFault.TheVariants as faults
+use Rattle.terms.specs.declared.wire_fault.WireFault.TheVariants as faults
 use Rattle.client_wire.proofs.Streams.{waits_begins_none, one_reading, empty_list, no_fault}
 use Rattle.rfb_wire.proofs.Local.{message_local}
 use Rattle.rfb_wire.proofs.Streams.{part_of, reads_one, message_again, same_host}

@@ -1,6 +1,6 @@
 -- The numbers by which refusals of bytes are printed.
 use Rattle.std.specs.Prelude.{ℕ}
-use Rattle.client_wire.specs.Fault.{wire_number}
+use Rattle.terms.specs.Fault.{wire_number}
 use Rattle.rfb_wire.specs.declared.fault.BytesFault.{BytesFault}
 use Rattle.rfb_wire.specs.declared.fault.BytesFault.TheVariants as refusals
 

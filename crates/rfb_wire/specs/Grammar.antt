@@ -3,15 +3,15 @@
 -- that is met.
 use Rattle.std.specs.Prelude.{ℕ, nat_lt, zero, suc, ◌+◌, ◌-◌, ◌*◌, List, [], ◌∷◌, length, slice_index, nat_eq, Option, Some, None, if◌then◌else◌}
 use Rattle.pixel_format.specs.Format.{host_format}
-use Rattle.pixel_format.specs.Reading.{Reading, Got, Bad, ◌>>=◌, field, guard, within}
-use Rattle.pixel_format.specs.Number.{u16_at, u32_at}
-use Rattle.client_wire.specs.declared.message.Area.{Area}
+use Rattle.terms.specs.Reading.{Reading, Got, Bad, ◌>>=◌, field, guard, within}
+use Rattle.terms.specs.Number.{u16_at, u32_at}
+use Rattle.terms.specs.declared.area.Area.{Area}
 use Rattle.rfb_wire.specs.declared.message.Rectangle.{Rectangle}
 use Rattle.rect_data.specs.declared.encoding.Encoding.{Encoding}
 use Rattle.rect_data.specs.Grammar.{encoding_of, is_inside, data_at}
-use Rattle.client_wire.specs.Number.{signed}
-use Rattle.client_wire.specs.declared.fault.WireFault.{WireFault}
-use Rattle.client_wire.specs.declared.fault.WireFault.TheVariants as faults
+use Rattle.terms.specs.Number.{signed}
+use Rattle.terms.specs.declared.wire_fault.WireFault.{WireFault}
+use Rattle.terms.specs.declared.wire_fault.WireFault.TheVariants as faults
 
 -- The header of a rectangle is 12 bytes: x, y, width, height, and the encoding of its pixels
 -- (section 7.6.1).

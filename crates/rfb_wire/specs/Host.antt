@@ -1,7 +1,7 @@
 -- One recorded message of a host.
 use Rattle.std.specs.Prelude.{◌≡◌, ℕ, ◌+◌, ◌≤◌, Bool, false, nat_eq, List, [], ◌∷◌, length, slice_range}
 use Rattle.pixel_format.specs.Format.{host_format}
-use Rattle.pixel_format.specs.Reading.{Got}
+use Rattle.terms.specs.Reading.{Got}
 use Rattle.rfb_wire.specs.declared.message.Rectangle.{Rectangle}
 use Rattle.rect_data.specs.Data.{AreData}
 use Rattle.rfb_wire.specs.Grammar.{message_at, Recorded}

@@ -2,7 +2,7 @@
 -- size of a screen, the message's bytes, and where its rectangles stand in them.
 use Rattle.std.specs.Prelude.{◌≡◌, ℕ, ◌+◌, ◌*◌, ◌≤◌, List, [], ◌∷◌, ◌++◌, length, max, ◌⊎◌}
 use Rattle.pixel_format.specs.Format.{host_format}
-use Rattle.pixel_format.specs.Number.{u32_at}
+use Rattle.terms.specs.Number.{u32_at}
 use Rattle.rfb_wire.specs.declared.message.Rectangle.{Rectangle}
 use Rattle.rect_data.specs.Data.{number_of, AreData}
 use Rattle.rfb_wire.specs.Grammar.{area_of, encoding_number, text_limit}

@@ -3,11 +3,11 @@
 use Rattle.std.specs.Prelude.{◌≡◌, ℕ, suc, ◌+◌, ◌-◌, ◌<◌, ◌≤◌, List, [], ◌∷◌, ◌++◌, length, drop, ◌^◌, MatchOption, slice_index, Option, Some, None, nat_eq, if◌then◌else◌}
 use Rattle.std.specs.Option.{option_to_list}
 use Rattle.pixel_format.specs.Format.{host_format}
-use Rattle.pixel_format.specs.Reading.{Reading, Got, ◌>>=◌, field}
-use Rattle.pixel_format.specs.Number.{u16_at}
+use Rattle.terms.specs.Reading.{Reading, Got, ◌>>=◌, field}
+use Rattle.terms.specs.Number.{u16_at}
 use Rattle.rect_data.specs.Judging as judging
 use Rattle.rfb_wire.specs.declared.message.Rectangle.{Rectangle}
-use Rattle.client_wire.specs.declared.fault.WireFault.{WireFault}
+use Rattle.terms.specs.declared.wire_fault.WireFault.{WireFault}
 use Rattle.rfb_wire.specs.declared.progress.Begun.{Begun}
 use Rattle.rfb_wire.specs.declared.progress.Stage.{Stage}
 use Rattle.rfb_wire.specs.declared.progress.Stage.TheVariants as stages

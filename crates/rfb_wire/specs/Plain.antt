@@ -1,12 +1,12 @@
 -- What a function that reads from the front of bytes answers, by the grammar.
 use Rattle.std.specs.Prelude.{◌≡◌, ◌≤◌, ℕ, Bool, true, false, List, [], ◌++◌, length, drop, Option, Some, None, Result, Ok, Err}
-use Rattle.pixel_format.specs.Reading.{Reading, Got, More, Bad}
-use Rattle.client_wire.specs.declared.fault.WireFault.{WireFault}
+use Rattle.terms.specs.Reading.{Reading, Got, More, Bad}
+use Rattle.terms.specs.declared.wire_fault.WireFault.{WireFault}
 use Rattle.rfb_wire.specs.declared.plain.Front.{Front}
 use Rattle.rfb_wire.specs.declared.plain.Front.TheVariants as fronts
 use Rattle.rfb_wire.specs.Grammar.{Message, Recorded, ReadOver}
 use Rattle.rfb_wire.specs.Host.{Host}
-use Rattle.client_wire.specs.Fault.{UnlessMemory}
+use Rattle.terms.specs.Fault.{UnlessMemory}
 use Rattle.rfb_wire.specs.Stream.{IsFor}
 
 -- the value and the bytes behind it, nothing where they are too few, or the fault

@@ -1,7 +1,7 @@
 -- What contracts see of a reader of a host's stream.
 use Rattle.std.specs.Prelude.{◌≡◌, ℕ, ◌<◌, ◌≤◌, List, ◌++◌, length, false, Option}
-use Rattle.pixel_format.specs.Reading.{Got}
-use Rattle.client_wire.specs.declared.fault.WireFault.{WireFault}
+use Rattle.terms.specs.Reading.{Got}
+use Rattle.terms.specs.declared.wire_fault.WireFault.{WireFault}
 use Rattle.rfb_wire.specs.Grammar.{ReadOver, message_at}
 use Rattle.rfb_wire.specs.Host.{is_update}
 

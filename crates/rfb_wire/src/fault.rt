@@ -3,7 +3,7 @@
 ghost use Rattle.std.specs.Prelude.{◌≡◌};
 ghost use Rattle.rfb_wire.specs.Fault.{bytes_number};
 
-use client_wire::WireFault;
+use terms::WireFault;
 use thiserror::Error;
 
 /// Why bytes are not one recorded message.

@@ -1,9 +1,9 @@
 //! Laws of messages. Each is the contract of a function that does nothing.
 
 ghost use Rattle.std.specs.Prelude.{◌≡◌, ◌↔◌, ℕ, List, [], ◌++◌};
-ghost use Rattle.pixel_format.specs.Reading.{Got, More, Bad};
+ghost use Rattle.terms.specs.Reading.{Got, More, Bad};
 ghost use Rattle.rfb_wire.specs.declared.message.Rectangle.{Rectangle};
-ghost use Rattle.client_wire.specs.declared.fault.WireFault.{WireFault};
+ghost use Rattle.terms.specs.declared.wire_fault.WireFault.{WireFault};
 ghost use Rattle.rfb_wire.specs.Grammar.{message_at, Message, Recorded};
 ghost use Rattle.rfb_wire.specs.Message.{IsMessage};
 ghost use Rattle.client_wire.specs.Stream.{Part, Reads, BeginsNone};

@@ -11,9 +11,9 @@ mod step;
 mod write;
 
 pub use client_wire::{
-    Area, ClientMessage, ClientReader, Encodings, WireFault, read_client_message,
-    write_client_cut_text, write_key_event, write_pointer_event, write_request,
-    write_set_encodings, write_set_pixel_format,
+    ClientMessage, ClientReader, Encodings, read_client_message, write_client_cut_text,
+    write_key_event, write_pointer_event, write_request, write_set_encodings,
+    write_set_pixel_format,
 };
 pub use fault::BytesFault;
 pub use laws::{

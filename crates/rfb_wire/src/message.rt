@@ -4,11 +4,10 @@ ghost use Rattle.std.specs.Prelude.{◌≡◌, ◌↔◌, ◌≤◌, All, IsTrue
 
 use crate::fault::BytesFault;
 use crate::reader::ServerReader;
-use client_wire::{Area, WireFault};
-use pixel_format::NoMemory;
 use rect_data::Encoding;
 use std::alloc::Global;
 use std::marker::Model;
+use terms::{Area, NoMemory, WireFault};
 
 /// A rectangle of an update: its area of the screen, and where in the message's bytes its data
 /// begin and end.
@@ -52,11 +51,11 @@ impl Model for HostMessage {
 }
 
 impl HostMessage {
-    ghost use Rattle.client_wire.specs.declared.fault.WireFault.{WireFault};
+    ghost use Rattle.terms.specs.declared.wire_fault.WireFault.{WireFault};
     ghost use Rattle.rfb_wire.specs.Grammar.{message_at, message_limit};
     ghost use Rattle.rfb_wire.specs.Host.{Host, host_of, is_update, IsRecorded, IsPlaced};
     ghost use Rattle.rfb_wire.specs.Message.{IsUpdate};
-    ghost use Rattle.client_wire.specs.Fault.{UnlessMemory};
+    ghost use Rattle.terms.specs.Fault.{UnlessMemory};
     ghost use Rattle.client_wire.specs.Stream.{FaultOf};
     ghost use Rattle.rfb_wire.specs.Stream.{IsFor};
 

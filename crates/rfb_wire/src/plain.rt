@@ -1,19 +1,19 @@
 //! The grammar of messages as a plain function, which has all the bytes before it.
 
 ghost use Rattle.std.specs.Prelude.{◌≡◌, ◌+◌, ◌*◌, ◌<◌, ◌≤◌, slice_index, nat_eq, true, false, length, IfOk, IfSome, MatchOption};
-ghost use Rattle.pixel_format.specs.Reading.{Got, More};
-ghost use Rattle.pixel_format.specs.Reading as reading;
-ghost use Rattle.client_wire.specs.declared.fault.WireFault.{WireFault};
+ghost use Rattle.terms.specs.Reading.{Got, More};
+ghost use Rattle.terms.specs.Reading as reading;
+ghost use Rattle.terms.specs.declared.wire_fault.WireFault.{WireFault};
 ghost use Rattle.rfb_wire.specs.Grammar.{rectangle_at, rectangles_at, update_at, color_map_at, text_at, other_at, message_at, message_limit, Recorded, ReadOver};
 ghost use Rattle.rfb_wire.specs.Plain.{Says, SaysMessage, kind_of};
 
 use crate::message::{HostMessage, Rectangle};
 use crate::progress::MESSAGE_LIMIT;
 use crate::step::{TEXT_LIMIT, area_at, encoding_at};
-use client_wire::WireFault;
 use pixel_format::PixelFormat;
 use rect_data::{Encoding, lies_inside, measure};
 use std::alloc::Global;
+use terms::WireFault;
 
 /// The message that bytes begin with.
 #[derive(Drop)]

@@ -2,20 +2,20 @@
 
 ghost use Rattle.std.specs.Prelude.{◌≡◌, ℕ, ◌<◌, ◌≤◌, ◌^◌, ◌+◌, ◌++◌, ◌⊎◌, [], ◌∷◌, List, length, take, IfOk, OnOk, IfErr, OnErr, Ok, Err, None};
 ghost use Rattle.std.specs.Option.{option_to_list};
-ghost use Rattle.pixel_format.specs.Reading.{Got, Bad};
+ghost use Rattle.terms.specs.Reading.{Got, Bad};
 ghost use Rattle.rfb_wire.specs.Grammar.{message_at, Recorded, message_limit};
 ghost use Rattle.rfb_wire.specs.Host.{Host, host_of, IsRecorded};
 ghost use Rattle.rfb_wire.specs.Reader.{head_limit};
-ghost use Rattle.client_wire.specs.Fault.{UnlessMemory};
+ghost use Rattle.terms.specs.Fault.{UnlessMemory};
 ghost use Rattle.client_wire.specs.Stream.{StandsFor, Moves, Stops};
 ghost use Rattle.rfb_wire.specs.Stream.{given};
 
 use crate::message::{HostMessage, Rectangle};
 use crate::step::{run, step};
-use client_wire::{Area, WireFault};
 use pixel_format::PixelFormat;
 use rect_data::{Encoding, Judging};
 use std::alloc::Global;
+use terms::{Area, WireFault};
 
 /// The greatest number of bytes of an update.
 pub const MESSAGE_LIMIT: usize = 67_108_864;

@@ -2,17 +2,16 @@
 
 ghost use Rattle.std.specs.Prelude.{◌≡◌, ◌+◌, ℕ, List, [], ◌++◌, length, Option, Some, None, Ok, Err, OnOk, IfErr, OnErr};
 ghost use Rattle.rfb_wire.specs.Reader.{IsShort};
-ghost use Rattle.client_wire.specs.declared.fault.WireFault.{WireFault};
+ghost use Rattle.terms.specs.declared.wire_fault.WireFault.{WireFault};
 ghost use Rattle.client_wire.specs.Stream.{StandsFor, Goes, Stops, FaultOf, Grows};
 ghost use Rattle.rfb_wire.specs.Grammar.{message_at, message_limit};
 ghost use Rattle.rfb_wire.specs.Stream.{given};
 
 use crate::message::HostMessage;
 use crate::progress::{MESSAGE_LIMIT, PartialMessage};
-use client_wire::WireFault;
-use pixel_format::NoMemory;
 use std::alloc::Global;
 use std::marker::Model;
+use terms::{NoMemory, WireFault};
 
 /// Reads a host's messages from its stream, which comes in pieces of any length (RFC 6143, section
 /// 7.6), for a screen of one size. Each byte is looked at once, and memory is taken for bytes that

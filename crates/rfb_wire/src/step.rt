@@ -1,9 +1,9 @@
 //! What follows from a whole field of a message.
 
 ghost use Rattle.std.specs.Prelude.{◌≡◌, ℕ, ◌+◌, ◌*◌, ◌<◌, ◌≤◌, List, ◌++◌, take, drop, slice_index, nat_lt, if◌then◌else◌, length, IfOk, IfErr};
-ghost use Rattle.pixel_format.specs.Reading.{Bad};
+ghost use Rattle.terms.specs.Reading.{Bad};
 ghost use Rattle.pixel_format.specs.Format.{host_format};
-ghost use Rattle.pixel_format.specs.Number.{u16_at, u32_at};
+ghost use Rattle.terms.specs.Number.{u16_at, u32_at};
 ghost use Rattle.rect_data.specs.Judging.{HasBytes};
 ghost use Rattle.rect_data.specs.Judging as judging;
 ghost use Rattle.rfb_wire.specs.Grammar.{message_limit, text_limit, read_over, text_data_at, area_of, encoding_number};
@@ -11,9 +11,9 @@ ghost use Rattle.rfb_wire.specs.PartialMessage.{wants_of, start_of, NextBegins, 
 
 use crate::message::Rectangle;
 use crate::progress::{AfterField, Begun, Next, Stage};
-use client_wire::{Area, WireFault};
 use pixel_format::PixelFormat;
 use rect_data::{Encoding, Judging, lies_inside};
+use terms::{Area, WireFault};
 
 /// The greatest number of bytes of a text that is recorded.
 pub const TEXT_LIMIT: u32 = 65_536;

@@ -1,15 +1,16 @@
 //! Writers of a host's messages. Each appends one message, or leaves the vector as it was.
 
 ghost use Rattle.std.specs.Prelude.{◌≡◌, ◌+◌, ◌*◌, ◌<◌, ◌≤◌, ◌^◌, IsTrue, ℕ, List, [], ◌∷◌, ◌++◌, take, length, OnOk, OnErr};
-ghost use Rattle.pixel_format.specs.Reading.{Got};
+ghost use Rattle.terms.specs.Reading.{Got};
 ghost use Rattle.pixel_format.specs.declared.Color.{Color as ColorValue};
-ghost use Rattle.client_wire.specs.declared.message.Area.{Area as AreaValue};
+ghost use Rattle.terms.specs.declared.area.Area.{Area as AreaValue};
 ghost use Rattle.rect_data.specs.Grammar.{is_inside};
 ghost use Rattle.rfb_wire.specs.Grammar.{message_at, Recorded, ReadOver, text_limit};
 ghost use Rattle.rfb_wire.specs.Written.{raw_update_bytes, raw_rectangle, color_map_head, color_bytes, color_map_bytes, bell_bytes, cut_text_bytes};
 
-use client_wire::{Area, write_text, write_update_head};
-use pixel_format::{Color, NoMemory, whole_or_none};
+use client_wire::{write_text, write_update_head};
+use pixel_format::Color;
+use terms::{Area, NoMemory, whole_or_none};
 
 /// Appends a host's FramebufferUpdate of one Raw rectangle (RFC 6143, sections 7.6.1 and 7.7.1):
 /// its area, and the pixels of the area by rows, in the viewer's format.

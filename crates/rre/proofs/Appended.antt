@@ -3,9 +3,9 @@ use Rattle.std.proofs.Common.{◌≡◌, ℕ, List, ◌++◌, length, refl, sym}
 use Rattle.pixel_format.specs.declared.Color.{Color}
 use Rattle.pixel_format.specs.Format.{Format}
 use Rattle.pixel_format.specs.Pixel.{IsPixel}
-use Rattle.pixel_format.specs.Number.{u32_at}
-use Rattle.pixel_format.specs.Appending.{Appends}
-use Rattle.pixel_format.proofs.Appends.{joined}
+use Rattle.terms.specs.Number.{u32_at}
+use Rattle.terms.specs.Appending.{Appends}
+use Rattle.terms.proofs.Appends.{joined}
 use Rattle.rre.specs.declared.data.Subrectangle.{Subrectangle}
 use Rattle.rre.specs.Data.{AreBytesOf}
 use Rattle.rre.specs.Encoded.{IsAreaOf, AreBytesOfAll, IsWritten}

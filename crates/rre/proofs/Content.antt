@@ -5,11 +5,11 @@ use Rattle.std.proofs.lemmas.Bool.{le-leb, leb-true, and_parts}
 use Rattle.std.proofs.lemmas.List.{append-nil, length-take-le, length-drop, take-append-drop, take_at, drop_at}
 use Rattle.pixel_format.specs.Format.{Format, pixel_bytes}
 use Rattle.pixel_format.specs.Pixel.{pixel_color}
-use Rattle.pixel_format.specs.Reading.{Got, Bad, ◌>>=◌, field, guard}
-use Rattle.pixel_format.proofs.Readings.{bind_got, guard_got, field_got, field-whole, true_or_false, field_front}
-use Rattle.pixel_format.proofs.Measured.{Front}
-use Rattle.pixel_format.proofs.Listed.{ListRead, none_read, one_more_read}
-use Rattle.pixel_format.specs.Number.{u32_at}
+use Rattle.terms.specs.Reading.{Got, Bad, ◌>>=◌, field, guard}
+use Rattle.terms.proofs.Readings.{bind_got, guard_got, field_got, field-whole, true_or_false, field_front}
+use Rattle.terms.proofs.Measured.{Front}
+use Rattle.terms.proofs.Listed.{ListRead, none_read, one_more_read}
+use Rattle.terms.specs.Number.{u32_at}
 use Rattle.rre.specs.declared.data.Subrectangle.{Subrectangle}
 use Rattle.rre.specs.Grammar.{Content, Fault, Outside, head_bytes, subrectangle_bytes, subrectangle_of, is_inside, subrectangle_at, subrectangles_at, data_at}
 use Rattle.rre.specs.Data.{LiesWithin, AreBytesOf, AreSubrectangles, IsHead, IsData, IsRefused}

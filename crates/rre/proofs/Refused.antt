@@ -2,12 +2,12 @@
 use Rattle.std.proofs.Common.{◌≡◌, ℕ, zero, suc, inl, inr, List, ◌∷◌, ◌++◌, length, drop, refl, ap, ◌∙◌, Err}
 use Rattle.pixel_format.specs.Format.{Format}
 use Rattle.pixel_format.specs.Pixel.{pixel_color}
-use Rattle.pixel_format.specs.Reading.{Got, Bad, ◌>>=◌, field, guard}
-use Rattle.pixel_format.proofs.Readings.{field_got, field_front}
-use Rattle.pixel_format.proofs.Refusals.{bind_bad, field_never_bad, got_never_bad, guard_got_bad}
-use Rattle.pixel_format.proofs.Measured.{measured_bad}
-use Rattle.pixel_format.proofs.Listed.{StopsIn, stops_here, stops_behind}
-use Rattle.pixel_format.specs.Number.{u32_at}
+use Rattle.terms.specs.Reading.{Got, Bad, ◌>>=◌, field, guard}
+use Rattle.terms.proofs.Readings.{field_got, field_front}
+use Rattle.terms.proofs.Refusals.{bind_bad, field_never_bad, got_never_bad, guard_got_bad}
+use Rattle.terms.proofs.Measured.{measured_bad}
+use Rattle.terms.proofs.Listed.{StopsIn, stops_here, stops_behind}
+use Rattle.terms.specs.Number.{u32_at}
 use Rattle.rre.specs.declared.data.Subrectangle.{Subrectangle}
 use Rattle.rre.specs.declared.fault.Measure.TheVariants as answers
 use Rattle.rre.specs.Grammar.{Fault, Outside, head_bytes, subrectangle_bytes, subrectangle_of, is_inside, subrectangle_at, subrectangles_at, data_at}

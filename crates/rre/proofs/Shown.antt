@@ -8,7 +8,7 @@ use Rattle.pixel_format.specs.declared.Color.{Color}
 use Rattle.pixel_format.specs.Format.{Format}
 use Rattle.pixel_format.specs.Pixel.{IsWithin}
 use Rattle.pixel_format.specs.Canvas.{Agree, black, rows_of}
-use Rattle.pixel_format.specs.Appending.{Appends}
+use Rattle.terms.specs.Appending.{Appends}
 use Rattle.rre.specs.declared.data.Subrectangle.{Subrectangle}
 use Rattle.rre.specs.Data.{AreSubrectangles}
 use Rattle.rre.specs.Encoded.{IsUniform, AreUniform, part_picture, AreBytesOfAll, IsWritten, Shows, data_bytes}

@@ -4,9 +4,9 @@ use Rattle.std.proofs.Math.Seq.{take-append-add}
 use Rattle.std.proofs.lemmas.List.{take-append-drop, length-drop, append-nil}
 use Rattle.pixel_format.specs.Format.{Format}
 use Rattle.pixel_format.specs.Pixel.{pixel_color}
-use Rattle.pixel_format.specs.Reading.{Reading, Got, More, Bad, ◌>>=◌, guard}
-use Rattle.pixel_format.proofs.Readings.{field-whole, field-short}
-use Rattle.pixel_format.specs.Number.{u32_at}
+use Rattle.terms.specs.Reading.{Reading, Got, More, Bad, ◌>>=◌, guard}
+use Rattle.terms.proofs.Readings.{field-whole, field-short}
+use Rattle.terms.specs.Number.{u32_at}
 use Rattle.rre.specs.declared.data.Subrectangle.{Subrectangle}
 use Rattle.rre.specs.declared.measuring.Measuring.{Measuring}
 use Rattle.rre.specs.declared.measuring.Measuring.TheVariants as stages

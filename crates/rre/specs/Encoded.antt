@@ -5,9 +5,9 @@ use Rattle.std.specs.List.{flat_map}
 use Rattle.pixel_format.specs.declared.Color.{Color}
 use Rattle.pixel_format.specs.Format.{Format}
 use Rattle.pixel_format.specs.Pixel.{pixel_color, pixel_of}
-use Rattle.pixel_format.specs.Appending.{AreEach}
+use Rattle.terms.specs.Appending.{AreEach}
 use Rattle.pixel_format.specs.Canvas.{Picture, Agree, rows_of}
-use Rattle.pixel_format.specs.Number.{u16_at}
+use Rattle.terms.specs.Number.{u16_at}
 use Rattle.rre.specs.declared.data.Subrectangle.{Subrectangle}
 use Rattle.rre.specs.Grammar.{Content}
 use Rattle.rre.specs.Data.{LiesWithin, AreBytesOf, IsHead, IsData}

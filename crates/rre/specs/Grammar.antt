@@ -4,8 +4,8 @@ use Rattle.std.specs.Prelude.{ℕ, zero, suc, ◌+◌, List, [], ◌∷◌, take
 use Rattle.pixel_format.specs.declared.Color.{Color}
 use Rattle.pixel_format.specs.Format.{Format, pixel_bytes}
 use Rattle.pixel_format.specs.Pixel.{pixel_color}
-use Rattle.pixel_format.specs.Reading.{Reading, Got, ◌>>=◌, field, guard}
-use Rattle.pixel_format.specs.Number.{u16_at, u32_at}
+use Rattle.terms.specs.Reading.{Reading, Got, ◌>>=◌, field, guard}
+use Rattle.terms.specs.Number.{u16_at, u32_at}
 use Rattle.rre.specs.declared.data.Subrectangle.{Subrectangle}
 
 -- what data say: the colour of the background, and the subrectangles in their order

@@ -1,4 +1,4 @@
-pub use Rattle.pixel_format.specs.Reading
+pub use Rattle.terms.specs.Reading
 pub use Rattle.pixel_format.specs.Canvas
 pub mod Grammar
 pub mod Data

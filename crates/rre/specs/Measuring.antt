@@ -1,7 +1,7 @@
 -- What is left of data that are judged field by field.
 use Rattle.std.specs.Prelude.{ℕ, suc, List, Option, Some, None, Result}
 use Rattle.pixel_format.specs.Format.{Format}
-use Rattle.pixel_format.specs.Reading.{Reading, Got, ◌>>=◌, measured_as}
+use Rattle.terms.specs.Reading.{Reading, Got, ◌>>=◌, measured_as}
 use Rattle.rre.specs.declared.fault.Measure.{Measure}
 use Rattle.rre.specs.declared.fault.Measure.TheVariants as answers
 use Rattle.rre.specs.declared.measuring.Measuring.{Measuring}

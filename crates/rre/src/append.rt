@@ -3,15 +3,16 @@
 ghost use Rattle.std.specs.Prelude.{◌≡◌, ◌<◌, ◌≤◌, ◌^◌, ◌+◌, ◌++◌, All, OnOk, OnErr, length};
 ghost use Rattle.pixel_format.specs.Format.{pixel_bytes};
 ghost use Rattle.pixel_format.specs.Pixel.{IsWithin, pixel_of};
-ghost use Rattle.pixel_format.specs.Number.{u32_at};
-ghost use Rattle.pixel_format.specs.Appending.{Appends, Grows};
+ghost use Rattle.terms.specs.Number.{u32_at};
+ghost use Rattle.terms.specs.Appending.{Appends, Grows};
 ghost use Rattle.std.specs.Int.{bytes_high_first};
 ghost use Rattle.std.specs.List.{flat_map};
 ghost use Rattle.rre.specs.Data.{AreBytesOf};
 ghost use Rattle.rre.specs.Encoded.{IsAreaOf, AreBytesOfAll, IsWritten, area_bytes, part_bytes, data_bytes};
 
 use crate::data::Subrectangle;
-use pixel_format::{Color, NoMemory, PixelFormat};
+use pixel_format::{Color, PixelFormat};
+use terms::NoMemory;
 
 // The x, y, width and height of a subrectangle, in two bytes each.
 fn area_of(part: Subrectangle) -> [u8; 8]

@@ -6,9 +6,10 @@ ghost use Rattle.rre.specs.Frequent.{is_color, count_of, counted, HasMajority};
 ghost use Rattle.pixel_format.specs.Canvas.{Agree, nth, rows_of};
 
 use crate::data::Subrectangle;
-use pixel_format::{Color, NoMemory, end_of_color, same};
+use pixel_format::{Color, end_of_color, same};
 use std::alloc::Global;
 use std::collections::BTreeMap;
+use terms::NoMemory;
 
 // The most colours that are counted. With more, the others are mostly no shorter to write in RRE.
 const MOST_COLORS: usize = 64;

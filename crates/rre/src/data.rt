@@ -2,7 +2,7 @@
 
 ghost use Rattle.std.specs.Prelude.{◌≡◌, ◌≤◌, ◌+◌, length, drop, take};
 ghost use Rattle.pixel_format.specs.Format.{pixel_bytes};
-ghost use Rattle.pixel_format.specs.Number.{u16_at, u32_at};
+ghost use Rattle.terms.specs.Number.{u16_at, u32_at};
 ghost use Rattle.rre.specs.Grammar.{subrectangle_of, subrectangle_bytes, is_inside, head_bytes};
 
 use pixel_format::{Color, PixelFormat};

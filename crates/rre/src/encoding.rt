@@ -2,13 +2,14 @@
 
 ghost use Rattle.std.specs.Prelude.{◌≡◌, ◌+◌, ◌*◌, ◌<◌, All, IfOk, OnOk, OnErr, length, true, false};
 ghost use Rattle.pixel_format.specs.Pixel.{IsWithin};
-ghost use Rattle.pixel_format.specs.Appending.{Appends};
+ghost use Rattle.terms.specs.Appending.{Appends};
 ghost use Rattle.rre.specs.Encoded.{Shows};
 
 use crate::append::append_data;
 use crate::cover::{background, cover};
-use pixel_format::{Color, NoMemory, PixelFormat, whole_or_none};
+use pixel_format::{Color, PixelFormat};
 use std::alloc::Global;
+use terms::{NoMemory, whole_or_none};
 
 // The colour of the background: black where there are no places.
 fn background_color(

@@ -2,7 +2,7 @@
 
 ghost use Rattle.std.specs.Prelude.{◌≡◌, ◌↔◌, ℕ, List, [], ◌++◌};
 ghost use Rattle.pixel_format.specs.Format.{Format};
-ghost use Rattle.pixel_format.specs.Reading.{Got, Bad};
+ghost use Rattle.terms.specs.Reading.{Got, Bad};
 ghost use Rattle.rre.specs.Grammar.{Content, Outside, data_at};
 ghost use Rattle.rre.specs.Data.{IsData, IsRefused};
 

@@ -1,7 +1,7 @@
 //! Judging data field by field, as they come.
 
 ghost use Rattle.std.specs.Prelude.{◌≡◌, ◌↔◌, ℕ, ◌<◌, ◌≤◌, ◌+◌, ◌++◌, List, ◌^◌, length, take, IfOk, IfErr, IfSome, Ok, Err, None};
-ghost use Rattle.pixel_format.specs.Reading.{Bad};
+ghost use Rattle.terms.specs.Reading.{Bad};
 ghost use Rattle.pixel_format.specs.Format.{Format};
 ghost use Rattle.rre.specs.Grammar.{Outside, subrectangle_bytes, subrectangles_at, data_at};
 

@@ -1,9 +1,9 @@
 //! Where viewers come in: one thread accepts, and each connection has a thread of its own.
 
-use crate::quiet::Quiet;
+use crate::no_turnstile::NoTurnstile;
 use crate::sink::Watching;
 use broadcast::Start;
-use connections::{Event, Room, Viewer, Woken, pause, turn_away};
+use connections::{Connection, Event, Room, Viewer, Woken, pause, turn_away};
 use disk::Disk;
 use reception::{Arrival, Reason};
 use shared_book::{Mark, Shared, run_viewer};
@@ -25,11 +25,11 @@ const FINAL: [i32; 4] = [9, 22, 88, 95];
 // Shows a viewer the recording, from a seat. One that begins behind a message takes its seat at the
 // last key screen before, so that no more than a block is read under the lock at a time; what lies
 // between is painted for it before it is answered.
-fn watch<D: Disk, M: Mark, R: Clock + Eprint + Wait>(
+fn watch<D: Disk, M: Mark, C: Connection, R: Clock + Eprint + Wait>(
     rt: &R,
     shared: &Shared<D, M>,
     room: &Room<M>,
-    viewer: &Viewer<M>,
+    viewer: &Viewer<M, C>,
 ) {
     let start = match room.from {
         Start::Live => Start::Live,
@@ -38,7 +38,13 @@ fn watch<D: Disk, M: Mark, R: Clock + Eprint + Wait>(
             Start::At(shared.key_before(rt, count))
         }
     };
-    let _ended = run_viewer(rt, shared, start, Watching::new(rt, viewer, room), &Quiet);
+    let _ended = run_viewer(
+        rt,
+        shared,
+        start,
+        Watching::new(rt, viewer, room),
+        &NoTurnstile,
+    );
     viewer.leave(rt);
 }
 
@@ -47,7 +53,7 @@ fn serve_viewer<D: Disk + Send, M: Mark + Send + Sync, R: Threads + Clock + Epri
     rt: &R,
     shared: &Shared<D, M>,
     room: &Room<M>,
-    viewer: &Viewer<M>,
+    viewer: &Viewer<M, TcpStream>,
     from: SocketAddr,
 ) {
     thread::scope(thread::scope_env(), rt, |scope| {
@@ -63,8 +69,8 @@ fn greeted<M: Mark, R: Clock + Wait>(
     rt: &R,
     room: &Room<M>,
     stream: TcpStream,
-) -> Option<Viewer<M>> {
-    let viewer = Viewer::<M>::new(room.alloc, stream, room.size, &room.name).ok()?;
+) -> Option<Viewer<M, TcpStream>> {
+    let viewer = Viewer::<M, TcpStream>::new(room.alloc, stream, room.size, &room.name).ok()?;
     match viewer.greet(rt, &room.bell) {
         Ok(true) => Some(viewer),
         _ => None,

@@ -3,7 +3,7 @@
 
 mod ending;
 mod entrance;
-mod quiet;
+mod no_turnstile;
 mod recording;
 mod serving;
 mod sink;

@@ -1,7 +1,7 @@
 //! The recording's file: opened where it has bytes, or made whole.
 
 use connections::{Event, Refusal, Telling};
-use file_commands::{FileDisk, LastError, sync_folder};
+use file_disk::{FileDisk, LastError, sync_folder};
 use flusher_core::Book;
 use gated_journal::{CreateFault, Header};
 use key_index::IndexFault;

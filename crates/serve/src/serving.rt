@@ -5,7 +5,7 @@ ghost use Rattle.flusher_core.specs.State.{accepted_count};
 
 use crate::ending::wait_for_stop;
 use crate::entrance::accept_all;
-use crate::quiet::Quiet;
+use crate::no_turnstile::NoTurnstile;
 use crate::recording::{Found, Identity, create, find};
 use crate::sink::Committing;
 use broadcast::Desk;
@@ -14,7 +14,7 @@ use connections::{
     first_refusal,
 };
 use disk::Disk;
-use file_commands::{FileDisk, LastError};
+use file_disk::{FileDisk, LastError};
 use flusher_core::{Book, HostRefusal, TakeRefusal};
 use gated_journal::Header;
 use shared_book::{FlusherEnd, Mark, Shared, Token, run_flusher, run_host};
@@ -75,7 +75,7 @@ fn record<D: Disk, M: Mark, R: Clock + Eprint + Wait>(
 ) -> HostEnds {
     let end = Mutex::new(HostEnd::Closed);
     let messages = Messages::new(rt, host, stopwatch, room, &end);
-    let worker = run_host(rt, shared, messages, &Quiet);
+    let worker = run_host(rt, shared, messages, &NoTurnstile);
     let end = end.into_inner();
     if !room.is_stopped() {
         room.telling.tell(rt, Event::HostEnded(end));
@@ -107,7 +107,7 @@ fn flush<D: Disk, M: Mark, R: Clock + Eprint + Wait>(
     room: &Room<M>,
     stream: Option<&TcpStream>,
 ) -> Result<(), FlusherEnd> {
-    let end = run_flusher(rt, shared, Committing::new(rt, room), &Quiet);
+    let end = run_flusher(rt, shared, Committing::new(rt, room), &NoTurnstile);
     room.tell_recorded(rt);
     if let Err(why) = end {
         tell_why(rt, room, why);

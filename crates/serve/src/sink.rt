@@ -1,8 +1,8 @@
 //! What a viewer's worker and the flusher work for.
 
 use broadcast::Start;
-use connections::{Event, Room, Viewer};
-use shared_book::{Ending, Mark, Receipt, ReceiptSink, Turn, ViewerSink};
+use connections::{Connection, Event, Room, Viewer};
+use shared_book::{Ending, Mark, Receipt, ReceiptSink, ViewerSink, ViewerWish};
 use std::sync::Wait;
 use std::time::{Clock, Instant};
 
@@ -14,9 +14,9 @@ const FAR: u64 = 64;
 
 /// Shows a viewer the recording as it grows.
 #[derive(Drop)]
-pub struct Watching<'a, M: Mark, R: Clock + Eprint + Wait> {
+pub struct Watching<'a, M: Mark, C: Connection, R: Clock + Eprint + Wait> {
     rt: &'a R,
-    viewer: &'a Viewer<M>,
+    viewer: &'a Viewer<M, C>,
     room: &'a Room<M>,
     position: u64,
     /// Whether it has a screen to go on from.
@@ -28,9 +28,9 @@ pub struct Watching<'a, M: Mark, R: Clock + Eprint + Wait> {
     is_short: bool,
 }
 
-impl<'a, M: Mark, R: Clock + Eprint + Wait> Watching<'a, M, R> {
+impl<'a, M: Mark, C: Connection, R: Clock + Eprint + Wait> Watching<'a, M, C, R> {
     /// At the start of a viewer's seat.
-    pub fn new(rt: &'a R, viewer: &'a Viewer<M>, room: &'a Room<M>) -> Watching<'a, M, R> {
+    pub fn new(rt: &'a R, viewer: &'a Viewer<M, C>, room: &'a Room<M>) -> Watching<'a, M, C, R> {
         Watching {
             rt,
             viewer,
@@ -77,8 +77,8 @@ impl<'a, M: Mark, R: Clock + Eprint + Wait> Watching<'a, M, R> {
     }
 }
 
-impl<'a, M: Mark, R: Clock + Eprint + Wait> ViewerSink<Receipt<M>, Ending<M>>
-    for Watching<'a, M, R> {
+impl<'a, M: Mark, C: Connection, R: Clock + Eprint + Wait> ViewerSink<Receipt<M>, Ending<M>>
+    for Watching<'a, M, C, R> {
     ghost width = { λ w. M.head.width };
 
     ghost height = { λ w. M.head.height };
@@ -93,24 +93,24 @@ impl<'a, M: Mark, R: Clock + Eprint + Wait> ViewerSink<Receipt<M>, Ending<M>>
         self.viewer.has_left()
     }
 
-    fn turn(&mut self) -> Turn {
+    fn wish(&mut self) -> ViewerWish {
         if self.is_at_end {
             self.rest_at_end();
-            return Turn::Stop;
+            return ViewerWish::Stop;
         }
         if self.is_cut_off() {
-            return Turn::Stop;
+            return ViewerWish::Stop;
         }
         let committed = self.room.committed();
         if self.has_start && self.is_far_behind() {
             // It takes the screen there next.
             self.has_start = false;
-            Turn::Seek(committed)
+            ViewerWish::Seek(committed)
         } else if !self.has_start || self.has_waited || self.position < committed {
-            Turn::Want(self.limit())
+            ViewerWish::Want(self.limit())
         } else {
             self.has_waited = true;
-            Turn::Wait
+            ViewerWish::Wait
         }
     }
 

@@ -8,7 +8,8 @@ mod viewers;
 
 use crate::{Audience, Plan, Stop, serve_on};
 use broadcast::Start;
-use file_commands::{Progress, check};
+use file_commands::check;
+use file_disk::Progress;
 use std::fs::File;
 use std::net::{Net, TcpListener, TcpStream};
 use std::rt::Files;

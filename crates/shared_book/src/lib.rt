@@ -16,7 +16,7 @@ mod workers;
 pub use closed::Closed;
 pub use held::Held;
 pub use mark::{Mark, Token};
-pub use parties::{HostSource, Point, ReceiptSink, Turn, Turnstile, ViewerSink};
+pub use parties::{HostSource, Point, ReceiptSink, Turnstile, ViewerSink, ViewerWish};
 pub use receipt::{Ending, Receipt, Ticket};
 pub use shared::Shared;
 pub use workers::{FlusherEnd, ViewerEnd, run_flusher, run_host, run_viewer};

@@ -4,10 +4,10 @@ ghost use Rattle.std.specs.Prelude.{◌≡◌, []};
 ghost use Rattle.shared_book.specs.History.{total};
 
 use crate::history::{Front, Log, Opened};
-use crate::numbers::{Counter, Giver};
-use gated_journal::NoMemory;
+use crate::numbers::{Counter, NumberSource};
 use std::alloc::Global;
 use std::marker::{Brand, Model};
+use terms::NoMemory;
 
 /// Marks a desk that threads share, and all that comes from it: a receipt of one mark is known to
 /// stand in the recording of that mark. A program has no such type of its own. It is generic over
@@ -68,7 +68,7 @@ impl Token {
     }
 
     /// The history and the numbers that it names, under a mark that fits it.
-    pub(crate) fn named<M: Mark>(self) -> (Log<M>, Front<M>, Giver<M>)
+    pub(crate) fn named<M: Mark>(self) -> (Log<M>, Front<M>, NumberSource<M>)
         requires { self ≡ M.names }
         ensures front { result.1 ≡ total [] }
         ensures giver { result.2 ≡ 0 }

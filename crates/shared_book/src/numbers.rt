@@ -104,12 +104,12 @@ impl Counter {
     }
 
     /// The counter under a mark.
-    pub fn named<M: Mark>(self) -> Giver<M>
+    pub fn named<M: Mark>(self) -> NumberSource<M>
         requires { self.cell.table.shared.table_id ≡ M.names.table }
         ensures { result ≡ 0 }
     {
         let Counter { cell, pass } = self;
-        Giver {
+        NumberSource {
             cell,
             pass,
             of: PhantomData,
@@ -119,13 +119,13 @@ impl Counter {
 
 /// Gives numbers. Contracts see the next one.
 #[derive(Drop)]
-pub struct Giver<M: Mark> {
+pub struct NumberSource<M: Mark> {
     cell: Cell,
     pass: NumberPass,
     of: PhantomData<M>,
 }
 
-impl<M: Mark> Model for Giver<M> {
+impl<M: Mark> Model for NumberSource<M> {
     ghost use Rattle.std.specs.Prelude.{◌≡◌, ℕ};
     ghost use Rattle.crossbeam_utils.specs.Seq.{cell_view};
     ghost use Rattle.shared_book.specs.Numbers.{giver};
@@ -139,12 +139,12 @@ impl<M: Mark> Model for Giver<M> {
 
 /// The one holder of a number. Contracts see the number.
 #[derive(Drop)]
-pub struct Stub<M: Mark> {
+pub struct NumberProof<M: Mark> {
     pass: NumberPass,
     of: PhantomData<M>,
 }
 
-impl<M: Mark> Model for Stub<M> {
+impl<M: Mark> Model for NumberProof<M> {
     ghost use Rattle.std.specs.Prelude.{◌≡◌, [], ◌∷◌, ℕ, slice_index};
     ghost use Rattle.crossbeam_utils.specs.Seq.{cell_view};
     ghost use Rattle.shared_book.specs.Numbers.{holder};
@@ -156,21 +156,21 @@ impl<M: Mark> Model for Stub<M> {
     ghost invariant = { λ s. (s.pass.table_id ≡ M.names.table) × (cell_view s.pass ≡ holder (slice_index (cell_view s.pass).numbers 0 ∷ [])) };
 }
 
-impl<M: Mark> Giver<M> {
+impl<M: Mark> NumberSource<M> {
     /// The next number.
-    pub fn give(&mut self) -> Stub<M>
+    pub fn give(&mut self) -> NumberProof<M>
         ensures given { result ≡ self.old }
         ensures next { self.new ≡ self.old + 1 }
     {
         let pass = self.cell.split_pass::<Gives>(&mut self.pass);
-        Stub {
+        NumberProof {
             pass,
             of: PhantomData,
         }
     }
 
     /// Does nothing: its contract is that two holders have different numbers.
-    pub fn apart<R: Wait>(&self, rt: &R, one: &mut Stub<M>, other: &mut Stub<M>)
+    pub fn apart<R: Wait>(&self, rt: &R, one: &mut NumberProof<M>, other: &mut NumberProof<M>)
         ensures apart { one.old ≢ other.old }
         ensures one { one.new ≡ one.old }
         ensures other { other.new ≡ other.old }

@@ -52,7 +52,7 @@ pub trait ReceiptSink<T>: Drop {
 
 /// What a viewer wants next.
 #[derive(Clone, Copy, Debug, PartialEq, Eq)]
-pub enum Turn {
+pub enum ViewerWish {
     /// The messages behind its position, so many at most.
     Want(u32),
     /// To wait until there are some, host and flusher have ended, or the viewer has left.
@@ -67,7 +67,7 @@ pub enum Turn {
 /// sink stands. An ending says that it has all.
 pub trait ViewerSink<T, E>: Drop {
     ghost use Rattle.std.specs.Prelude.{ℕ};
-    ghost use Rattle.flusher_core.specs.declared.slice.Slice.{Slice};
+    ghost use Rattle.replay.specs.declared.slice.Slice.{Slice};
 
     ghost width: { Self → ℕ };
 
@@ -86,7 +86,7 @@ pub trait ViewerSink<T, E>: Drop {
     }
 
     /// What it wants.
-    fn turn(&mut self) -> Turn
+    fn wish(&mut self) -> ViewerWish
         ensures same { (width self.new ≡ width self.old) × (height self.new ≡ height self.old) }
         ensures stays { position self.new ≡ position self.old };
 

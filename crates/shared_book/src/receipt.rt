@@ -4,8 +4,8 @@ ghost use Rattle.std.specs.Prelude.{◌≡◌, length};
 
 use crate::history::Front;
 use crate::mark::Mark;
-use crate::numbers::Stub;
-use flusher_core::Slice;
+use crate::numbers::NumberProof;
+use replay::Slice;
 use std::marker::Model;
 
 /// A slice that `gate` or `next` answered, of [`Shared`](crate::Shared). It is made by these alone,
@@ -19,8 +19,8 @@ pub struct Receipt<M: Mark> {
 
 impl<M: Mark> Model for Receipt<M> {
     ghost use Rattle.std.specs.Prelude.{◌<◌, ◌^◌, length};
-    ghost use Rattle.flusher_core.specs.declared.slice.Slice.{Slice};
-    ghost use Rattle.broadcast.specs.Headline.{Stands};
+    ghost use Rattle.replay.specs.declared.slice.Slice.{Slice};
+    ghost use Rattle.replay.specs.Slices.{Stands};
 
     ghost Value = { Slice };
 
@@ -44,7 +44,7 @@ impl<M: Mark> Receipt<M> {
 pub struct Ticket<M: Mark> {
     pub(crate) number: u64,
     pub(crate) front: Front<M>,
-    pub(crate) stub: Stub<M>,
+    pub(crate) stub: NumberProof<M>,
 }
 
 impl<M: Mark> Model for Ticket<M> {

@@ -5,8 +5,8 @@ use Rattle.std.proofs.lemmas.Bool.{cases_Bool, and_parts, false_from_ne_true}
 use Rattle.pixel_format.specs.declared.Color.{Color}
 use Rattle.pixel_format.specs.Pixel.{converted}
 use Rattle.pixel_format.specs.Canvas.{Picture}
-use Rattle.pixel_format.specs.Appending.{Appends}
-use Rattle.client_wire.specs.declared.message.Area.{Area}
+use Rattle.terms.specs.Appending.{Appends}
+use Rattle.terms.specs.declared.area.Area.{Area}
 use Rattle.rect_data.specs.Data.{LiesWithin}
 use Rattle.rect_codec.specs.Picture.{is_in}
 use Rattle.rect_codec.specs.Update.{DrawsColors, HasColors, all_painted}

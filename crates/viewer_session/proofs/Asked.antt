@@ -5,7 +5,7 @@ use Rattle.std.proofs.lemmas.Bool.{cases_lt}
 use Rattle.pixel_format.specs.Format.{Format}
 use Rattle.pixel_format.specs.Canvas.{Picture}
 use Rattle.replay.specs.Screens.{IsScreenAt}
-use Rattle.client_wire.specs.declared.message.Area.{Area}
+use Rattle.terms.specs.declared.area.Area.{Area}
 use Rattle.client_wire.specs.declared.message.ClientMessage.{ClientMessage}
 use Rattle.rect_codec.specs.Picture.{is_in}
 use Rattle.rect_data.specs.declared.encoding.Encoding.{Encoding}

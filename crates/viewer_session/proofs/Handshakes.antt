@@ -4,9 +4,9 @@ use Rattle.std.specs.Prelude.{slice_index, if◌then◌else◌}
 use Rattle.std.specs.Str.{bytes_eq}
 use Rattle.std.proofs.lemmas.Bool.{le-ltb, cases_lt}
 use Rattle.std.proofs.lemmas.List.{length-drop, length-take-le, drop_all, get_or-take, get_or-drop, take-append-drop, append-nil}
-use Rattle.pixel_format.specs.Reading.{Reading, Got, More, Bad, field}
-use Rattle.pixel_format.specs.Talk.{Talk, silent, say, hear}
-use Rattle.pixel_format.proofs.Readings.{field-short, field-whole}
+use Rattle.terms.specs.Reading.{Reading, Got, More, Bad, field}
+use Rattle.terms.specs.Talk.{Talk, silent, say, hear}
+use Rattle.terms.proofs.Readings.{field-short, field-whole}
 use Rattle.viewer_session.specs.declared.fault.SessionFault.{SessionFault}
 use Rattle.viewer_session.specs.declared.fault.SessionFault.TheVariants as faults
 use Rattle.viewer_session.specs.declared.handshake.Stage.TheVariants as stages

@@ -1,12 +1,12 @@
 -- A viewer's stream has one reading.
 use Rattle.std.proofs.Common.{◌≡◌, ℕ, List, [], ◌++◌, refl, sym, ap, ◌∙◌, subst}
 use Rattle.std.specs.Prelude.{Option, Some, None}
-use Rattle.pixel_format.specs.Reading.{More, Bad}
-use Rattle.pixel_format.specs.Talk.{Talk}
+use Rattle.terms.specs.Reading.{More, Bad}
+use Rattle.terms.specs.Talk.{Talk}
 use Rattle.client_wire.specs.declared.message.ClientMessage.{ClientMessage}
-use Rattle.client_wire.specs.declared.fault.WireFault.{WireFault}
-use Rattle.client_wire.specs.declared.fault.WireFault.TheVariants as wire
-use Rattle.client_wire.specs.Fault.{UnlessMemory}
+use Rattle.terms.specs.declared.wire_fault.WireFault.{WireFault}
+use Rattle.terms.specs.declared.wire_fault.WireFault.TheVariants as wire
+use Rattle.terms.specs.Fault.{UnlessMemory}
 use Rattle.client_wire.specs.Grammar.{message_at}
 use Rattle.client_wire.specs.Reader.{Reader}
 use Rattle.client_wire.specs.Stream.{Gives, itself, given_of}

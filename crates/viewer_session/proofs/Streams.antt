@@ -2,8 +2,8 @@
 use Rattle.std.proofs.Common.{◌≡◌, ℕ, ◌≤◌, List, [], ◌++◌, length, take, drop, refl, sym, ap, ◌∙◌, subst, append_assoc, arith}
 use Rattle.std.specs.Prelude.{false, Result, Ok, Err, OnOk, IfErr, Option, Some, None}
 use Rattle.std.proofs.lemmas.List.{append-nil, take-append-drop, take_all, drop-append-le}
-use Rattle.pixel_format.specs.Reading.{Reading, Got, More, Bad, field}
-use Rattle.pixel_format.specs.Talk.{Talk}
+use Rattle.terms.specs.Reading.{Reading, Got, More, Bad, field}
+use Rattle.terms.specs.Talk.{Talk}
 use Rattle.client_wire.specs.declared.message.ClientMessage.{ClientMessage}
 use Rattle.client_wire.specs.Grammar.{message_at}
 use Rattle.client_wire.specs.Reader.{Reader}

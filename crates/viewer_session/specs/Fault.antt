@@ -1,6 +1,6 @@
 -- The numbers by which faults are printed.
 use Rattle.std.specs.Prelude.{ℕ}
-use Rattle.client_wire.specs.Fault.{wire_number}
+use Rattle.terms.specs.Fault.{wire_number}
 use Rattle.viewer_session.specs.declared.fault.SessionFault.{SessionFault}
 use Rattle.viewer_session.specs.declared.fault.SessionFault.TheVariants as faults
 

@@ -1,7 +1,7 @@
 -- A viewer's handshake, heard in pieces and answered.
 use Rattle.std.specs.Prelude.{◌≡◌, ℕ, ◌<◌, ◌≤◌, ◌^◌, true, List, [], ◌++◌, length, take, Option, Some, None}
-use Rattle.pixel_format.specs.Reading.{Reading, Got, More, Bad}
-use Rattle.pixel_format.specs.Talk.{Talk}
+use Rattle.terms.specs.Reading.{Reading, Got, More, Bad}
+use Rattle.terms.specs.Talk.{Talk}
 use Rattle.viewer_session.specs.declared.fault.SessionFault.{SessionFault}
 use Rattle.viewer_session.specs.declared.greeting.Greeting.{Greeting}
 use Rattle.viewer_session.specs.Handshake.{handshake_at}

@@ -2,9 +2,9 @@
 -- version 3.8). The recorder speaks first.
 use Rattle.std.specs.Prelude.{ℕ, ◌/◌, ◌%◌, List, [], ◌∷◌, ◌++◌, length, slice_index, nat_eq, Bool, if◌then◌else◌}
 use Rattle.std.specs.Str.{bytes_eq}
-use Rattle.pixel_format.specs.Reading.{Got, Bad, field}
-use Rattle.pixel_format.specs.Talk.{Talk, silent, say, hear}
-use Rattle.client_wire.specs.Number.{u32_bytes}
+use Rattle.terms.specs.Reading.{Got, Bad, field}
+use Rattle.terms.specs.Talk.{Talk, silent, say, hear}
+use Rattle.terms.specs.Number.{u32_bytes}
 use Rattle.viewer_session.specs.declared.fault.SessionFault.{SessionFault}
 use Rattle.viewer_session.specs.declared.fault.SessionFault.TheVariants as faults
 

@@ -1,7 +1,7 @@
 -- How far a viewer's handshake goes.
 use Rattle.std.specs.Prelude.{ℕ, List, [], ◌++◌}
-use Rattle.pixel_format.specs.Reading.{Reading, Got, More, Bad}
-use Rattle.pixel_format.specs.Talk.{Talk}
+use Rattle.terms.specs.Reading.{Reading, Got, More, Bad}
+use Rattle.terms.specs.Talk.{Talk}
 use Rattle.viewer_session.specs.declared.fault.SessionFault.{SessionFault}
 use Rattle.viewer_session.specs.declared.fault.SessionFault.TheVariants as faults
 use Rattle.viewer_session.specs.declared.handshake.Stage.{Stage}

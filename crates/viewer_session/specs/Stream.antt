@@ -1,10 +1,10 @@
 -- What a session has made of a viewer's stream, in the words of the stream: the handshake and its
 -- answers, and the messages behind it (RFC 6143, sections 7.1 to 7.3 and 7.5).
 use Rattle.std.specs.Prelude.{◌≡◌, ℕ, List, [], Option, Some, None}
-use Rattle.pixel_format.specs.Reading.{Got, More, Bad}
+use Rattle.terms.specs.Reading.{Got, More, Bad}
 use Rattle.client_wire.specs.declared.message.ClientMessage.{ClientMessage}
-use Rattle.client_wire.specs.declared.fault.WireFault.{WireFault}
-use Rattle.client_wire.specs.Fault.{UnlessMemory}
+use Rattle.terms.specs.declared.wire_fault.WireFault.{WireFault}
+use Rattle.terms.specs.Fault.{UnlessMemory}
 use Rattle.client_wire.specs.Grammar.{message_at}
 use Rattle.client_wire.specs.Reader.{Reader}
 use Rattle.client_wire.specs.Stream.{Gives, StandsFor, itself}

@@ -4,9 +4,9 @@ use Rattle.std.specs.List.{AllByRecursion}
 use Rattle.pixel_format.specs.Format.{Format}
 use Rattle.pixel_format.specs.Pixel.{converted, IsWithin}
 use Rattle.pixel_format.specs.declared.Color.{Color}
-use Rattle.pixel_format.specs.Reading.{Got}
+use Rattle.terms.specs.Reading.{Got}
 use Rattle.pixel_format.specs.Canvas.{Picture, rows_of}
-use Rattle.client_wire.specs.declared.message.Area.{Area}
+use Rattle.terms.specs.declared.area.Area.{Area}
 use Rattle.client_wire.specs.declared.message.ClientMessage.{ClientMessage}
 use Rattle.client_wire.specs.declared.message.ClientMessage.TheVariants as messages
 use Rattle.rect_data.specs.Data.{LiesWithin}
@@ -20,7 +20,7 @@ use Rattle.gated_journal.specs.Recording.{Head}
 use Rattle.keyed_entries.specs.declared.entry.Stamped.{Stamped}
 use Rattle.keyed_entries.specs.Entry.{IsStampedFor}
 use Rattle.replay.specs.Screens.{IsScreenAt}
-use Rattle.flusher_core.specs.declared.slice.Slice.{Slice}
+use Rattle.replay.specs.declared.slice.Slice.{Slice}
 use Rattle.viewer_session.specs.Places.{holds, IsSmallest, IsSmallestOf}
 use Rattle.viewer_session.specs.declared.view.View.{View}
 

@@ -3,7 +3,7 @@
 ghost use Rattle.std.specs.Prelude.{◌≡◌};
 ghost use Rattle.viewer_session.specs.Fault.{session_number};
 
-use client_wire::WireFault;
+use terms::WireFault;
 use thiserror::Error;
 
 /// Why a session with a viewer ends, at the first field that is refused (RFC 6143, sections 7.1 to

@@ -1,14 +1,15 @@
 //! A viewer's handshake, heard in pieces and answered.
 
 ghost use Rattle.std.specs.Prelude.{◌≡◌, ◌<◌, ◌^◌, ◌/◌, ◌%◌, ◌++◌, [], ◌∷◌, length, drop, false, true, IfOk, IfErr, OnOk, OnErr};
-ghost use Rattle.client_wire.specs.Number.{u32_bytes};
+ghost use Rattle.terms.specs.Number.{u32_bytes};
 ghost use Rattle.viewer_session.specs.Handshake.{server_init};
 
 use crate::fault::SessionFault;
 use crate::handshake::{LENGTH, Stage, greeting, is_whole, stage_of};
 use arrayvec::ArrayVec;
-use pixel_format::{NoMemory, PixelFormat};
+use pixel_format::PixelFormat;
 use std::alloc::Global;
+use terms::NoMemory;
 
 /// What a viewer is told of the screen, how far its handshake goes, and how much it was answered.
 #[derive(Drop)]

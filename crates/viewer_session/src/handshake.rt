@@ -1,7 +1,7 @@
 //! A viewer's handshake: how far the first bytes of its stream go.
 
 ghost use Rattle.std.specs.Prelude.{◌≡◌, ℕ, ◌≤◌, ◌<◌, List, [], length, true, false, Ok, IfErr};
-ghost use Rattle.pixel_format.specs.Reading.{Got, More, Bad};
+ghost use Rattle.terms.specs.Reading.{Got, More, Bad};
 ghost use Rattle.viewer_session.specs.Handshake.{handshake_at};
 ghost use Rattle.viewer_session.specs.Stage.{talk_at, heard_at, greeting_of};
 

@@ -4,7 +4,7 @@ ghost use Rattle.std.specs.Prelude.{◌≡◌, ℕ, List, ◌++◌};
 ghost use Rattle.client_wire.specs.declared.message.ClientMessage.{ClientMessage};
 ghost use Rattle.viewer_session.specs.declared.fault.SessionFault.{SessionFault};
 ghost use Rattle.viewer_session.specs.declared.fault.SessionFault.TheVariants as faults;
-ghost use Rattle.client_wire.specs.declared.fault.WireFault.TheVariants as wire;
+ghost use Rattle.terms.specs.declared.wire_fault.WireFault.TheVariants as wire;
 ghost use Rattle.viewer_session.specs.Session.{Session, IsAfter, IsStopped, AreAlike};
 
 /// However a viewer's stream is cut, two sessions of one size and name that got it have taken the

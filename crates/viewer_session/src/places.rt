@@ -7,10 +7,9 @@ ghost use Rattle.viewer_session.specs.Bits.{is_set};
 ghost use Rattle.viewer_session.specs.Places.{holds, AreJust, SameSize, IsRow, IsSmallest, IsSmallestOf};
 
 use crate::bits::{WORD, fill, first_and_last};
-use client_wire::Area;
-use pixel_format::NoMemory;
 use std::alloc::Global;
 use std::marker::Model;
+use terms::{Area, NoMemory};
 
 // Puts the places of an area into the set, or takes them out of it, row by row.
 fn fill_area(words: &mut [u64], width: u16, area: Area, value: bool)

@@ -3,10 +3,10 @@
 ghost use Rattle.std.specs.Prelude.{◌≡◌, ℕ, ◌<◌, ◌^◌, ◌+◌, ◌||◌, List, ◌++◌, [], length, true, false, IfOk, IfErr, OnOk, OnErr, None, Some, Ok, Err};
 ghost use Rattle.pixel_format.specs.Canvas.{Picture};
 ghost use Rattle.pixel_format.specs.Format.{host_format};
-ghost use Rattle.pixel_format.specs.Appending.{Appends};
+ghost use Rattle.terms.specs.Appending.{Appends};
 ghost use Rattle.gated_journal.specs.Recording.{Head};
 ghost use Rattle.keyed_entries.specs.declared.entry.Stamped.{Stamped};
-ghost use Rattle.broadcast.specs.Headline.{Stands};
+ghost use Rattle.replay.specs.Slices.{Stands};
 ghost use Rattle.client_wire.specs.declared.message.ClientMessage.{ClientMessage};
 ghost use Rattle.viewer_session.specs.View.{IsRight, IsNext, AreStale, stale_at, is_stale_after, is_there, IsDue, Answers, IsOne};
 ghost use Rattle.viewer_session.specs.Session.{IsAfter, Fed, Stopped, closed_by};
@@ -15,11 +15,11 @@ use crate::fault::SessionFault;
 use crate::greeting::Greeting;
 use crate::progress::Progress;
 use crate::view::{View, take_all};
-use flusher_core::Slice;
-use pixel_format::NoMemory;
 use rect_data::Encoding;
+use replay::Slice;
 use std::alloc::Global;
 use std::marker::Model;
+use terms::NoMemory;
 
 // Messages are taken of so many bytes at a time, so that those of a long piece need no more memory.
 const PART: usize = 1024;

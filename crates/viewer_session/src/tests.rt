@@ -3,14 +3,14 @@
 ghost use Rattle.std.specs.Prelude.{◌≡◌, IfOk};
 
 use crate::{Session, SessionFault, is_whole};
-use client_wire::{Area, WireFault, write_request};
-use flusher_core::Slice;
+use client_wire::write_request;
 use key_index::Stamped;
 use painter::Screen;
-use pixel_format::FormatFault;
+use replay::Slice;
 use rfb_wire::HostMessage;
 use std::alloc::Global;
 use std::test::Fail;
+use terms::{Area, FormatFault, WireFault};
 
 mod viewer;
 

@@ -4,7 +4,7 @@ ghost use Rattle.std.specs.Prelude.{◌≡◌, ◌+◌, ◌*◌, ◌<◌, ◌≤
 ghost use Rattle.pixel_format.specs.Canvas.{Picture, nth};
 ghost use Rattle.pixel_format.specs.Format.{host_format};
 ghost use Rattle.pixel_format.specs.Pixel.{converted, IsScreenColor, IsWithin};
-ghost use Rattle.pixel_format.specs.Appending.{Appends};
+ghost use Rattle.terms.specs.Appending.{Appends};
 ghost use Rattle.rect_codec.specs.Picture.{is_in};
 ghost use Rattle.rect_data.specs.Data.{LiesWithin};
 ghost use Rattle.rfb_wire.specs.Host.{Host};
@@ -12,20 +12,21 @@ ghost use Rattle.painter.specs.Framebuffer.{color_at, Shows, SameSize as SameScr
 ghost use Rattle.gated_journal.specs.Recording.{Head};
 ghost use Rattle.keyed_entries.specs.declared.entry.Stamped.{Stamped};
 ghost use Rattle.keyed_entries.specs.Entry.{hosts_of};
-ghost use Rattle.broadcast.specs.Headline.{Stands};
+ghost use Rattle.replay.specs.Slices.{Stands};
 ghost use Rattle.viewer_session.specs.Places.{holds, AreJust, SameSize, IsSmallest};
 ghost use Rattle.viewer_session.specs.View.{IsRight, IsSound, IsNext, AreStale, stale_at, is_stale_after, is_there, is_touched, is_touched_by, is_pending, IsDue, IsDueIn, IsPart, IsCut, IsAsked, IsTaken, AreTaken, Answers, IsOne, AreConverted};
 
 use crate::places::Places;
-use client_wire::{Area, ClientMessage};
-use flusher_core::Slice;
+use client_wire::ClientMessage;
 use key_index::Stamped;
 use painter::Screen;
-use pixel_format::{Color, NoMemory, PixelFormat};
+use pixel_format::{Color, PixelFormat};
 use rect_codec::{pick, write_update, written_update_is_read};
 use rect_data::Encoding;
+use replay::Slice;
 use rfb_wire::Rectangle;
 use std::alloc::Global;
+use terms::{Area, NoMemory};
 
 /// The screen at a position of a recording, what the viewer has of it, and what it asks for.
 #[derive(Drop)]

@@ -1,1 +1,1 @@
-pub mod Sheets
+pub mod TestCanvases

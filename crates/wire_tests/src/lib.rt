@@ -3,10 +3,10 @@
 #![tactic(auto)]
 
 mod pieces;
-mod sheet;
+mod test_canvas;
 
 pub use pieces::hextile_in_pieces;
-pub use sheet::{HEIGHT, Sheet, WIDTH};
+pub use test_canvas::{HEIGHT, TestCanvas, WIDTH};
 
 #[cfg(test)]
 mod tests;

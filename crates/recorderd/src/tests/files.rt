@@ -2,7 +2,7 @@
 
 use super::{Full, ran};
 use crate::command::command;
-use file_commands::Progress;
+use file_disk::Progress;
 use std::fs;
 use std::fs::File;
 use std::net::{Net, TcpListener, TcpStream};

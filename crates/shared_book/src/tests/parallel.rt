@@ -5,13 +5,12 @@ ghost use Rattle.flusher_core.specs.State.{accepted_count};
 
 use super::{UPDATE, confirm, find, new_desk};
 use crate::{
-    Closed, Ending, HostSource, Mark, Point, Receipt, ReceiptSink, Shared, Ticket, Token, Turn,
-    Turnstile, ViewerSink, run_flusher, run_host, run_viewer,
+    Closed, Ending, HostSource, Mark, Point, Receipt, ReceiptSink, Shared, Ticket, Token,
+    Turnstile, ViewerSink, ViewerWish, run_flusher, run_host, run_viewer,
 };
 use broadcast::{Desk, Start};
 use disk::{Disk, MemoryDisk};
 use flusher_core::HostRefusal;
-use gated_journal::NoMemory;
 use rfb_wire::HostMessage;
 use std::alloc::Global;
 use std::marker::Brand;
@@ -21,6 +20,7 @@ use std::sync::atomic::{AtomicBool, AtomicU64, Ordering};
 use std::test::Fail;
 use std::thread::{self, Threads, join, map_indices};
 use std::time::{Clock, Duration};
+use terms::NoMemory;
 
 /// How the workers come one after another.
 #[derive(Clone, Copy, PartialEq, Eq)]
@@ -193,14 +193,14 @@ impl<'a, M: Mark, R: Clock> ViewerSink<Receipt<M>, Ending<M>> for Viewer<'a, M, 
         false
     }
 
-    fn turn(&mut self) -> Turn {
+    fn wish(&mut self) -> ViewerWish {
         self.waits = !self.waits;
         if self.seen.ending.is_some() {
-            Turn::Stop
+            ViewerWish::Stop
         } else if self.waits {
-            Turn::Wait
+            ViewerWish::Wait
         } else {
-            Turn::Want(100)
+            ViewerWish::Want(100)
         }
     }
 

@@ -7,15 +7,16 @@ use super::{UPDATE, confirm, find, new_desk};
 use crate::{Mark, Receipt, Shared, Ticket, Token};
 use broadcast::{Desk, JoinRefusal, LeaveRefusal, NextRefusal, Seat, SeekRefusal, Start};
 use disk::{Disk, FailingDisk, MemoryDisk, Switch};
-use flusher_core::{FlushRefusal, HostRefused, Slice, TakeRefusal, Taken};
-use gated_journal::NoMemory;
+use flusher_core::{FlushRefusal, HostRefused, TakeRefusal, Taken};
 use pixel_format::Color;
+use replay::Slice;
 use rfb_wire::{BytesFault, HostMessage};
 use std::alloc::Global;
 use std::marker::Brand;
 use std::process::Abort;
 use std::sync::Wait;
 use std::test::Fail;
+use terms::NoMemory;
 
 const BLACK: Color = Color { r: 0, g: 0, b: 0 };
 

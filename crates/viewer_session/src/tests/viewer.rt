@@ -5,14 +5,15 @@ ghost use Rattle.std.specs.Prelude.{◌≡◌, ◌<◌, IfOk, OnOk};
 
 use super::{HANDSHAKE, answered};
 use crate::Session;
-use client_wire::{Area, write_request, write_set_encodings, write_set_pixel_format};
-use flusher_core::Slice;
+use client_wire::{write_request, write_set_encodings, write_set_pixel_format};
 use key_index::Stamped;
 use painter::Screen;
 use pixel_format::{Color, PixelFormat};
+use replay::Slice;
 use rfb_wire::HostMessage;
 use std::alloc::Global;
 use std::test::Fail;
+use terms::Area;
 
 // The screen's size: of four tiles, three of which aren't whole.
 const WIDTH: u16 = 20;

@@ -4,9 +4,10 @@ ghost use Rattle.std.specs.Prelude.{◌<◌, length};
 
 use crate::tests::readers::{Reader, read_in_pieces, read_while_memory_lasts};
 use client_wire::*;
-use pixel_format::{FormatFault, PixelFormat};
+use pixel_format::PixelFormat;
 use std::alloc::Global;
 use std::test::Fail;
+use terms::{Area, FormatFault, NoMemory, WireFault};
 
 // What a reader makes of bytes that come in pieces of this length: its messages, and its fault.
 fn read(alloc: Global, bytes: &[u8], length: usize) -> (Vec<ClientMessage>, Option<WireFault>)

@@ -1,8 +1,9 @@
 //! What no clause says: formats and pixels worked by hand.
 
 use crate::tests::samples::SIXTEEN;
-use pixel_format::{Color, FormatFault, PixelFormat, valid_formats, written_as_read};
+use pixel_format::{Color, PixelFormat, valid_formats, written_as_read};
 use std::test::Fail;
+use terms::FormatFault;
 
 #[test]
 fn host_pixels(rt: HostRuntime) {

@@ -5,7 +5,7 @@ ghost use Rattle.pixel_format.specs.Canvas.{covers};
 ghost use Rattle.pixel_format.specs.Pixel.{IsWithin, IsScreenColor};
 
 use crate::pieces::hextile_in_pieces;
-use crate::sheet::Sheet;
+use crate::test_canvas::TestCanvas;
 use crate::tests::samples::{
     BLACK, BLUE, EIGHT, GREEN, RED, SIXTEEN, WHITE, any_color, below, converted, pixel_of, shows,
 };
@@ -13,19 +13,20 @@ use hextile::{
     Measure, Subrectangle, encode, grammar_reads_data, measure, no_data_begin_others,
     one_reading_of_data, paint,
 };
-use pixel_format::{Color, NoMemory, PixelFormat};
+use pixel_format::{Color, PixelFormat};
 use std::alloc::Global;
 use std::test::Fail;
+use terms::NoMemory;
 
 // The rectangle that the bytes are, in the upper left corner of a white sheet.
-fn painted(format: &PixelFormat, w: u16, h: u16, bytes: &[u8]) -> Result<Sheet, Measure>
+fn painted(format: &PixelFormat, w: u16, h: u16, bytes: &[u8]) -> Result<TestCanvas, Measure>
     requires columns { w ≤ 320 }
     requires rows { h ≤ 120 }
 {
     let length = measure(format, w, h, bytes)?;
-    let mut sheet = Sheet::new(WHITE);
-    paint(format, 0, 0, w, h, &bytes[..length], &mut sheet);
-    Ok(sheet)
+    let mut test_canvas = TestCanvas::new(WHITE);
+    paint(format, 0, 0, w, h, &bytes[..length], &mut test_canvas);
+    Ok(test_canvas)
 }
 
 // 17 by 17 places: a red tile, one of the same background, a blue one, and one of the same
@@ -35,13 +36,13 @@ const FOUR_TILES: [u8; 12] = [2, 0, 0, 255, 0, 0, 2, 255, 0, 0, 0, 0];
 #[test]
 fn colors_carried_over(rt: HostRuntime) -> Result<(), Fail> {
     let host = PixelFormat::host();
-    let sheet = painted(&host, 17, 17, &FOUR_TILES)?;
-    assert!(rt; sheet.color(0, 0) == RED);
-    assert!(rt; sheet.color(16, 0) == RED);
-    assert!(rt; sheet.color(0, 16) == BLUE);
-    assert!(rt; sheet.color(16, 16) == BLUE);
-    assert!(rt; sheet.color(17, 16) == WHITE);
-    assert!(rt; sheet.color(16, 17) == WHITE);
+    let test_canvas = painted(&host, 17, 17, &FOUR_TILES)?;
+    assert!(rt; test_canvas.color(0, 0) == RED);
+    assert!(rt; test_canvas.color(16, 0) == RED);
+    assert!(rt; test_canvas.color(0, 16) == BLUE);
+    assert!(rt; test_canvas.color(16, 16) == BLUE);
+    assert!(rt; test_canvas.color(17, 16) == WHITE);
+    assert!(rt; test_canvas.color(16, 17) == WHITE);
     Ok(())
 }
 
@@ -296,10 +297,10 @@ fn as_the_plain_way(rt: HostRuntime) -> Result<(), Fail> {
             }
         }
         assert!(rt; measure(&host, w, h, &bytes) == Ok(bytes.len()));
-        let sheet = painted(&host, w, h, &bytes)?;
+        let test_canvas = painted(&host, w, h, &bytes)?;
         for row in 0..h {
             for column in 0..w {
-                assert!(rt; sheet.color(column, row) == plain(&tiles, w, column, row));
+                assert!(rt; test_canvas.color(column, row) == plain(&tiles, w, column, row));
             }
         }
     }
@@ -343,8 +344,8 @@ fn comes_through(
     let Some(data) = bytes.strip_prefix(&[9, 9]) else {
         return Ok(false);
     };
-    let sheet = painted(format, w, h, data)?;
-    Ok(shows(&sheet, w, h, &colors) && measure(format, w, h, data) == Ok(data.len()))
+    let test_canvas = painted(format, w, h, data)?;
+    Ok(shows(&test_canvas, w, h, &colors) && measure(format, w, h, data) == Ok(data.len()))
 }
 
 #[test]

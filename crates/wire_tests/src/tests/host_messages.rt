@@ -8,6 +8,7 @@ use pixel_format::Color;
 use rfb_wire::*;
 use std::alloc::{AllocError, Global};
 use std::test::Fail;
+use terms::WireFault;
 
 mod encodings;
 

@@ -2,11 +2,11 @@
 
 use crate::tests::readers::Reader;
 use crate::tests::samples::RED_UPDATE as RED;
-use client_wire::WireFault;
 use host_session::{HostFault, HostSession};
 use rfb_wire::HostMessage;
 use std::alloc::Global;
 use std::test::Fail;
+use terms::WireFault;
 
 // The version, and its newline.
 const VERSION: [u8; 12] = *b"RFB 003.008\n";

@@ -2,10 +2,11 @@
 
 ghost use Rattle.std.specs.Prelude.{◌<◌};
 
-use client_wire::{ClientMessage, ClientReader, WireFault};
+use client_wire::{ClientMessage, ClientReader};
 use host_session::{HostFault, HostSession};
 use rfb_wire::{HostMessage, ServerReader};
 use std::alloc::Global;
+use terms::WireFault;
 
 /// What is fed, and gives messages. `take` promises nothing, so that a test isn't proved beside all
 /// that the reader does.

@@ -2,6 +2,7 @@
 
 use pixel_format::PixelFormat;
 use rect_data::*;
+use terms::{Area, WireFault};
 
 const AREA: Area = Area {
     x: 0,

@@ -4,29 +4,30 @@ ghost use Rattle.std.specs.Prelude.{◌≡◌, ℕ, IfOk, All, ◌/◌, ◌%◌,
 ghost use Rattle.pixel_format.specs.Canvas.{covers};
 ghost use Rattle.pixel_format.specs.Pixel.{IsWithin, IsScreenColor};
 
-use crate::sheet::Sheet;
+use crate::test_canvas::TestCanvas;
 use crate::tests::samples::{
     BLACK, EIGHT, GREEN, RED, SIXTEEN, WHITE, any_color, below, converted, pixel_of, shows,
 };
-use pixel_format::{Color, NoMemory, PixelFormat};
+use pixel_format::{Color, PixelFormat};
 use rre::{
     Measure, Subrectangle, encode, grammar_reads_data, measure, no_data_begin_others,
     one_reading_of_data, paint,
 };
 use std::alloc::Global;
 use std::test::Fail;
+use terms::NoMemory;
 
 mod shortness;
 
 // The rectangle that the bytes are, in the upper left corner of a white sheet.
-fn painted(format: &PixelFormat, w: u16, h: u16, bytes: &[u8]) -> Result<Sheet, Measure>
+fn painted(format: &PixelFormat, w: u16, h: u16, bytes: &[u8]) -> Result<TestCanvas, Measure>
     requires columns { w ≤ 320 }
     requires rows { h ≤ 120 }
 {
     let length = measure(format, w, h, bytes)?;
-    let mut sheet = Sheet::new(WHITE);
-    paint(format, 0, 0, w, h, &bytes[..length], &mut sheet);
-    Ok(sheet)
+    let mut test_canvas = TestCanvas::new(WHITE);
+    paint(format, 0, 0, w, h, &bytes[..length], &mut test_canvas);
+    Ok(test_canvas)
 }
 
 // 4 by 4: black; red at (0, 0), 3 by 3; green at (2, 2), 2 by 2; blue at (1, 0), of no width.
@@ -38,13 +39,13 @@ const FOUR_BY_FOUR: [u8; 44] = [
 #[test]
 fn four_by_four(rt: HostRuntime) -> Result<(), Fail> {
     let host = PixelFormat::host();
-    let sheet = painted(&host, 4, 4, &FOUR_BY_FOUR)?;
-    assert!(rt; sheet.color(1, 1) == RED);
-    assert!(rt; sheet.color(2, 2) == GREEN);
-    assert!(rt; sheet.color(3, 3) == GREEN);
-    assert!(rt; sheet.color(0, 3) == BLACK);
-    assert!(rt; sheet.color(4, 3) == WHITE);
-    assert!(rt; sheet.color(3, 4) == WHITE);
+    let test_canvas = painted(&host, 4, 4, &FOUR_BY_FOUR)?;
+    assert!(rt; test_canvas.color(1, 1) == RED);
+    assert!(rt; test_canvas.color(2, 2) == GREEN);
+    assert!(rt; test_canvas.color(3, 3) == GREEN);
+    assert!(rt; test_canvas.color(0, 3) == BLACK);
+    assert!(rt; test_canvas.color(4, 3) == WHITE);
+    assert!(rt; test_canvas.color(3, 4) == WHITE);
     Ok(())
 }
 
@@ -155,10 +156,12 @@ fn as_the_plain_way(rt: HostRuntime) -> Result<(), Fail> {
         }
         let bytes = written(rt.alloc(), background, &parts)?;
         assert!(rt; measure(&host, 16, 12, &bytes) == Ok(bytes.len()));
-        let sheet = painted(&host, 16, 12, &bytes)?;
+        let test_canvas = painted(&host, 16, 12, &bytes)?;
         for row in 0..12 {
             for column in 0..16 {
-                assert!(rt; sheet.color(column, row) == plain(background, &parts, column, row));
+                assert!(rt;
+                    test_canvas.color(column, row) == plain(background, &parts, column, row)
+                );
             }
         }
     }
@@ -194,8 +197,8 @@ fn comes_through(alloc: Global, format: &PixelFormat, picture: &[Color]) -> Resu
     let Some(data) = bytes.strip_prefix(&[9, 9]) else {
         return Ok(false);
     };
-    let sheet = painted(format, 16, 12, data)?;
-    Ok(shows(&sheet, 16, 12, &colors) && measure(format, 16, 12, data) == Ok(data.len()))
+    let test_canvas = painted(format, 16, 12, data)?;
+    Ok(shows(&test_canvas, 16, 12, &colors) && measure(format, 16, 12, data) == Ok(data.len()))
 }
 
 #[test]

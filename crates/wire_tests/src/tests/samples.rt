@@ -3,10 +3,10 @@
 ghost use Rattle.std.specs.Prelude.{◌≡◌, ℕ, IfOk, All, length, ◌<◌, ◌≤◌};
 ghost use Rattle.pixel_format.specs.Pixel.{IsWithin, IsScreenColor};
 
-use crate::sheet::Sheet;
-use client_wire::Area;
-use pixel_format::{Color, NoMemory, PixelFormat};
+use crate::test_canvas::TestCanvas;
+use pixel_format::{Color, PixelFormat};
 use std::alloc::Global;
+use terms::{Area, NoMemory};
 
 pub(crate) const BLACK: Color = Color { r: 0, g: 0, b: 0 };
 
@@ -93,14 +93,14 @@ pub(crate) fn converted(
 }
 
 /// Whether a sheet has these colours in its upper left corner, by rows of so many places.
-pub(crate) fn shows(sheet: &Sheet, w: u16, h: u16, colors: &[Color]) -> bool
+pub(crate) fn shows(test_canvas: &TestCanvas, w: u16, h: u16, colors: &[Color]) -> bool
     requires columns { w ≤ 320 }
     requires rows { h ≤ 120 }
 {
     let mut all = colors.iter();
     for row in 0..h {
         for column in 0..w {
-            if Some(&sheet.color(column, row)) != all.next() {
+            if Some(&test_canvas.color(column, row)) != all.next() {
                 return false;
             }
         }

@@ -4,15 +4,15 @@ ghost use Rattle.std.specs.Prelude.{◌≡◌, ℕ, IfOk, All, ◌/◌, ◌%◌,
 ghost use Rattle.pixel_format.specs.Canvas.{covers};
 ghost use Rattle.pixel_format.specs.Pixel.{IsWithin, IsScreenColor};
 
-use crate::sheet::Sheet;
+use crate::test_canvas::TestCanvas;
 use crate::tests::samples::{EIGHT, GREEN, RED, SIXTEEN, WHITE, area, below, converted};
-use client_wire::Area;
 use hextile::Measure;
-use pixel_format::{Canvas, Color, NoMemory, PixelFormat};
+use pixel_format::{Canvas, Color, PixelFormat};
 use rect_codec::{pick, write_update};
 use rect_data::Encoding;
 use std::alloc::Global;
 use std::test::Fail;
+use terms::{Area, NoMemory};
 
 // The colour of the pixel of this number.
 fn pixel_color(format: &PixelFormat, data: &[u8], number: usize) -> Option<Color> {
@@ -26,7 +26,7 @@ fn pixel_color(format: &PixelFormat, data: &[u8], number: usize) -> Option<Color
 
 // What an update paints on a white sheet; refused where it isn't an update of one rectangle on the
 // sheet, or has bytes behind it.
-fn painted(format: &PixelFormat, update: &[u8]) -> Result<Sheet, Measure> {
+fn painted(format: &PixelFormat, update: &[u8]) -> Result<TestCanvas, Measure> {
     let [
         0,
         0,
@@ -54,12 +54,12 @@ fn painted(format: &PixelFormat, update: &[u8]) -> Result<Sheet, Measure> {
     if x + w > 320 || y + h > 120 {
         return Err(Measure::Bad);
     }
-    let mut sheet = Sheet::new(WHITE);
+    let mut test_canvas = TestCanvas::new(WHITE);
     let length = match *encoding {
         0 => {
             for k in 0..w * h {
                 let color = pixel_color(format, data, usize::from(k)).ok_or(Measure::NeedMore)?;
-                sheet.fill(x + k % w, y + k / w, 1, 1, color);
+                test_canvas.fill(x + k % w, y + k / w, 1, 1, color);
             }
             usize::from(w * h) * format.bytes()
         }
@@ -67,12 +67,12 @@ fn painted(format: &PixelFormat, update: &[u8]) -> Result<Sheet, Measure> {
             let Ok(length) = rre::measure(format, w, h, data) else {
                 return Err(Measure::Bad);
             };
-            rre::paint(format, x, y, w, h, &data[..length], &mut sheet);
+            rre::paint(format, x, y, w, h, &data[..length], &mut test_canvas);
             length
         }
         5 => {
             let length = hextile::measure(format, w, h, data)?;
-            hextile::paint(format, x, y, w, h, &data[..length], &mut sheet);
+            hextile::paint(format, x, y, w, h, &data[..length], &mut test_canvas);
             length
         }
         _ => return Err(Measure::Bad),
@@ -80,7 +80,7 @@ fn painted(format: &PixelFormat, update: &[u8]) -> Result<Sheet, Measure> {
     if length != data.len() {
         return Err(Measure::Bad);
     }
-    Ok(sheet)
+    Ok(test_canvas)
 }
 
 // An update behind a byte that was there before.
@@ -159,11 +159,11 @@ fn red_square(rt: HostRuntime) -> Result<(), Fail> {
     assert!(rt; short.as_slice() == rre.as_slice());
     assert!(rt; shorter.as_slice() == hextile.as_slice());
     for out in [raw, short, shorter] {
-        let sheet = painted(&host, &out[1..])?;
+        let test_canvas = painted(&host, &out[1..])?;
         for k in 0..1024u16 {
             let (x, y) = (k % 32, k / 32);
             let inside = 5 <= x && x < 21 && 7 <= y && y < 23;
-            assert!(rt; sheet.color(x, y) == (if inside { RED } else { WHITE }));
+            assert!(rt; test_canvas.color(x, y) == (if inside { RED } else { WHITE }));
         }
     }
     Ok(())
@@ -206,12 +206,12 @@ fn is_written(
     let Some(written) = out.strip_prefix(&[9]) else {
         return Ok(false);
     };
-    let sheet = painted(format, written)?;
+    let test_canvas = painted(format, written)?;
     let colors = converted(alloc, format, picture)?;
     let mut all = colors.iter();
     for y in 11..29 {
         for x in 3..24 {
-            if Some(&sheet.color(x, y)) != all.next() {
+            if Some(&test_canvas.color(x, y)) != all.next() {
                 return Ok(false);
             }
         }

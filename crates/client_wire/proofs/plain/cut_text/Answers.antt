@@ -1,5 +1,5 @@
 use Rattle.std.proofs.Common.{◌≡◌, rules}
-use Rattle.pixel_format.specs.Number.{u32_at}
+use Rattle.terms.specs.Number.{u32_at}
 use Rattle.client_wire.proofs.Fronts.{text_short, text_read}
 use Rattle.client_wire.proofs.plain.cut_text.Goals as goal
 

@@ -1,5 +1,5 @@
 use Rattle.std.proofs.Common.{◌∙◌, sym, ap}
-use Rattle.pixel_format.specs.Reading.{Got}
+use Rattle.terms.specs.Reading.{Got}
 use Rattle.client_wire.proofs.Fronts.{request_short, request_read}
 use Rattle.client_wire.proofs.plain.request.Goals as goal
 

@@ -1,6 +1,6 @@
 use Rattle.std.proofs.Common.{◌≡◌, ◌∙◌, rules, sym, ap}
-use Rattle.pixel_format.specs.Reading.{Got}
-use Rattle.pixel_format.specs.Number.{u16_at}
+use Rattle.terms.specs.Reading.{Got}
+use Rattle.terms.specs.Number.{u16_at}
 use Rattle.client_wire.specs.declared.message.ClientMessage.TheVariants as messages
 use Rattle.client_wire.proofs.Fronts.{head_short, head_read, encodings_short, encodings_read}
 use Rattle.client_wire.proofs.plain.set_encodings.Goals as goal

@@ -1,6 +1,6 @@
 use Rattle.std.proofs.Common.{◌≡◌, [], rules, ◌∙◌, sym, ap}
-use Rattle.pixel_format.specs.Reading.{Got}
-use Rattle.pixel_format.specs.Number.{u16_at}
+use Rattle.terms.specs.Reading.{Got}
+use Rattle.terms.specs.Number.{u16_at}
 use Rattle.client_wire.specs.declared.message.ClientMessage.TheVariants as messages
 use Rattle.client_wire.specs.PartialMessage.{resume}
 use Rattle.client_wire.proofs.Resume.{head_goes, no_encodings}

@@ -1,5 +1,5 @@
 use Rattle.std.proofs.Common.{◌≡◌, rules, ◌∙◌}
-use Rattle.pixel_format.specs.Number.{u32_at}
+use Rattle.terms.specs.Number.{u32_at}
 use Rattle.client_wire.proofs.Resume.{text_goes, no_text}
 use Rattle.client_wire.proofs.step.behind_text_head.Goals as goal
 

@@ -1,6 +1,6 @@
 use Rattle.std.proofs.Common.{◌≡◌, ℕ, List, ◌*◌, ◌++◌, length, ◌∙◌, sym, ap}
 use Rattle.std.proofs.lemmas.Result.{err_from_is_err_and}
-use Rattle.pixel_format.specs.Reading.{Got, Bad}
+use Rattle.terms.specs.Reading.{Got, Bad}
 use Rattle.client_wire.specs.declared.message.ClientMessage.TheVariants as messages
 use Rattle.client_wire.specs.PartialMessage.{wants_of, resume}
 use Rattle.client_wire.proofs.Fronts.{unless_memory}

@@ -1,5 +1,5 @@
 use Rattle.std.proofs.Common.{◌≡◌, arith}
-use Rattle.pixel_format.specs.Number.{u32_at}
+use Rattle.terms.specs.Number.{u32_at}
 use Rattle.fbs_export.proofs.Numbers.{number_bytes}
 use Rattle.fbs_export.proofs.checking.number_of.Goals as goal
 

@@ -4,8 +4,8 @@ use Rattle.std.proofs.KnownBytes.{Consumes-trans, Consumes-whole}
 use Rattle.std.proofs.lemmas.List.{length-take, take_all}
 use Rattle.std.proofs.lemmas.Result.{err_from_is_err_and}
 use Rattle.std.proofs.lemmas.Slice.{take-put_mid}
-use Rattle.pixel_format.specs.Number.{u32_at}
-use Rattle.client_wire.specs.Number.{u32_bytes}
+use Rattle.terms.specs.Number.{u32_at}
+use Rattle.terms.specs.Number.{u32_bytes}
 use Rattle.client_wire.specs.Stream.{Part}
 use Rattle.fbs_export.specs.Blocks.{Block, data_of, times_of, padding_length}
 use Rattle.fbs_export.specs.Reader.{Came, Stands}

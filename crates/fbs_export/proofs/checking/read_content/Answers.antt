@@ -4,7 +4,7 @@ use Rattle.std.proofs.KnownBytes.{Consumes-trans, Consumes-whole}
 use Rattle.std.proofs.lemmas.List.{length-take}
 use Rattle.std.proofs.lemmas.Result.{err_from_is_err_and}
 use Rattle.std.proofs.lemmas.Slice.{take-put_mid}
-use Rattle.client_wire.specs.Number.{u32_bytes}
+use Rattle.terms.specs.Number.{u32_bytes}
 use Rattle.fbs_export.specs.Blocks.{data_of, times_of}
 use Rattle.fbs_export.specs.Reader.{Stands, IsDataFault}
 use Rattle.fbs_export.specs.Summary.{IsFault, IsCutShort}

@@ -1,7 +1,7 @@
 use Rattle.std.proofs.Common.{◌≡◌, ap, ◌∙◌, length}
 use Rattle.pixel_format.specs.Format.{host_format}
 use Rattle.pixel_format.specs.Written.{format_bytes}
-use Rattle.client_wire.specs.Number.{u32_bytes}
+use Rattle.terms.specs.Number.{u32_bytes}
 use Rattle.rfb_wire.specs.Written.{two_bytes}
 use Rattle.fbs_export.specs.Opening.{version}
 use Rattle.fbs_export.specs.Export.{opening_text}

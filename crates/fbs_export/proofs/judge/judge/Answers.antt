@@ -1,6 +1,6 @@
 use Rattle.std.proofs.Common.{rules, true, false, ◌≡◌, ℕ, List, take, arith, refl, ◌∙◌}
 use Rattle.std.specs.Str.{bytes_eq}
-use Rattle.pixel_format.specs.Reading.{Reading, guard}
+use Rattle.terms.specs.Reading.{Reading, guard}
 use Rattle.fbs_export.specs.declared.fault.FbsFault.{FbsFault}
 use Rattle.fbs_export.specs.declared.fault.FbsFault.TheVariants as faults
 use Rattle.fbs_export.specs.Opening.{Opening, opening_at, security_then, version}

@@ -1,5 +1,5 @@
 use Rattle.std.proofs.Common.{subst, true, false, ◌≡◌, take, arith, refl, sym, ◌∙◌, Ok}
-use Rattle.pixel_format.specs.Reading.{guard}
+use Rattle.terms.specs.Reading.{guard}
 use Rattle.fbs_export.specs.declared.fault.FbsFault.TheVariants as faults
 use Rattle.fbs_export.specs.Judged.{IsJudged}
 use Rattle.fbs_export.specs.Opening.{format_then, name_at, is_host}

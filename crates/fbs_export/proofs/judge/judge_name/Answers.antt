@@ -1,5 +1,5 @@
 use Rattle.std.proofs.Common.{◌≡◌, take, arith, refl, ◌∙◌}
-use Rattle.pixel_format.specs.Number.{u32_at}
+use Rattle.terms.specs.Number.{u32_at}
 use Rattle.fbs_export.specs.Opening.{name_at, named}
 use Rattle.fbs_export.proofs.Judging.{part_short, part_whole}
 use Rattle.fbs_export.proofs.judge.judge_name.Goals as goal

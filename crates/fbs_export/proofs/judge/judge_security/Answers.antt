@@ -1,7 +1,7 @@
 use Rattle.std.proofs.Common.{false, ◌≡◌, ℕ, List, take, arith, refl, ◌∙◌, nat_eq}
 use Rattle.std.proofs.lemmas.Bool.{ne_eqb}
-use Rattle.pixel_format.specs.Reading.{Reading, guard}
-use Rattle.pixel_format.specs.Number.{u32_at}
+use Rattle.terms.specs.Reading.{Reading, guard}
+use Rattle.terms.specs.Number.{u32_at}
 use Rattle.fbs_export.specs.declared.fault.FbsFault.{FbsFault}
 use Rattle.fbs_export.specs.declared.fault.FbsFault.TheVariants as faults
 use Rattle.fbs_export.specs.Opening.{Opening, security_then, size_then}

@@ -1,4 +1,4 @@
-use Rattle.pixel_format.specs.Appending.{Appends}
+use Rattle.terms.specs.Appending.{Appends}
 use Rattle.hextile.proofs.EncodedTiles.{Written}
 use Rattle.hextile.proofs.encoding.append_tiles.Given as goal
 

@@ -1,5 +1,5 @@
 use Rattle.std.proofs.Common.{length, sym, ap, ◌∙◌}
-use Rattle.pixel_format.proofs.Measured.{if_measured, whole_is_measured}
+use Rattle.terms.proofs.Measured.{if_measured, whole_is_measured}
 use Rattle.hextile.specs.declared.fault.Measure.TheVariants as answers
 use Rattle.hextile.specs.Grammar.{data_at}
 use Rattle.hextile.specs.Data.{IsData}

@@ -1,5 +1,5 @@
 use Rattle.std.proofs.Common.{◌≡◌, ◌-◌, ℕ, List}
-use Rattle.pixel_format.specs.Reading.{Got}
+use Rattle.terms.specs.Reading.{Got}
 use Rattle.hextile.specs.declared.fields.Subrectangle.{Subrectangle}
 use Rattle.hextile.specs.Grammar.{subrectangles_at}
 use Rattle.hextile.proofs.PaintedParts.{PartsProgress}

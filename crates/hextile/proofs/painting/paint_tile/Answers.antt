@@ -1,6 +1,6 @@
 use Rattle.std.proofs.Common.{◌≡◌, ◌∙◌, ◌*◌, ◌-◌, length, take, drop, sym, ap, subst, arith}
 use Rattle.pixel_format.specs.Format.{pixel_bytes}
-use Rattle.pixel_format.specs.Reading.{Got}
+use Rattle.terms.specs.Reading.{Got}
 use Rattle.hextile.specs.declared.painting.TileColors.{TileColors}
 use Rattle.hextile.specs.Grammar.{pixel_if, background_in, foreground_in, head_bytes, count_in, subrectangles_at}
 use Rattle.hextile.proofs.Held.{held_or}

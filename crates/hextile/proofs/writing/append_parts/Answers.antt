@@ -1,11 +1,11 @@
 use Rattle.std.proofs.Common.{List, ◌++◌, map, subst, ap, ◌∙◌}
 use Rattle.std.specs.List.{flat_map}
 use Rattle.std.proofs.lemmas.List.{take_all}
-use Rattle.pixel_format.specs.Appending.{Appends}
+use Rattle.terms.specs.Appending.{Appends}
 use Rattle.hextile.specs.declared.cover.Part.{Part}
 use Rattle.hextile.specs.Data.{AreSubrectangles}
 use Rattle.hextile.specs.Encoded.{drawn, part_bytes}
-use Rattle.pixel_format.proofs.Appends.{grows_more, mapped_more}
+use Rattle.terms.proofs.Appends.{grows_more, mapped_more}
 use Rattle.hextile.proofs.Written.{parts_more, flat_map-map}
 use Rattle.hextile.proofs.writing.append_parts.Goals as goal
 

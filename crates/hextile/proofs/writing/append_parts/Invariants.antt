@@ -1,7 +1,7 @@
 use Rattle.std.proofs.Common.{◌≡◌, ℕ, ◌++◌, take, map}
 use Rattle.std.specs.List.{flat_map}
 use Rattle.std.specs.Prelude.{All}
-use Rattle.pixel_format.specs.Appending.{Appends, Grows}
+use Rattle.terms.specs.Appending.{Appends, Grows}
 use Rattle.hextile.specs.Data.{AreSubrectangles}
 use Rattle.hextile.specs.Encoded.{IsPart, drawn, part_bytes}
 use Rattle.hextile.proofs.writing.append_parts.Given as goal

@@ -1,6 +1,6 @@
 use Rattle.std.proofs.Common.{◌≡◌, ◌++◌, ◌-◌, List, length, take, drop, refl, ap, ◌∙◌, rules}
 use Rattle.std.proofs.lemmas.List.{take_rest}
-use Rattle.pixel_format.specs.Reading.{Bad}
+use Rattle.terms.specs.Reading.{Bad}
 use Rattle.rfb_wire.specs.Grammar.{message_at, message_limit}
 use Rattle.rfb_wire.specs.Host.{Host}
 use Rattle.host_session.specs.Session.{requests_after}

@@ -1,5 +1,5 @@
 use Rattle.std.proofs.Common.{◌≡◌, ℕ, rules}
-use Rattle.pixel_format.specs.Number.{u32_at}
+use Rattle.terms.specs.Number.{u32_at}
 use Rattle.host_session.proofs.Goes.{head_goes}
 use Rattle.host_session.proofs.stage.behind_head.Goals as goal
 

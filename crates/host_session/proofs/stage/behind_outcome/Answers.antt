@@ -1,6 +1,6 @@
 use Rattle.std.proofs.Common.{◌≡◌, ℕ, false, rules, nat_eq, refl, sym, ◌∙◌}
 use Rattle.std.proofs.lemmas.Bool.{ne_eqb}
-use Rattle.pixel_format.specs.Number.{u32_at}
+use Rattle.terms.specs.Number.{u32_at}
 use Rattle.host_session.proofs.Goes.{outcome_goes, resume_length, resume_size}
 use Rattle.host_session.proofs.stage.behind_outcome.Goals as goal
 

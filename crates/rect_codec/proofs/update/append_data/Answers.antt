@@ -1,5 +1,5 @@
 use Rattle.std.proofs.Common.{subst, sym}
-use Rattle.pixel_format.specs.Appending.{Appends}
+use Rattle.terms.specs.Appending.{Appends}
 use Rattle.rect_data.specs.declared.encoding.Encoding.{Encoding}
 use Rattle.rect_codec.specs.Written.{Shows}
 use Rattle.rect_codec.proofs.PixelsPut.{pixels_show}

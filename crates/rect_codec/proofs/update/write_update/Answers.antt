@@ -1,6 +1,6 @@
 use Rattle.std.proofs.Common.{◌≡◌, take, subst, ap, sym, refl, ◌∙◌, arith}
 use Rattle.std.proofs.lemmas.List.{take_at, take_all}
-use Rattle.pixel_format.specs.Appending.{Appends}
+use Rattle.terms.specs.Appending.{Appends}
 use Rattle.rect_data.specs.declared.encoding.Encoding.TheVariants as encodings
 use Rattle.rect_codec.specs.Written.{IsUpdate}
 use Rattle.rect_codec.proofs.Drawing.{raw_for}

@@ -1,5 +1,5 @@
 use Rattle.std.proofs.Common.{◌∙◌, ap}
-use Rattle.client_wire.specs.declared.fault.WireFault.TheVariants as faults
+use Rattle.terms.specs.declared.wire_fault.WireFault.TheVariants as faults
 use Rattle.hextile.specs.Measuring.{go_on as data_goes_on}
 use Rattle.rect_data.specs.Grammar.{judged_as}
 use Rattle.rect_data.specs.Judging.{resume, go_on}

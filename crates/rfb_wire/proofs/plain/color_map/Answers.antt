@@ -1,5 +1,5 @@
 use Rattle.std.proofs.Common.{◌≡◌, rules}
-use Rattle.pixel_format.specs.Number.{u16_at}
+use Rattle.terms.specs.Number.{u16_at}
 use Rattle.rfb_wire.proofs.FrontOthers.{map_head_short, map_short, map_whole}
 use Rattle.rfb_wire.proofs.plain.color_map.Goals as goal
 

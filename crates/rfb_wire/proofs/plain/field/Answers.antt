@@ -1,6 +1,6 @@
 use Rattle.std.proofs.Common.{length, refl}
 use Rattle.std.proofs.lemmas.Bool.{lt-ltb, le-ltb}
-use Rattle.pixel_format.specs.Reading as reading
+use Rattle.terms.specs.Reading as reading
 use Rattle.rfb_wire.proofs.plain.field.Goals as goal
 
 pub returns-then-bytes-count-clause-reads : goal.returns-then-bytes-count-clause-reads

@@ -2,8 +2,8 @@ use Rattle.std.proofs.Common.{rules, ◌≡◌, [], slice_index, refl, sym, ap, 
 use Rattle.std.proofs.lemmas.Bool.{ne_eqb}
 use Rattle.std.proofs.lemmas.List.{get_or-take}
 use Rattle.std.proofs.lemmas.Result.{err_from_is_err_and}
-use Rattle.pixel_format.specs.Reading.{Got, Bad}
-use Rattle.pixel_format.proofs.Readings.{field_got}
+use Rattle.terms.specs.Reading.{Got, Bad}
+use Rattle.terms.proofs.Readings.{field_got}
 use Rattle.rfb_wire.specs.Grammar.{message_at, message_limit, other_at, Recorded, ReadOver}
 use Rattle.rfb_wire.specs.Plain.{kind_of}
 use Rattle.client_wire.proofs.Fronts.{unless_memory_map}

@@ -2,12 +2,12 @@ use Rattle.std.proofs.Common.{◌≡◌, ◌<◌, ◌+◌, ◌-◌, ℕ, List, t
 use Rattle.std.proofs.lemmas.List.{take_all}
 use Rattle.std.proofs.lemmas.Int.{of_z-to_z}
 use Rattle.pixel_format.specs.Format.{Format, host_format}
-use Rattle.pixel_format.specs.Reading.{Got, Bad, field}
-use Rattle.client_wire.specs.declared.message.Area.{Area}
-use Rattle.client_wire.specs.declared.fault.WireFault.{WireFault}
+use Rattle.terms.specs.Reading.{Got, Bad, field}
+use Rattle.terms.specs.declared.area.Area.{Area}
+use Rattle.terms.specs.declared.wire_fault.WireFault.{WireFault}
 use Rattle.rect_data.specs.declared.encoding.Encoding.{Encoding}
-use Rattle.client_wire.specs.declared.fault.WireFault.TheVariants as faults
-use Rattle.client_wire.specs.Number.{signed}
+use Rattle.terms.specs.declared.wire_fault.WireFault.TheVariants as faults
+use Rattle.terms.specs.Number.{signed}
 use Rattle.rect_data.specs.Grammar.{encoding_of, is_inside, data_at, measured}
 use Rattle.rfb_wire.specs.Grammar.{area_of, encoding_number, rectangle_at}
 use Rattle.client_wire.proofs.Fronts.{unless_memory}

@@ -1,6 +1,6 @@
 use Rattle.std.proofs.Common.{◌≡◌, ℕ, suc, ◌+◌, ◌-◌, ◌<◌, ◌∙◌, sym, arith}
 use Rattle.std.proofs.lemmas.Result.{err_from_is_err_and}
-use Rattle.pixel_format.specs.Reading.{Bad}
+use Rattle.terms.specs.Reading.{Bad}
 use Rattle.rfb_wire.specs.Grammar.{rectangle_at}
 use Rattle.client_wire.proofs.Fronts.{unless_memory_map}
 use Rattle.rfb_wire.proofs.FromFront.{others_begin, others_end, others_next, others_more, others_bad}

@@ -1,6 +1,6 @@
 use Rattle.std.proofs.Common.{◌≡◌, refl, rules}
 use Rattle.std.specs.Prelude.{nat_le}
-use Rattle.pixel_format.specs.Number.{u32_at}
+use Rattle.terms.specs.Number.{u32_at}
 use Rattle.rfb_wire.specs.Grammar.{text_limit}
 use Rattle.rfb_wire.proofs.FrontOthers.{text_head_short, text_short, text_whole}
 use Rattle.rfb_wire.proofs.plain.text.Goals as goal

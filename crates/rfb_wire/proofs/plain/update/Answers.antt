@@ -1,5 +1,5 @@
 use Rattle.std.proofs.Common.{◌≡◌, rules}
-use Rattle.pixel_format.specs.Number.{u16_at}
+use Rattle.terms.specs.Number.{u16_at}
 use Rattle.rfb_wire.specs.Grammar.{rectangles_at}
 use Rattle.rfb_wire.proofs.FromFront.{type_short, head_short, head_read, says_recorded}
 use Rattle.rfb_wire.proofs.plain.update.Goals as goal

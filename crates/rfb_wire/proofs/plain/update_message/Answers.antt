@@ -1,7 +1,7 @@
 use Rattle.std.proofs.Common.{◌≡◌, ◌++◌, take, drop, sym, ap, ◌∙◌, refl, arith, length-append, append_assoc}
 use Rattle.std.proofs.lemmas.List.{take-append-drop}
 use Rattle.std.proofs.lemmas.Result.{err_from_is_err_and}
-use Rattle.pixel_format.specs.Reading.{Bad}
+use Rattle.terms.specs.Reading.{Bad}
 use Rattle.rfb_wire.specs.Grammar.{update_at, message_at, message_limit}
 use Rattle.client_wire.proofs.Fronts.{unless_memory_map}
 use Rattle.rfb_wire.proofs.FrontMessage.{front_long, front_short, front_bad, front_whole, front_taken, whole_taken}

@@ -1,5 +1,5 @@
 use Rattle.std.proofs.Common.{◌≡◌, ◌*◌, rules, sym, ◌∙◌, ap}
-use Rattle.pixel_format.specs.Number.{u16_at}
+use Rattle.terms.specs.Number.{u16_at}
 use Rattle.rfb_wire.specs.Grammar.{read_over}
 use Rattle.rfb_wire.specs.PartialMessage.{go_on}
 use Rattle.rfb_wire.proofs.Resume.{head_of_color_map, behind_nil}

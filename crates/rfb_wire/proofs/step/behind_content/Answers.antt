@@ -1,6 +1,6 @@
 use Rattle.std.proofs.Common.{◌≡◌, ◌∙◌, ◌++◌, subst}
 use Rattle.pixel_format.specs.Format.{Format, host_format}
-use Rattle.pixel_format.specs.Reading.{Bad}
+use Rattle.terms.specs.Reading.{Bad}
 use Rattle.rect_data.specs.Judging.{resume, go_on as data_go_on}
 use Rattle.rfb_wire.proofs.Resume.{data_whole}
 use Rattle.rfb_wire.proofs.step.behind_content.Goals as goal

@@ -1,9 +1,9 @@
 use Rattle.std.proofs.Common.{◌≡◌, ◌<◌, ◌+◌, true, false, length, Some, None, sym, subst, ◌∙◌, ap}
 use Rattle.std.proofs.lemmas.Int.{of_z-to_z}
 use Rattle.pixel_format.specs.Format.{Format, host_format}
-use Rattle.pixel_format.specs.Reading.{Bad}
-use Rattle.client_wire.specs.declared.fault.WireFault.TheVariants as faults
-use Rattle.client_wire.specs.Number.{signed}
+use Rattle.terms.specs.Reading.{Bad}
+use Rattle.terms.specs.declared.wire_fault.WireFault.TheVariants as faults
+use Rattle.terms.specs.Number.{signed}
 use Rattle.rect_data.specs.Grammar.{encoding_of, is_inside, data_at}
 use Rattle.rect_data.specs.Judging.{go_on as data_go_on}
 use Rattle.rfb_wire.specs.Grammar.{area_of, encoding_number}

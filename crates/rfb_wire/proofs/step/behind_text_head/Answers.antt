@@ -1,6 +1,6 @@
 use Rattle.std.proofs.Common.{◌≡◌, rules, sym, ◌∙◌, ap}
 use Rattle.std.specs.Prelude.{nat_lt, if◌then◌else◌}
-use Rattle.pixel_format.specs.Number.{u32_at}
+use Rattle.terms.specs.Number.{u32_at}
 use Rattle.rfb_wire.specs.Grammar.{read_over, text_data_at, text_limit}
 use Rattle.rfb_wire.specs.PartialMessage.{go_on}
 use Rattle.rfb_wire.proofs.Resume.{head_of_text, behind_nil}

@@ -1,5 +1,5 @@
 use Rattle.std.proofs.Common.{◌≡◌, rules, sym, ◌∙◌, ap}
-use Rattle.pixel_format.specs.Number.{u16_at}
+use Rattle.terms.specs.Number.{u16_at}
 use Rattle.rfb_wire.specs.PartialMessage.{go_on, others_at}
 use Rattle.rfb_wire.proofs.Resume.{head_of_update, behind_nil}
 use Rattle.rfb_wire.proofs.step.behind_update_head.Goals as goal

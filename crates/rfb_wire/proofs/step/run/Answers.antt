@@ -1,7 +1,7 @@
 use Rattle.std.proofs.Common.{◌≡◌, ◌∙◌, ◌+◌, ◌++◌, length, take, ap, subst}
 use Rattle.std.proofs.lemmas.List.{length-take-le}
 use Rattle.pixel_format.specs.Format.{Format, host_format}
-use Rattle.pixel_format.specs.Reading.{Bad}
+use Rattle.terms.specs.Reading.{Bad}
 use Rattle.rect_data.specs.Judging.{wants_of, resume, go_on as data_go_on}
 use Rattle.std.specs.Prelude.{◌<◌, IfSome}
 use Rattle.rfb_wire.specs.PartialMessage.{behind_data}

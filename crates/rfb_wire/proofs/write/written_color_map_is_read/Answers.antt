@@ -1,10 +1,10 @@
 use Rattle.std.proofs.Common.{◌≡◌, ℕ, ◌+◌, ◌*◌, ◌/◌, ◌%◌, ◌^◌, ◌<◌, List, [], ◌∷◌, ◌++◌, length, refl, ap, ◌∙◌, arith, length-append}
 use Rattle.std.specs.List.{flat_map}
-use Rattle.pixel_format.specs.Reading.{Got}
+use Rattle.terms.specs.Reading.{Got}
 use Rattle.pixel_format.specs.declared.Color.{Color}
-use Rattle.pixel_format.proofs.Readings.{field-whole}
-use Rattle.pixel_format.specs.Number.{u16_at}
-use Rattle.client_wire.specs.declared.fault.WireFault.{WireFault}
+use Rattle.terms.proofs.Readings.{field-whole}
+use Rattle.terms.specs.Number.{u16_at}
+use Rattle.terms.specs.declared.wire_fault.WireFault.{WireFault}
 use Rattle.rfb_wire.specs.Grammar.{color_map_at, ReadOver}
 use Rattle.rfb_wire.specs.Written.{color_bytes}
 use Rattle.rfb_wire.proofs.Messages.{other_is_read}

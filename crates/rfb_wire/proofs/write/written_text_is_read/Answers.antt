@@ -1,5 +1,5 @@
 use Rattle.std.proofs.Common.{◌≡◌, ℕ, ◌/◌, ◌%◌, ◌^◌, ◌<◌, List, [], ◌∷◌, ◌++◌, length, refl, ◌∙◌, arith}
-use Rattle.pixel_format.specs.Number.{u32_at}
+use Rattle.terms.specs.Number.{u32_at}
 use Rattle.rfb_wire.proofs.Messages.{other_is_read}
 use Rattle.rfb_wire.proofs.Others.{other_of_text, text_again, long_text_again}
 use Rattle.rfb_wire.proofs.write.written_text_is_read.Goals as goal

@@ -1,6 +1,6 @@
 use Rattle.std.proofs.Common.{◌≡◌, ℕ, ◌+◌, ◌*◌, ◌/◌, ◌%◌, ◌≤◌, true, List, [], ◌∷◌, ◌++◌, length, refl, sym, inl, arith}
 use Rattle.std.proofs.lemmas.List.{append-nil}
-use Rattle.client_wire.specs.declared.message.Area.{Area}
+use Rattle.terms.specs.declared.area.Area.{Area}
 use Rattle.rect_data.specs.Grammar.{is_inside}
 use Rattle.rect_data.proofs.Content.{inside_within}
 use Rattle.rfb_wire.specs.Grammar.{area_of, encoding_number}

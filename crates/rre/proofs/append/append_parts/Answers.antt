@@ -1,4 +1,4 @@
-use Rattle.pixel_format.proofs.Appends.{each_more, mapped_more}
+use Rattle.terms.proofs.Appends.{each_more, mapped_more}
 use Rattle.rre.specs.Data.{AreBytesOf}
 use Rattle.rre.specs.Encoded.{part_bytes}
 use Rattle.rre.proofs.append.append_parts.Goals as goal

@@ -1,6 +1,6 @@
 use Rattle.std.proofs.Common.{◌≡◌, ◌++◌, take}
 use Rattle.std.specs.List.{flat_map}
-use Rattle.pixel_format.specs.Appending.{Appends}
+use Rattle.terms.specs.Appending.{Appends}
 use Rattle.rre.specs.Encoded.{AreBytesOfAll, part_bytes}
 use Rattle.rre.proofs.append.append_parts.Given as goal
 

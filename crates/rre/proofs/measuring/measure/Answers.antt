@@ -1,5 +1,5 @@
 use Rattle.std.proofs.Common.{length, sym, ap, ◌∙◌}
-use Rattle.pixel_format.proofs.Measured.{if_measured, whole_is_measured}
+use Rattle.terms.proofs.Measured.{if_measured, whole_is_measured}
 use Rattle.rre.specs.declared.fault.Measure.TheVariants as answers
 use Rattle.rre.specs.Grammar.{data_at}
 use Rattle.rre.specs.Data.{IsData}

@@ -1,6 +1,6 @@
 use Rattle.std.proofs.Common.{◌≡◌, ◌++◌, ◌∷◌, [], ◌/◌, ◌%◌, List, ℕ, ◌∙◌, ap, length, append_assoc}
 use Rattle.pixel_format.specs.Written.{format_bytes}
-use Rattle.client_wire.specs.Number.{u32_bytes}
+use Rattle.terms.specs.Number.{u32_bytes}
 use Rattle.viewer_session.specs.Handshake.{host_format_bytes}
 use Rattle.viewer_session.proofs.greeting.write_server_init.Goals as goal
 

@@ -1,6 +1,6 @@
 use Rattle.std.proofs.Common.{◌≡◌, ℕ, ◌+◌, ◌*◌, ◌≤◌, Bool, arith}
 use Rattle.std.specs.Prelude.{◌&&◌, Some}
-use Rattle.client_wire.specs.declared.message.Area.{Area}
+use Rattle.terms.specs.declared.area.Area.{Area}
 use Rattle.rect_codec.specs.Picture.{is_in}
 use Rattle.viewer_session.specs.Bits.{is_set}
 use Rattle.viewer_session.proofs.PlaceSets.{rows, row_of, row_is, none_in_row, none_added, rows_looked, row_right, if_some}

@@ -1,6 +1,6 @@
 use Rattle.std.proofs.Common.{sym, subst}
 use Rattle.std.specs.Prelude.{Option, ◌||◌}
-use Rattle.client_wire.specs.declared.message.Area.{Area}
+use Rattle.terms.specs.declared.area.Area.{Area}
 use Rattle.rect_codec.specs.Picture.{is_in}
 use Rattle.viewer_session.specs.Places.{IsSmallest}
 use Rattle.viewer_session.specs.View.{is_pending}

@@ -11,7 +11,7 @@ fn update(
     height: u8,
     number: u8,
     content: &[u8],
-) -> Result<Vec<u8>, pixel_format::NoMemory>
+) -> Result<Vec<u8>, terms::NoMemory>
     ensures { IfOk result (λ bytes. length bytes.items ≡ 16 + length content.now) }
 {
     let mut bytes = vec![in alloc;

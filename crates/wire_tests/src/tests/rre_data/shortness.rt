@@ -7,11 +7,12 @@ ghost use Rattle.std.specs.Prelude.{◌≡◌, ◌*◌, length, IfOk};
 
 use super::{any_part, any_picture, plain};
 use crate::tests::samples::{BLACK, GREEN, RED, WHITE, any_color, below, converted};
-use pixel_format::{Color, NoMemory, PixelFormat};
+use pixel_format::{Color, PixelFormat};
 use rre::encode;
 use std::alloc::Global;
 use std::process::Abort;
 use std::test::Fail;
+use terms::NoMemory;
 
 /// Places that are still to be covered, by rows.
 #[derive(Drop)]

@@ -1,7 +1,7 @@
 use Rattle.std.proofs.Common.{◌≡◌, ℕ, List, ◌++◌, ◌-◌, ◌+◌, ◌∙◌, [], sym, ap, refl, length, take, drop}
 use Rattle.std.proofs.lemmas.List.{take_rest, append-nil}
 use Rattle.std.proofs.lemmas.Result.{err_from_is_err_and}
-use Rattle.pixel_format.specs.Reading.{Got, Bad}
+use Rattle.terms.specs.Reading.{Got, Bad}
 use Rattle.client_wire.specs.Grammar.{message_at}
 use Rattle.client_wire.specs.PartialMessage.{resume, start_of, wants_of, passed_in, position_at, follow, BeginsAt}
 use Rattle.client_wire.proofs.Fronts.{unless_memory_map}

@@ -1,5 +1,5 @@
 use Rattle.pixel_format.specs.Pixel.{IsPixel, pixel_of}
-use Rattle.pixel_format.proofs.Appends.{each_more, mapped_more}
+use Rattle.terms.proofs.Appends.{each_more, mapped_more}
 use Rattle.pixel_format.proofs.format.PixelFormat.append_all_sized.Goals as goal
 
 pub loop-color-preserved : goal.loop-color-preserved

@@ -1,7 +1,7 @@
 use Rattle.std.proofs.Common.{◌≡◌, ◌++◌, take}
 use Rattle.std.specs.List.{flat_map}
 use Rattle.pixel_format.specs.Pixel.{ArePixels, pixel_of}
-use Rattle.pixel_format.specs.Appending.{Appends}
+use Rattle.terms.specs.Appending.{Appends}
 use Rattle.pixel_format.proofs.format.PixelFormat.append_all_sized.Given as goal
 
 abbrev pub invariant-loop-color : goal.invariant-loop-color

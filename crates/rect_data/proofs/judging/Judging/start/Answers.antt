@@ -1,8 +1,8 @@
 use Rattle.std.proofs.Common.{◌≡◌, ◌*◌, ◌⊎◌, inl, inr, [], refl, sym, ap, ◌∙◌}
 use Rattle.std.proofs.Math.Nat.{zero-mul, mul-zero}
 use Rattle.pixel_format.specs.Format.{Format, pixel_bytes}
-use Rattle.client_wire.specs.declared.message.Area.{Area}
-use Rattle.client_wire.specs.declared.fault.WireFault.TheVariants as faults
+use Rattle.terms.specs.declared.area.Area.{Area}
+use Rattle.terms.specs.declared.wire_fault.WireFault.TheVariants as faults
 use Rattle.rre.specs.Grammar as rre
 use Rattle.rre.specs.Measuring.{resume as rre_resume}
 use Rattle.hextile.specs.Grammar as hextile

@@ -1,7 +1,7 @@
 use Rattle.std.proofs.Common.{◌≡◌, [], ◌∙◌, sym, ap, subst, refl, length}
 use Rattle.std.proofs.lemmas.List.{append-nil}
-use Rattle.pixel_format.specs.Reading.{Bad}
-use Rattle.client_wire.specs.Fault.{UnlessMemory}
+use Rattle.terms.specs.Reading.{Bad}
+use Rattle.terms.specs.Fault.{UnlessMemory}
 use Rattle.client_wire.specs.Stream.{StandsFor, FaultOf}
 use Rattle.client_wire.proofs.Fronts.{unless_memory_map}
 use Rattle.rfb_wire.specs.Grammar.{message_at, message_limit}

@@ -1,5 +1,5 @@
 use Rattle.std.proofs.Common.{List, ℕ, subst}
-use Rattle.pixel_format.specs.Appending.{Appends}
+use Rattle.terms.specs.Appending.{Appends}
 use Rattle.viewer_session.specs.View.{Answers, IsOne}
 use Rattle.viewer_session.proofs.session.Session.answer.Goals as goal
 

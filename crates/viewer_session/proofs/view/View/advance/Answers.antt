@@ -1,6 +1,6 @@
 use Rattle.std.proofs.Common.{◌≡◌, ℕ, ◌<◌, ◌∙◌, List, ap, sym, subst}
 use Rattle.painter.specs.Framebuffer.{Framebuffer}
-use Rattle.broadcast.specs.Headline.{StartStands}
+use Rattle.replay.specs.Slices.{StartStands}
 use Rattle.keyed_entries.specs.declared.entry.Stamped.{Stamped}
 use Rattle.replay.specs.Screens.{IsScreenAt}
 use Rattle.viewer_session.specs.declared.view.View.{View}
@@ -39,7 +39,7 @@ returns-clause-right c = λ head seen messages right stands.
           right_on head mid c.paint_all.new.screen c.paint_all.new.stale c.end-self.result slice.first items messages seen at converts
           (ap (λ (v : View). v.stale.width) w.self-is ∙ wide ∙ sym (ap (λ (v : View). v.screen.width) w.self-is))
           (ap (λ (v : View). v.stale.height) w.self-is ∙ high ∙ sym (ap (λ (v : View). v.screen.height) w.self-is))
-          stands.same c.end-self.ensures paints)
+          stands.messages_are c.end-self.ensures paints)
       | in_default w ↦
           (let first : slice.first ≡ old.position = c.requires.next.joined w.in_default.is in
           let at : IsScreenAt head messages slice.first mid.screen =
@@ -48,5 +48,5 @@ returns-clause-right c = λ head seen messages right stands.
           right_on head mid c.paint_all.new.screen c.paint_all.new.stale c.end-self.result slice.first items messages seen at converts
           (ap (λ (v : View). v.stale.width) w.self-is ∙ c.requires.sound.width ∙ sym (ap (λ (v : View). v.screen.width) w.self-is))
           (ap (λ (v : View). v.stale.height) w.self-is ∙ c.requires.sound.height ∙ sym (ap (λ (v : View). v.screen.height) w.self-is))
-          stands.same c.end-self.ensures paints)
+          stands.messages_are c.end-self.ensures paints)
     ]

@@ -1,6 +1,6 @@
 use Rattle.std.proofs.Common.{◌≡◌, ◌∙◌, true, false, sym, subst, ap, refl}
 use Rattle.std.specs.Prelude.{not, ◌||◌, ◌&&◌, Option, Some}
-use Rattle.client_wire.specs.declared.message.Area.{Area}
+use Rattle.terms.specs.declared.area.Area.{Area}
 use Rattle.rect_codec.specs.Picture.{is_in}
 use Rattle.viewer_session.specs.Places.{IsSmallest}
 use Rattle.viewer_session.specs.declared.view.View.{View}

@@ -1,0 +1,6 @@
+pub mod Readings
+pub mod Refusals
+pub mod Measured
+pub mod Listed
+pub mod Appends
+pub mod Sizes
