@@ -3,13 +3,14 @@
 ghost use Rattle.std.specs.Prelude.{◌≡◌};
 
 use crate::clock::Stopwatch;
-use crate::limits::{HANDSHAKE, REQUEST, pause, time_left, watch_over, write_within};
+use crate::limits::{HANDSHAKE, REQUEST};
 use crate::refusal::{HostEnd, Refusal};
 use crate::room::Room;
 use crate::telling::{Event, Telling};
 use host_session::{HostFault, HostSession};
 use rfb_wire::HostMessage;
 use shared_book::{HostSource, Mark, Ticket};
+use sockets::{pause, time_left, watch_over, write_within};
 use std::alloc::{AllocError, Global};
 use std::io::Read;
 use std::net::{Net, Shutdown, TcpStream};

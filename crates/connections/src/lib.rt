@@ -2,9 +2,7 @@
 //! have, what the threads behind them share, and what is told of them.
 #![tactic(auto)]
 
-mod bell;
 mod clock;
-mod connection;
 mod host;
 mod limits;
 mod plan;
@@ -13,12 +11,9 @@ mod room;
 mod telling;
 mod viewer;
 
-pub use bell::{Bell, Woken};
 pub use clock::{Stopwatch, time_after};
-pub use connection::Connection;
 pub use host::{Host, Messages};
-pub use limits::pause;
-pub use plan::{Audience, Plan, Stop};
+pub use plan::{Audience, Beginning, Origin, Plan, Playing, Stop};
 pub use refusal::{Ends, HostEnd, Refusal, first_refusal};
 pub use room::{Hall, Intake, Room};
 pub use telling::{Escaped, Event, Telling};

@@ -1,14 +1,4 @@
-//! Limits of sockets: of silence, of a write, and of what a peer leaves unacknowledged.
-
-use libc::net::{
-    IPPROTO_TCP, SO_KEEPALIVE, SOL_SOCKET, TCP_KEEPCNT, TCP_KEEPIDLE, TCP_KEEPINTVL,
-    TCP_USER_TIMEOUT, setsockopt,
-};
-use std::io;
-use std::io::Write;
-use std::net::TcpStream;
-use std::os::fd::AsRawFd;
-use std::time::{Clock, Duration, Instant};
+//! How long peers may take.
 
 /// How many seconds a handshake may take as a whole.
 pub const HANDSHAKE: u64 = 30;
@@ -19,91 +9,5 @@ pub const ANSWER: u64 = 120;
 /// How many seconds what is said to a host may take.
 pub const REQUEST: u64 = 30;
 
-/// For how many milliseconds a thread waits before it tries again what memory or the system was
-/// short of.
-const SHORTAGE: u64 = 200;
-
 /// How many seconds a viewer may take to ask for the rest once all is recorded.
 pub const FAREWELL: u64 = 10;
-
-/// After how many seconds of silence the system asks a peer whether it is there.
-const IDLE: u32 = 60;
-
-/// How many seconds lie between two such questions.
-const INTERVAL: u32 = 10;
-
-/// How many of them may stay without an answer.
-const QUESTIONS: u32 = 6;
-
-/// For how many milliseconds bytes may stay unacknowledged.
-const UNACKNOWLEDGED: u32 = 120_000;
-
-// An option's value, as the system reads it.
-fn value(number: u32) -> [u8; 16] {
-    let [first, second, third, fourth] = number.to_ne_bytes();
-    let mut value = [0u8; 16];
-    value[0] = first;
-    value[1] = second;
-    value[2] = third;
-    value[3] = fourth;
-    value
-}
-
-/// Has small writes go out at once, and a peer that vanished noticed: within two minutes, also where
-/// nothing is written to it. Where the system refuses one of these options, the rest stands.
-pub fn watch_over(stream: &TcpStream) -> io::Result<()> {
-    stream.set_nodelay(true)?;
-    let socket = stream.as_raw_fd();
-    let (idle, interval) = (value(IDLE), value(INTERVAL));
-    let (questions, unacknowledged) = (value(QUESTIONS), value(UNACKNOWLEDGED));
-    // SAFETY: each option takes a number, which is the first four bytes of its value.
-    unsafe {
-        setsockopt(socket, SOL_SOCKET, SO_KEEPALIVE, &value(1), 4);
-        setsockopt(socket, IPPROTO_TCP, TCP_KEEPIDLE, &idle, 4);
-        setsockopt(socket, IPPROTO_TCP, TCP_KEEPINTVL, &interval, 4);
-        setsockopt(socket, IPPROTO_TCP, TCP_KEEPCNT, &questions, 4);
-        setsockopt(socket, IPPROTO_TCP, TCP_USER_TIMEOUT, &unacknowledged, 4);
-    }
-    Ok(())
-}
-
-/// How long a thread waits before it tries again what memory or the system was short of.
-pub fn pause() -> Duration {
-    Duration::from_millis(SHORTAGE)
-}
-
-/// What is left of so many seconds that began at this moment; `TimedOut` where nothing is.
-pub fn time_left<R: Clock>(rt: &R, started: Instant, seconds: u64) -> io::Result<Duration> {
-    match Duration::from_secs(seconds).checked_sub(started.elapsed(rt)?) {
-        Some(left) if !left.is_zero() => Ok(left),
-        _ => Err(io::ErrorKind::TimedOut.into()),
-    }
-}
-
-/// Writes all these bytes within so many seconds as a whole, however many pieces the peer takes them in;
-/// `TimedOut` or `WouldBlock` where it doesn't.
-pub fn write_within<R: Clock>(
-    rt: &R,
-    stream: &TcpStream,
-    bytes: &[u8],
-    seconds: u64,
-) -> io::Result<()> {
-    let mut rest = bytes;
-    if rest.is_empty() {
-        return Ok(());
-    }
-    let started = Instant::now(rt)?;
-    for _ in 0..u64::MAX {
-        stream.set_write_timeout(Some(time_left(rt, started, seconds)?))?;
-        match (&mut &*stream).write(rest) {
-            Ok(0) => return Err(io::ErrorKind::WriteZero.into()),
-            Ok(count) => rest = &rest[count..],
-            Err(error) if error.kind() == io::ErrorKind::Interrupted => {}
-            Err(error) => return Err(error),
-        }
-        if rest.is_empty() {
-            return Ok(());
-        }
-    }
-    Ok(())
-}

@@ -4,6 +4,7 @@ ghost use Rattle.std.specs.Prelude.{◌≡◌, ◌≤◌, ℕ, Some};
 ghost use Rattle.reception.specs.State.{viewers_of};
 
 use broadcast::Start;
+use playing::{Pace, Program};
 use reception::Term;
 
 /// How many viewers are served.
@@ -13,6 +14,35 @@ pub enum Audience {
     Count(u32),
     /// Whoever comes, up to 64 at a time. Nobody is waited for.
     Any,
+}
+
+/// Where viewers begin, as it is asked for.
+#[derive(Clone, Copy, Debug, PartialEq, Eq)]
+pub enum Origin {
+    /// At the newest screen.
+    Live,
+    /// Behind so many messages.
+    Count(u64),
+    /// At this moment of the recording, in milliseconds.
+    Time(u32),
+}
+
+/// How a recording is to be played in its own time.
+#[derive(Clone, Copy, Debug, PartialEq, Eq)]
+pub struct Playing {
+    pub pace: Pace,
+    /// The longest pause between two messages, in milliseconds of the recording.
+    pub longest_pause: Option<u32>,
+    /// Whether it begins again at its end.
+    pub repeats: bool,
+}
+
+/// Where viewers begin in a recording that is open, and how it is played.
+#[derive(Clone, Copy, Debug, PartialEq, Eq)]
+pub struct Beginning {
+    pub start: Start,
+    /// None where it is shown as it grows.
+    pub program: Option<Program>,
 }
 
 /// What is to be served.
@@ -29,7 +59,9 @@ pub struct Plan<'a> {
     /// How many viewers are served.
     pub audience: Audience,
     /// Where each viewer begins.
-    pub from: Start,
+    pub from: Origin,
+    /// How the recording is played, where it is in its own time. There is no host then.
+    pub playing: Option<Playing>,
     /// What ends it beside the host.
     pub stop: Stop,
     /// Whether what happens is told on standard error.

@@ -5,7 +5,7 @@ ghost use Rattle.shared_book.specs.declared.workers.FlusherEnd.TheVariants.{Take
 ghost use Rattle.std.specs.Prelude.{◌≡◌, ◌≢◌, Err, None, Some, IfErr, OnOk, OnErr, true, false};
 
 use flusher_core::{HostRefusal, TakeRefusal};
-use gated_journal::CreateFault;
+use gated_journal::{CreateFault, OpenFault, ReadFault};
 use host_session::HostFault;
 use key_index::{IndexFault, Numbered};
 use shared_book::FlusherEnd;
@@ -45,6 +45,15 @@ impl fmt::Display for Refusal {
             Refusal::Host(fault) => write!(f, "host {}", fault.number()),
             Refusal::Book(refusal) => write!(f, "book {}", refusal.number()),
         }
+    }
+}
+
+impl From<ReadFault> for Refusal {
+    fn from(fault: ReadFault) -> Refusal {
+        Refusal::Recording(match fault {
+            ReadFault::NoMemory => IndexFault::NoMemory,
+            ReadFault::Device => IndexFault::Journal(OpenFault::Device),
+        })
     }
 }
 

@@ -3,17 +3,19 @@
 ghost use Rattle.std.specs.Prelude.{◌≡◌, ◌≤◌, ◌<◌, ◌^◌, ℕ, Some, length};
 ghost use Rattle.reception.specs.State.{viewers_of};
 
-use crate::bell::Bell;
-use crate::plan::Plan;
+use crate::plan::{Beginning, Plan};
 use crate::telling::{Event, Telling};
 use broadcast::Start;
 use file_disk::LastError;
+use playing::Program;
 use reception::{Arrival, Backlog, Reception, Term};
 use shared_book::Mark;
+use sockets::Bell;
 use std::alloc::Global;
 use std::marker::PhantomData;
 use std::sync::atomic::{AtomicBool, AtomicU64, Ordering};
 use std::sync::{Condvar, Mutex, Wait};
+use std::time::{Clock, Duration};
 
 /// Who watches, under a lock. Whoever waits here waits for the recorder to close or to be done, or
 /// for a viewer to have left, and is woken at each of them.
@@ -98,6 +100,18 @@ impl Hall {
             |reception| !reception.is_closing() && !has_left(),
         );
     }
+
+    /// Waits for so long at most, until the recorder is closing, or a viewer has left.
+    pub fn wait_for<R: Clock + Wait, F: Fn() -> bool>(&self, rt: &R, limit: Duration, has_left: F)
+        requires { F.IsAlwaysCallable has_left }
+    {
+        let _over = self.changed.wait_timeout_while(
+            rt,
+            self.reception.lock(rt),
+            limit,
+            |reception| !reception.is_closing() && !has_left(),
+        );
+    }
 }
 
 /// How much waits to be committed, under a lock. The host's worker waits here for room.
@@ -165,6 +179,8 @@ pub struct Room<M: Mark> {
     pub size: (u16, u16),
     pub name: Vec<u8>,
     pub from: Start,
+    /// How the recording is played, where it is in its own time.
+    pub program: Option<Program>,
     /// Whether there is no host: nothing is recorded.
     pub is_alone: bool,
     pub hall: Hall,
@@ -187,6 +203,7 @@ impl<M: Mark> Room<M> {
         size: (u16, u16),
         name: Vec<u8>,
         plan: &Plan<'_>,
+        beginning: Beginning,
         bell: Bell,
         telling: Telling,
         last_error: LastError,
@@ -199,7 +216,8 @@ impl<M: Mark> Room<M> {
             alloc,
             size,
             name,
-            from: plan.from,
+            from: beginning.start,
+            program: beginning.program,
             is_alone: plan.host.is_none(),
             hall: Hall::new(plan.term()),
             intake: Intake::new(),

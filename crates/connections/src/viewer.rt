@@ -3,13 +3,12 @@
 ghost use Rattle.std.specs.Prelude.{◌≡◌, ◌<◌, ◌^◌, ◌+◌, length};
 ghost use Rattle.shared_book.specs.Receipts.{IsOfSize};
 
-use crate::bell::{Bell, Woken};
-use crate::connection::Connection;
-use crate::limits::{ANSWER, FAREWELL, HANDSHAKE, time_left};
+use crate::limits::{ANSWER, FAREWELL, HANDSHAKE};
 use crate::room::Hall;
 use disk::Disk;
 use replay::Slice;
 use shared_book::{Mark, Shared};
+use sockets::{Bell, Connection, Woken, time_left};
 use std::alloc::Global;
 use std::io;
 use std::marker::PhantomData;
@@ -155,6 +154,26 @@ impl<M: Mark, C: Connection> Viewer<M, C> {
             Duration::from_secs(FAREWELL),
             |talk| !talk.is_shown() && !self.has_left(),
         );
+    }
+
+    /// Waits until the viewer was shown what it has and asks for what comes next, has gone, or it is
+    /// over, which is looked at each second.
+    pub fn wait_until_asked<R: Clock + Wait, F: Fn() -> bool>(&self, rt: &R, is_over: F)
+        requires { F.IsAlwaysCallable is_over }
+    {
+        for _ in rt.forever() {
+            drop(
+                self.changed.wait_timeout_while(
+                    rt,
+                    self.talk.lock(rt),
+                    Duration::from_secs(1),
+                    |talk| !talk.is_shown() && !self.has_left(),
+                ),
+            );
+            if self.has_left() || is_over() || self.talk.lock(rt).is_shown() {
+                return;
+            }
+        }
     }
 
     // Takes a piece of the viewer's stream, and answers what is due: whether the viewer goes on.

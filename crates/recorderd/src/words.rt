@@ -1,10 +1,9 @@
 //! The words of the command line.
 
-use broadcast::Start;
 use clap::error::ErrorKind;
 use clap::{Arg, ArgAction, ArgMatches, Command};
 use file_commands::{Extract, Moment, PictureFormat, Scene};
-use serve::{Audience, Plan, Stop};
+use serve::{Audience, Origin, Pace, Plan, Playing, Stop};
 use std::alloc::{AllocError, Global};
 use std::io;
 
@@ -144,6 +143,36 @@ fn with_endings<'a>(alloc: Global, command: Command<'a>) -> Result<Command<'a>, 
         ))
 }
 
+// What `serve` takes of where viewers begin, and of a recording that is played in its own time.
+fn with_beginning<'a>(alloc: Global, command: Command<'a>) -> Result<Command<'a>, AllocError> {
+    command
+        .arg(option(
+            alloc,
+            "from",
+            "FROM",
+            "A number of messages, or live: where viewers begin [default: live]",
+        ))?
+        .arg(option(
+            alloc,
+            "at",
+            "TIME",
+            "In place of a number of messages: a time, in milliseconds of the recording",
+        ))?
+        .arg(option(
+            alloc,
+            "pace",
+            "PACE",
+            "Without a host: plays the recording so many times as fast as it happened, 0.1 to 100",
+        ))?
+        .arg(option(
+            alloc,
+            "longest-pause",
+            "PAUSE",
+            "With --pace: shortens longer pauses to so many seconds of the recording",
+        ))?
+        .arg(flag(alloc, "repeat", "With --pace: begins again at the end"))
+}
+
 fn serving<'a>(alloc: Global) -> Result<Command<'a>, AllocError> {
     let command = Command::new(alloc, "serve")
         .about("Records a host into a file, and shows the recording to viewers as it grows")
@@ -175,14 +204,8 @@ fn serving<'a>(alloc: Global) -> Result<Command<'a>, AllocError> {
             "viewers",
             "N",
             "How many viewers are waited for, 1 to 64, or any: whoever comes [default: 1]",
-        ))?
-        .arg(option(
-            alloc,
-            "from",
-            "FROM",
-            "A number of messages, or live: where viewers begin [default: live]",
         ))?;
-    with_endings(alloc, command)
+    with_endings(alloc, with_beginning(alloc, command)?)
 }
 
 fn all_commands<'a>(alloc: Global) -> Result<Command<'a>, AllocError> {
@@ -251,12 +274,52 @@ fn within(word: Option<&str>, least: u64, most: u64, default: u64) -> Option<u64
     number(word).filter(|number| least <= *number && *number <= most)
 }
 
-// Where viewers begin.
-fn start(word: Option<&str>) -> Option<Start> {
-    match word {
-        None | Some("live") => Some(Start::Live),
-        Some(word) => Some(Start::At(number(word)?)),
+// Where viewers begin, by a number of messages or a time; one of the two is given at most.
+fn origin(from: Option<&str>, time: Option<&str>) -> Option<Origin> {
+    match (from, time) {
+        (None | Some("live"), None) => Some(Origin::Live),
+        (Some(word), None) => Some(Origin::Count(number(word)?)),
+        (None, Some(word)) => Some(Origin::Time(u32::try_from(number(word)?).ok()?)),
+        _ => None,
     }
+}
+
+// A decimal number of at most three places behind the point, in thousandths.
+fn thousandths(word: &str) -> Option<u32> {
+    let (whole, part) = word.split_once(".").unwrap_or((word, "0"));
+    let scale = match part.len() {
+        1 => 100,
+        2 => 10,
+        3 => 1,
+        _ => return None,
+    };
+    let whole = number(whole).filter(|_| !whole.is_empty())?;
+    let thousandths = whole
+        .checked_mul(1000)?
+        .checked_add(number(part)?.checked_mul(scale)?)?;
+    u32::try_from(thousandths).ok()
+}
+
+// How a recording is played, if it is: without a host.
+fn playing(matches: &ArgMatches<'_>) -> Option<Option<Playing>> {
+    let longest_pause = matches.get_str("PAUSE");
+    let repeats = matches.get_flag("repeat");
+    let Some(pace) = matches.get_str("PACE") else {
+        let is_plain = longest_pause.is_none() && !repeats;
+        return is_plain.then_some(None);
+    };
+    if matches.get_str("HOST").is_some() {
+        return None;
+    }
+    let longest_pause = match longest_pause {
+        None => None,
+        Some(word) => Some(thousandths(word)?),
+    };
+    Some(Some(Playing {
+        pace: Pace::from_thousandths(thousandths(pace)?)?,
+        longest_pause,
+        repeats,
+    }))
 }
 
 // How many viewers are served.
@@ -287,7 +350,8 @@ fn plan<'a>(matches: &ArgMatches<'a>) -> Option<Plan<'a>> {
         host: matches.get_str("HOST"),
         key_interval: u16::try_from(within(matches.get_str("K"), 1, 4096, 256)?).ok()?,
         audience: audience(matches.get_str("N"))?,
-        from: start(matches.get_str("FROM"))?,
+        from: origin(matches.get_str("FROM"), matches.get_str("TIME"))?,
+        playing: playing(matches)?,
         stop: stop(matches)?,
         is_verbose: matches.get_flag("verbose"),
     })

@@ -1,7 +1,8 @@
 //! What ends a recorder from outside: its input, or a time.
 
-use connections::{Bell, Stop, Woken};
+use connections::Stop;
 use libc::STDIN_FILENO;
+use sockets::{Bell, Woken};
 use std::io;
 use std::time::{Clock, Duration, Instant};
 

@@ -1,18 +1,19 @@
 //! Where viewers come in: one thread accepts, and each connection has a thread of its own.
 
 use crate::no_turnstile::NoTurnstile;
-use crate::sink::Watching;
 use broadcast::Start;
-use connections::{Connection, Event, Room, Viewer, Woken, pause, turn_away};
+use connections::{Event, Room, Viewer, turn_away};
 use disk::Disk;
 use reception::{Arrival, Reason};
 use shared_book::{Mark, Shared, run_viewer};
+use sockets::{Connection, Woken, pause};
 use std::net::{SocketAddr, TcpListener, TcpStream};
 use std::os::fd::AsRawFd;
 use std::sync::Wait;
 use std::thread::{Scope, Threads};
 use std::time::Clock;
 use std::{io, thread};
+use watching::{Playing, Watching};
 
 /// What the system answers where it is short of descriptors or memory: ENOMEM, ENFILE, EMFILE and
 /// ENOBUFS of Linux.
@@ -38,13 +39,16 @@ fn watch<D: Disk, M: Mark, C: Connection, R: Clock + Eprint + Wait>(
             Start::At(shared.key_before(rt, count))
         }
     };
-    let _ended = run_viewer(
-        rt,
-        shared,
-        start,
-        Watching::new(rt, viewer, room),
-        &NoTurnstile,
-    );
+    let _ended = match room.program {
+        Some(program) => {
+            let sink = Playing::new(rt, viewer, room, program);
+            run_viewer(rt, shared, start, sink, &NoTurnstile)
+        }
+        None => {
+            let sink = Watching::new(rt, viewer, room);
+            run_viewer(rt, shared, start, sink, &NoTurnstile)
+        }
+    };
     viewer.leave(rt);
 }
 

@@ -1,14 +1,16 @@
 //! `recorderd serve`: a recorder between a host and viewers, over sockets and threads.
 #![tactic(auto)]
 
+mod beginning;
+mod committing;
 mod ending;
 mod entrance;
 mod no_turnstile;
 mod recording;
 mod serving;
-mod sink;
 
-pub use connections::{Audience, Plan, Stop};
+pub use connections::{Audience, Origin, Plan, Playing, Stop};
+pub use playing::Pace;
 pub use serving::{serve, serve_on};
 
 #[cfg(test)]

@@ -3,14 +3,15 @@
 ghost use Rattle.std.specs.Prelude.{◌≡◌, ◌<◌, ◌^◌, length};
 ghost use Rattle.flusher_core.specs.State.{accepted_count};
 
+use crate::beginning::beginning_of;
+use crate::committing::Committing;
 use crate::ending::wait_for_stop;
 use crate::entrance::accept_all;
 use crate::no_turnstile::NoTurnstile;
 use crate::recording::{Found, Identity, create, find};
-use crate::sink::Committing;
 use broadcast::Desk;
 use connections::{
-    Bell, Ends, Event, Host, HostEnd, Messages, Plan, Refusal, Room, Stop, Stopwatch, Telling,
+    Beginning, Ends, Event, Host, HostEnd, Messages, Plan, Refusal, Room, Stop, Stopwatch, Telling,
     first_refusal,
 };
 use disk::Disk;
@@ -18,6 +19,7 @@ use file_disk::{FileDisk, LastError};
 use flusher_core::{Book, HostRefusal, TakeRefusal};
 use gated_journal::Header;
 use shared_book::{FlusherEnd, Mark, Shared, Token, run_flusher, run_host};
+use sockets::Bell;
 use std::alloc::{AllocError, Global};
 use std::fs::File;
 use std::io::Write;
@@ -424,6 +426,7 @@ fn serve_book<
     token: Token,
     book: Book<FileDisk>,
     plan: &Plan<'_>,
+    beginning: Beginning,
     source: Source,
     listener: TcpListener,
     bell: Bell,
@@ -441,7 +444,7 @@ fn serve_book<
     let name = book.header().name().to_vec(alloc)?;
     let committed = book.committed();
     let room = Room::<M>::new(
-        alloc, size, name, plan, bell, telling, last_error, committed,
+        alloc, size, name, plan, beginning, bell, telling, last_error, committed,
     );
     let (outcome, committed) = share::<FileDisk, M, R, W>(
         rt,
@@ -464,6 +467,7 @@ fn serve_book<
 #[derive(Drop)]
 struct Opened {
     book: Book<FileDisk>,
+    beginning: Beginning,
     identity: Identity,
     source: Source,
     listener: TcpListener,
@@ -520,7 +524,7 @@ where
     let found = find(rt, alloc, plan.file, is_written, telling, last_error)?;
     let host = host_of(rt, plan, &found, telling)?;
     let listener = listener_of(rt, plan, listen, telling)?;
-    let (book, identity) = recording_for(
+    let (mut book, identity) = recording_for(
         rt,
         alloc,
         plan,
@@ -530,8 +534,10 @@ where
         last_error,
     )?;
     let source = source_of(rt, plan, host, book.last_time(), telling)?;
+    let beginning = beginning_of(&mut book, plan).map_err(Refusal::from)?;
     Ok(Opened {
         book,
+        beginning,
         identity,
         source,
         listener,
@@ -564,6 +570,7 @@ where
     let opened = open(rt, plan, listen, &telling, &last_error)?;
     let Opened {
         book,
+        beginning,
         identity,
         source,
         listener,
@@ -574,7 +581,7 @@ where
     };
     print_line(out, "serving")?;
     let committed = serve_book::<Brand, R, W>(
-        rt, token, book, plan, source, listener, bell, telling, last_error, err,
+        rt, token, book, plan, beginning, source, listener, bell, telling, last_error, err,
     )?;
     if !identity.is_at(rt, plan.file) {
         Telling::new(plan.is_verbose).tell(rt, Event::Replaced(plan.file));

@@ -4,10 +4,10 @@
 mod ends;
 mod hosts;
 mod peers;
+mod recordings;
 mod viewers;
 
-use crate::{Audience, Plan, Stop, serve_on};
-use broadcast::Start;
+use crate::{Audience, Origin, Plan, Stop, serve_on};
 use file_commands::check;
 use file_disk::Progress;
 use std::fs::File;
@@ -27,7 +27,8 @@ fn plan_of<'a>(file: &'a str, host: Option<&'a str>, viewers: u32) -> Plan<'a> {
         host,
         key_interval: 4,
         audience: Audience::Count(viewers),
-        from: Start::Live,
+        from: Origin::Live,
+        playing: None,
         stop: Stop::never(),
         is_verbose: false,
     }

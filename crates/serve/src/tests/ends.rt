@@ -4,8 +4,7 @@ use super::peers::{
     ALL, BLACK, CHANGES, GREEN, Peer, Place, RED, listener, silent_viewer, small_host, viewer,
 };
 use super::{checked, print, told};
-use crate::{Audience, Plan, Stop};
-use broadcast::Start;
+use crate::{Audience, Origin, Plan, Stop};
 use std::alloc::Global;
 use std::fs;
 use std::net::{Net, TcpListener, TcpStream};
@@ -77,7 +76,8 @@ fn a_viewer_is_shown_the_end(rt: HostRuntime) -> Result<(), Fail> {
             host: Some(address.as_str()),
             key_interval: 4,
             audience,
-            from: Start::Live,
+            from: Origin::Live,
+            playing: None,
             stop: Stop::never(),
             is_verbose: false,
         };
@@ -130,7 +130,8 @@ fn messages_in_one_piece_keep_their_order(rt: HostRuntime) -> Result<(), Fail> {
         host: Some(address.as_str()),
         key_interval: 4,
         audience: Audience::Count(1),
-        from: Start::At(0),
+        from: Origin::Count(0),
+        playing: None,
         stop: Stop::never(),
         is_verbose: false,
     };

@@ -3,8 +3,7 @@
 use super::peers::{ALL, BLACK, CHANGES, GREEN, RED, deaf_host, listener, small_host, viewer};
 use super::{checked, plan_of, print, told};
 use crate::tests::peers::{Peer, Place};
-use crate::{Audience, Plan, Stop};
-use broadcast::Start;
+use crate::{Audience, Origin, Plan, Stop};
 use std::fs;
 use std::net::{Net, TcpListener, TcpStream};
 use std::test::Fail;
@@ -87,13 +86,14 @@ fn a_host_ends(rt: HostRuntime) -> Result<(), Fail> {
 const RECORDING: [u8; 54] =
     *b"ORFBREC1\0\x01\0\x01\0\x04\0\x01xO\0\0\0\x1d\0\x01\0\0\0\0\0\0\0\0\x14\0\0\0\x01\0\0\0\0\0\x01\0\x01\0\0\0\0\0\0\xff\0C";
 
-// What a viewer sees of a recording that is served alone.
+// What a viewer sees first of a recording that is served alone.
 fn alone<R: Net<Stream = TcpStream, Listener = TcpListener> + AllocGlobal>(
     rt: &R,
     place: Place,
+    first: &[u8],
 ) -> Result<(), Fail> {
     let alloc = rt.alloc();
-    viewer(rt, place)?.talk(alloc, &ALL, &RED)
+    viewer(rt, place)?.talk(alloc, &ALL, first)
 }
 
 #[test]
@@ -101,7 +101,11 @@ fn a_recording_is_served_alone(rt: HostRuntime) -> Result<(), Fail> {
     let rt = &rt;
     let file = "alone";
     fs::write(rt, file, RECORDING.as_slice())?;
-    for from in [Start::Live, Start::At(0), Start::At(1)] {
+    for (from, first) in [
+        (Origin::Live, &RED),
+        (Origin::Count(0), &BLACK),
+        (Origin::Time(0), &RED),
+    ] {
         let (viewers, place) = listener(rt)?;
         let plan = Plan {
             from,
@@ -110,7 +114,7 @@ fn a_recording_is_served_alone(rt: HostRuntime) -> Result<(), Fail> {
         let said = told(join(
             rt,
             move || print(rt, plan, viewers),
-            move || alone(rt, place),
+            move || alone(rt, place, first),
         ))?;
         assert!(rt; said.as_str() == "true serving\ncommitted 1\n", "{said}");
     }
@@ -133,7 +137,8 @@ fn what_can_t_be_served_makes_no_file(rt: HostRuntime) -> Result<(), Fail> {
         host: Some(address.as_str()),
         key_interval: 4,
         audience: Audience::Count(1),
-        from: Start::Live,
+        from: Origin::Live,
+        playing: None,
         stop: Stop::never(),
         is_verbose: false,
     };

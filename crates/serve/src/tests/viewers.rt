@@ -4,9 +4,8 @@ use super::peers::{
     ALL, BLACK, CHANGES, GREEN, RED, large_host, listener, silent_viewer, small_host, viewer,
 };
 use super::{checked, plan_of, print, told};
-use crate::Plan;
 use crate::tests::peers::Place;
-use broadcast::Start;
+use crate::{Origin, Plan};
 use std::fs;
 use std::net::{Net, TcpListener, TcpStream};
 use std::test::Fail;
@@ -86,7 +85,7 @@ fn a_viewer_s_fault_ends_it_alone(rt: HostRuntime) -> Result<(), Fail> {
     let (viewers, place) = listener(rt)?;
     let address = host.address(rt.alloc())?;
     let plan = Plan {
-        from: Start::At(0),
+        from: Origin::Count(0),
         ..plan_of("strangers", Some(address.as_str()), 3)
     };
     let _ = fs::remove_file(rt, plan.file);

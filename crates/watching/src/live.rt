@@ -1,10 +1,11 @@
-//! What a viewer's worker and the flusher work for.
+//! A recording that a viewer watches as it grows.
 
 use broadcast::Start;
-use connections::{Connection, Event, Room, Viewer};
-use shared_book::{Ending, Mark, Receipt, ReceiptSink, ViewerSink, ViewerWish};
+use connections::{Event, Room, Viewer};
+use shared_book::{Ending, Mark, Receipt, ViewerSink, ViewerWish};
+use sockets::Connection;
 use std::sync::Wait;
-use std::time::{Clock, Instant};
+use std::time::Clock;
 
 /// How many messages a viewer takes at a time: all that a block has, so that a block is read once.
 const LIMIT: u32 = 256;
@@ -12,13 +13,16 @@ const LIMIT: u32 = 256;
 /// A live viewer that is more messages behind than this goes on at the newest screen.
 const FAR: u64 = 64;
 
-/// Shows a viewer the recording as it grows.
+/// Shows a viewer the recording as it grows. One that begins behind a message is shown each message
+/// that was committed before it came, as fast as it asks, and is a live one from there on.
 #[derive(Drop)]
 pub struct Watching<'a, M: Mark, C: Connection, R: Clock + Eprint + Wait> {
     rt: &'a R,
     viewer: &'a Viewer<M, C>,
     room: &'a Room<M>,
     position: u64,
+    /// Up to which count it is shown each message.
+    each_until: u64,
     /// Whether it has a screen to go on from.
     has_start: bool,
     /// Whether it has waited for more since it was handed something.
@@ -36,6 +40,10 @@ impl<'a, M: Mark, C: Connection, R: Clock + Eprint + Wait> Watching<'a, M, C, R>
             viewer,
             room,
             position: 0,
+            each_until: match room.from {
+                Start::Live => 0,
+                Start::At(_) => room.committed(),
+            },
             has_start: false,
             has_waited: false,
             is_at_end: false,
@@ -55,17 +63,33 @@ impl<'a, M: Mark, C: Connection, R: Clock + Eprint + Wait> Watching<'a, M, C, R>
 
     // Whether it goes on at the newest screen in place of all that it missed.
     fn is_far_behind(&self) -> bool {
-        self.room.from == Start::Live && self.room.committed().saturating_sub(self.position) > FAR
+        let is_live = self.each_until <= self.position;
+        is_live && self.room.committed().saturating_sub(self.position) > FAR
     }
 
     // How many messages it takes next: no more than up to where it begins, so that it is shown just
-    // that screen first.
+    // that screen first; then one by one, as far as it is shown each.
     fn limit(&self) -> u32 {
         match self.room.from {
+            Start::At(_) if !self.has_start => 0,
             Start::At(count) if self.position < count => {
                 u32::try_from(count - self.position).map_or(LIMIT, |left| left.min(LIMIT))
             }
+            _ if self.position < self.each_until => 1,
             _ => LIMIT,
+        }
+    }
+
+    // Waits until the viewer was shown what it has and asks for more, where it is shown each message;
+    // until it has left, or the recorder is closing, too.
+    fn wait_until_asked(&self) {
+        let begins_at = match self.room.from {
+            Start::Live => return,
+            Start::At(count) => count,
+        };
+        if self.has_start && begins_at <= self.position && self.position < self.each_until {
+            self.viewer
+                .wait_until_asked(self.rt, || self.room.hall.is_closing(self.rt));
         }
     }
 
@@ -98,6 +122,7 @@ impl<'a, M: Mark, C: Connection, R: Clock + Eprint + Wait> ViewerSink<Receipt<M>
             self.rest_at_end();
             return ViewerWish::Stop;
         }
+        self.wait_until_asked();
         if self.is_cut_off() {
             return ViewerWish::Stop;
         }
@@ -125,67 +150,6 @@ impl<'a, M: Mark, C: Connection, R: Clock + Eprint + Wait> ViewerSink<Receipt<M>
 
     fn end(&mut self, _ending: Ending<M>) {
         self.is_at_end = true;
-    }
-
-    fn shortage(&mut self) {
-        if !self.is_short {
-            self.room.telling.tell(self.rt, Event::Shortage);
-        }
-        self.is_short = true;
-    }
-}
-
-/// After how many seconds what was recorded is told of.
-const MINUTE: u64 = 60;
-
-/// Tells the host's worker and the viewers what was committed, and each minute in which something
-/// came, how much.
-#[derive(Drop)]
-pub struct Committing<'a, M: Mark, R: Clock + Eprint + Wait> {
-    rt: &'a R,
-    room: &'a Room<M>,
-    since: Option<Instant>,
-    is_short: bool,
-}
-
-impl<'a, M: Mark, R: Clock + Eprint + Wait> Committing<'a, M, R> {
-    /// Before the first commit.
-    pub fn new(rt: &'a R, room: &'a Room<M>) -> Committing<'a, M, R> {
-        Committing {
-            rt,
-            room,
-            since: Instant::now(rt).ok(),
-            is_short: false,
-        }
-    }
-
-    // Tells of what came in the minute that has passed.
-    fn tell(&mut self) {
-        let Some(since) = self.since else {
-            return;
-        };
-        match since.elapsed(self.rt) {
-            Ok(passed) if passed.as_secs() >= MINUTE => {}
-            _ => return,
-        }
-        self.room.tell_recorded(self.rt);
-        self.since = Instant::now(self.rt).ok();
-    }
-}
-
-impl<'a, M: Mark, R: Clock + Eprint + Wait> ReceiptSink<Receipt<M>> for Committing<'a, M, R> {
-    fn receipt(&mut self, receipt: Receipt<M>) {
-        let slice = receipt.slice();
-        let count = slice.messages.len() as u64;
-        let mut bytes = 0u64;
-        for stamped in &slice.messages {
-            bytes = bytes.saturating_add(stamped.message.bytes().len() as u64);
-        }
-        self.room.set_committed(slice.first.saturating_add(count));
-        self.room.intake.commit(self.rt, bytes);
-        self.room.note_recorded(count, bytes);
-        self.is_short = false;
-        self.tell();
     }
 
     fn shortage(&mut self) {

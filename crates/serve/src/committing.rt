@@ -1,0 +1,67 @@
+//! What the flusher works for.
+
+use connections::{Event, Room};
+use shared_book::{Mark, Receipt, ReceiptSink};
+use std::sync::Wait;
+use std::time::{Clock, Instant};
+
+/// After how many seconds what was recorded is told of.
+const MINUTE: u64 = 60;
+
+/// Tells the host's worker and the viewers what was committed, and each minute in which something
+/// came, how much.
+#[derive(Drop)]
+pub struct Committing<'a, M: Mark, R: Clock + Eprint + Wait> {
+    rt: &'a R,
+    room: &'a Room<M>,
+    since: Option<Instant>,
+    is_short: bool,
+}
+
+impl<'a, M: Mark, R: Clock + Eprint + Wait> Committing<'a, M, R> {
+    /// Before the first commit.
+    pub fn new(rt: &'a R, room: &'a Room<M>) -> Committing<'a, M, R> {
+        Committing {
+            rt,
+            room,
+            since: Instant::now(rt).ok(),
+            is_short: false,
+        }
+    }
+
+    // Tells of what came in the minute that has passed.
+    fn tell(&mut self) {
+        let Some(since) = self.since else {
+            return;
+        };
+        match since.elapsed(self.rt) {
+            Ok(passed) if passed.as_secs() >= MINUTE => {}
+            _ => return,
+        }
+        self.room.tell_recorded(self.rt);
+        self.since = Instant::now(self.rt).ok();
+    }
+}
+
+impl<'a, M: Mark, R: Clock + Eprint + Wait> ReceiptSink<Receipt<M>> for Committing<'a, M, R> {
+    fn receipt(&mut self, receipt: Receipt<M>) {
+        let slice = receipt.slice();
+        let count = slice.messages.len() as u64;
+        let mut bytes = 0u64;
+        for stamped in &slice.messages {
+            bytes = bytes.saturating_add(stamped.message.bytes().len() as u64);
+        }
+        self.room.set_committed(slice.first.saturating_add(count));
+        self.room.intake.commit(self.rt, bytes);
+        self.room.note_recorded(count, bytes);
+        self.is_short = false;
+        self.tell();
+    }
+
+    fn shortage(&mut self) {
+        if !self.is_short {
+            self.room.telling.tell(self.rt, Event::Shortage);
+        }
+        self.is_short = true;
+    }
+}

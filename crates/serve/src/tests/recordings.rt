@@ -1,0 +1,89 @@
+//! Recordings that are shown from their start.
+
+use super::peers::{ALL, BLACK, CHANGES, GREEN, Peer, Place, RED, listener, viewer};
+use super::{checked, plan_of, print, told};
+use crate::{Origin, Pace, Plan, Playing};
+use std::fs;
+use std::net::{Net, TcpListener, TcpStream};
+use std::test::Fail;
+use std::thread::join;
+use std::time::{Clock, Instant};
+
+/// A recording of one place with two messages: red after 3 seconds, and green after 25 minutes.
+const RECORDING: [u8; 83] =
+    *b"ORFBREC1\0\x01\0\x01\0\x04\0\x01xO\0\0\0\x3a\0\x02\0\0\0\x0b\xb8\0\0\0\x14\0\0\0\x01\0\0\0\0\0\x01\0\x01\0\0\0\0\0\0\xff\0\0\0\x16\xe3\x60\0\0\0\x14\0\0\0\x01\0\0\0\0\0\x01\0\x01\0\0\0\0\0\xff\0\0C";
+
+// What a viewer sees that asks again and again.
+fn sees_each<R: Net<Stream = TcpStream, Listener = TcpListener> + AllocGlobal>(
+    rt: &R,
+    place: Place,
+) -> Result<(), Fail> {
+    let alloc = rt.alloc();
+    let viewer = viewer(rt, place)?;
+    viewer.talk(alloc, &ALL, &BLACK)?;
+    viewer.talk(alloc, &CHANGES, &RED)?;
+    viewer.talk(alloc, &CHANGES, &GREEN)
+}
+
+// Asks, and is shown this update no sooner than so many milliseconds from a moment on.
+fn comes_after<R: Clock + AllocGlobal>(
+    rt: &R,
+    viewer: &Peer,
+    update: &[u8],
+    started: Instant,
+    milliseconds: u128,
+) -> Result<(), Fail> {
+    viewer.talk(rt.alloc(), &CHANGES, update)?;
+    if started.elapsed(rt)?.as_millis() < milliseconds {
+        return Err("too early".into());
+    }
+    Ok(())
+}
+
+// What it sees of a recording that is played again and again, with pauses of two seconds at most.
+fn sees_each_in_time<R: Net<Stream = TcpStream, Listener = TcpListener> + Clock + AllocGlobal>(
+    rt: &R,
+    place: Place,
+) -> Result<(), Fail> {
+    let started = Instant::now(rt)?;
+    let viewer = viewer(rt, place)?;
+    viewer.talk(rt.alloc(), &ALL, &BLACK)?;
+    comes_after(rt, &viewer, &RED, started, 2000)?;
+    comes_after(rt, &viewer, &GREEN, started, 4000)?;
+    comes_after(rt, &viewer, &BLACK, started, 5000)
+}
+
+#[test]
+fn each_message_is_shown(rt: HostRuntime) -> Result<(), Fail> {
+    let rt = &rt;
+    let file = "each";
+    fs::write(rt, file, RECORDING.as_slice())?;
+    let plan = Plan {
+        from: Origin::Count(0),
+        ..plan_of(file, None, 1)
+    };
+    let (viewers, place) = listener(rt)?;
+    let said = told(join(
+        rt,
+        move || print(rt, plan, viewers),
+        move || sees_each(rt, place),
+    ))?;
+    assert!(rt; said.as_str() == "true serving\ncommitted 2\n", "{said}");
+    let plan = Plan {
+        playing: Some(Playing {
+            pace: Pace::from_thousandths(1000).ok_or("pace")?,
+            longest_pause: Some(2000),
+            repeats: true,
+        }),
+        ..plan
+    };
+    let (viewers, place) = listener(rt)?;
+    let said = told(join(
+        rt,
+        move || print(rt, plan, viewers),
+        move || sees_each_in_time(rt, place),
+    ))?;
+    assert!(rt; said.as_str() == "true serving\ncommitted 2\n", "{said}");
+    assert!(rt; checked(rt, file)?.as_str() == "recording 1 1 messages 2 blocks 1\n");
+    Ok(())
+}

@@ -1,0 +1,11 @@
+//! Sockets of a server that hostile peers reach: waits that a bell ends, limits of silence and of
+//! writes, and a way to a peer of whatever kind.
+#![tactic(auto)]
+
+mod bell;
+mod connection;
+mod limits;
+
+pub use bell::{Bell, Woken};
+pub use connection::Connection;
+pub use limits::{pause, time_left, watch_over, write_within};
