@@ -6,6 +6,7 @@ ghost use Rattle.reception.specs.State.{viewers_of};
 use broadcast::Start;
 use playing::{Pace, Program};
 use reception::Term;
+use sockets::Stop;
 
 /// How many viewers are served.
 #[derive(Clone, Copy, Debug, PartialEq, Eq)]
@@ -62,35 +63,11 @@ pub struct Plan<'a> {
     pub from: Origin,
     /// How the recording is played, where it is in its own time. There is no host then.
     pub playing: Option<Playing>,
-    /// What ends it beside the host.
+    /// What ends it beside the host, which isn't read from any more then; what it sent is committed
+    /// and shown to the viewers who are there.
     pub stop: Stop,
     /// Whether what happens is told on standard error.
     pub is_verbose: bool,
-}
-
-/// When a recorder is stopped. The host isn't read from any more then; what it sent is committed
-/// and shown to the viewers who are there.
-#[derive(Clone, Copy, Debug, PartialEq, Eq)]
-pub struct Stop {
-    /// Once standard input has ended.
-    pub at_end_of_input: bool,
-    /// After so many seconds.
-    pub after: Option<u64>,
-}
-
-impl Stop {
-    /// Never.
-    pub fn never() -> Stop {
-        Stop {
-            at_end_of_input: false,
-            after: None,
-        }
-    }
-
-    /// Whether it may ever come.
-    pub fn may_come(self) -> bool {
-        self.at_end_of_input || self.after.is_some()
-    }
 }
 
 impl Plan<'_> {

@@ -49,8 +49,8 @@ fn count_of(index: &mut Indexed<FileDisk>, moment: Moment) -> Result<u64, Replay
     }
 }
 
-// The screen at a moment.
-fn screen_of(
+/// The screen at a moment of a recording.
+pub fn screen_of(
     alloc: Global,
     index: &mut Indexed<FileDisk>,
     moment: Moment,

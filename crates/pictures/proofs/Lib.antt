@@ -1,2 +1,3 @@
+pub mod Filming
 pub mod Moments
 pub mod Texts

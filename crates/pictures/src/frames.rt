@@ -1,40 +1,89 @@
-//! The frames of a video: when they are, and a replay that goes forward to each.
+//! The frames of a video: when they are, and the pictures that they show.
 
-ghost use Rattle.std.specs.Prelude.{◌≡◌, ◌↔◌, ◌<◌, ◌≤◌, ℕ, OnOk};
+ghost use Rattle.std.specs.Prelude.{◌≡◌, ◌↔◌, ◌<◌, ◌≤◌, ◌⊎◌, ◌++◌, ℕ, List, [], OnOk};
+ghost use Rattle.std.specs.Io.KnownBytes.{Appends};
+ghost use Rattle.disk.specs.Failures.{HasCause};
 ghost use Rattle.keyed_entries.specs.Entry.{messages_in};
 ghost use Rattle.key_index.specs.Indexed.{OnlyReads};
-ghost use Rattle.pictures.specs.Frames.{frame_moment};
+ghost use Rattle.painter.specs.Framebuffer.{color_at};
+ghost use Rattle.pictures.specs.Frames.{frame_moment, IsVideo};
+ghost use Rattle.pictures.specs.Pictures.{picture_text};
 ghost use Rattle.replay.specs.Screens.{IsScreenAt};
 
+use crate::moment::count_at;
+use crate::picture::{PictureFormat, write_picture};
 use disk::Disk;
+use gated_journal::ReadFault;
 use key_index::Indexed;
-use replay::{Replay, ReplayFault};
+use replay::{Replay, ReplayFault, from_count};
+use std::alloc::Global;
+use std::io;
+use std::io::Write;
 
-/// The moment of frame `k`, counted from 0, of `rate` frames a second from a moment on: in
-/// milliseconds, rounded down.
-pub fn moment_of_frame(from: u32, rate: u8, k: u32) -> u64
-    requires { 0 < rate }
-    ensures { result ≡ frame_moment from rate k }
-{
-    u64::from(from) + u64::from(k) * 1000 / u64::from(rate)
+/// Which frames of a recording make a video. Moments are in milliseconds of the recording.
+#[derive(Clone, Copy, Debug)]
+pub struct Film {
+    /// The first frame's moment.
+    pub from: u32,
+    /// No frame is later.
+    pub to: u32,
+    /// How many frames a second.
+    pub rate: u8,
+    ghost rated: { 0 < rate },
 }
 
-/// How many frames there are, of `rate` a second, from a moment to another: the frames whose
-/// moments aren't later than `to`; none where `to` is before `from`.
-pub fn count_of_frames(from: u32, to: u32, rate: u8) -> u64
-    requires { 0 < rate }
-    ensures { (k : ℕ) → (k < result) ↔ (frame_moment from rate k ≤ to) }
-{
-    if to < from {
-        return 0;
+impl Film {
+    /// How many frames there are: those whose moments aren't later than `to`; none where `to` is
+    /// before `from`.
+    pub fn frames(&self) -> u32
+        ensures { (k : ℕ) → (k < result) ↔ (frame_moment self.now.from self.now.rate k ≤ self.now.to) }
+    {
+        if self.to < self.from {
+            return 0;
+        }
+        let seconds = u64::from(self.to - self.from) + 1;
+        ((seconds * u64::from(self.rate) + 999) / 1000) as u32
     }
-    ((u64::from(to - from) + 1) * u64::from(rate) + 999) / 1000
+
+    /// The moment of a frame, counted from 0, rounded down.
+    pub fn moment(&self, frame: u32) -> u32
+        requires { frame_moment self.now.from self.now.rate frame ≤ self.now.to }
+        ensures { result ≡ frame_moment self.now.from self.now.rate frame }
+    {
+        (u64::from(self.from) + u64::from(frame) * 1000 / u64::from(self.rate)) as u32
+    }
 }
 
-/// Plays a recording forward until so many messages are painted, each once; a replay that stands
-/// there or behind it is left as it is. Nothing is written. An error is that of a message that
-/// isn't read; those before it are painted then.
-pub fn play_to<D: Disk>(
+/// Why the frames aren't written.
+#[derive(Debug, Drop)]
+pub enum FilmFault {
+    /// The recording isn't read.
+    Read(ReplayFault),
+    /// They can't be written, or memory for a picture is wanting.
+    Write(io::Error),
+}
+
+impl From<ReplayFault> for FilmFault {
+    fn from(fault: ReplayFault) -> FilmFault {
+        FilmFault::Read(fault)
+    }
+}
+
+impl From<ReadFault> for FilmFault {
+    fn from(fault: ReadFault) -> FilmFault {
+        FilmFault::Read(fault.into())
+    }
+}
+
+impl From<io::Error> for FilmFault {
+    fn from(error: io::Error) -> FilmFault {
+        FilmFault::Write(error)
+    }
+}
+
+// Plays a recording forward until so many messages are painted, each once. An error is that of a
+// message that isn't read; those before it are painted then.
+fn play_to<D: Disk>(
     replay: &mut Replay,
     index: &mut Indexed<D>,
     count: u64,
@@ -51,6 +100,62 @@ pub fn play_to<D: Disk>(
 {
     while replay.position() < count {
         replay.next(index)?;
+    }
+    Ok(())
+}
+
+// Has a picture be that of the screen at a count, which isn't before the one that the replay stands
+// at. A screen that didn't change isn't made again; no bytes are no picture yet.
+fn show<D: Disk>(
+    alloc: Global,
+    replay: &mut Replay,
+    index: &mut Indexed<D>,
+    count: u64,
+    picture: &mut Vec<u8>,
+) -> Result<(), FilmFault>
+    requires width { replay.old.screen.width ≡ index.old.head.width }
+    requires height { replay.old.screen.height ≡ index.old.head.height }
+    requires painted { D.is_modelled → IsScreenAt index.old.head (messages_in index.old.blocks) replay.old.position replay.old.screen }
+    requires within { count ≤ index.old.numbers.committed }
+    requires picture { (picture.old.items ≡ []) ⊎ (picture.old.items ≡ picture_text PictureFormat.Ppm replay.old.screen.width replay.old.screen.height (color_at replay.old.screen)) }
+    ensures position { replay.old.position ≤ count → OnOk result (replay.new.position ≡ count) }
+    ensures painted { D.is_modelled → IsScreenAt index.old.head (messages_in index.old.blocks) replay.new.position replay.new.screen }
+    ensures width { replay.new.screen.width ≡ replay.old.screen.width }
+    ensures height { replay.new.screen.height ≡ replay.old.screen.height }
+    ensures picture { OnOk result (picture.new.items ≡ picture_text PictureFormat.Ppm replay.new.screen.width replay.new.screen.height (color_at replay.new.screen)) }
+    ensures only { OnlyReads D.is_modelled D.history index.old index.new }
+{
+    if !picture.is_empty() && replay.position() >= count {
+        return Ok(());
+    }
+    play_to(replay, index, count)?;
+    picture.clear();
+    write_picture(alloc, replay.screen(), PictureFormat::Ppm, picture)?;
+    Ok(())
+}
+
+/// Writes the frames of a video as PPM pictures, one behind the other: all of them where the answer
+/// is `Ok`. Each message is painted once, and a screen that didn't change is made into a picture
+/// once. It takes the memory of a screen and of a picture. Nothing else is written; what an error
+/// leaves of the frames is a beginning, perhaps with a part of one.
+pub fn write_frames<D: Disk, W: Write>(
+    alloc: Global,
+    index: &mut Indexed<D>,
+    film: &Film,
+    out: &mut W,
+) -> Result<(), FilmFault>
+    ensures video { D.is_modelled → OnOk result ((text : List ℕ)
+        × IsVideo index.old.head (messages_in index.old.blocks) film.now.from film.now.to film.now.rate text
+        × Appends (W.contents out.old) (W.contents out.new) text) }
+    ensures only { OnlyReads D.is_modelled D.history index.old index.new }
+{
+    let first = count_at(index, film.from)?;
+    let mut replay = from_count(alloc, index, first)?;
+    let mut picture = Vec::new(alloc);
+    for frame in 0..film.frames() {
+        let count = count_at(index, film.moment(frame))?;
+        show(alloc, &mut replay, index, count, &mut picture)?;
+        out.write_all(&picture)?;
     }
     Ok(())
 }

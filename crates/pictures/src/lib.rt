@@ -5,6 +5,6 @@ mod frames;
 mod moment;
 mod picture;
 
-pub use frames::{count_of_frames, moment_of_frame, play_to};
+pub use frames::{Film, FilmFault, write_frames};
 pub use moment::count_at;
 pub use picture::{PictureFormat, write_picture};

@@ -14,8 +14,8 @@ use std::test::Fail;
 use std::thread::Threads;
 use std::time::Clock;
 
-// The exit status of a command line on this input, and what is printed on both outputs.
-fn ran<R>(rt: &R, line: &str, input: &str) -> Result<(u8, String, String), Fail>
+// The exit status of a command line on this input, and what is written on both outputs.
+fn written<R>(rt: &R, line: &str, input: &str) -> Result<(u8, Vec<u8>, Vec<u8>), Fail>
 where
     R: AllocGlobal + Clock + Eprint + Files<File = File> + Sync + Threads + Wait,
     R: Net<Stream = TcpStream, Listener = TcpListener>,
@@ -35,6 +35,16 @@ where
         &mut out,
         &mut err,
     );
+    Ok((status, out, err))
+}
+
+// The same of a command that prints text.
+fn ran<R>(rt: &R, line: &str, input: &str) -> Result<(u8, String, String), Fail>
+where
+    R: AllocGlobal + Clock + Eprint + Files<File = File> + Sync + Threads + Wait,
+    R: Net<Stream = TcpStream, Listener = TcpListener>,
+{
+    let (status, out, err) = written(rt, line, input)?;
     let out = String::from_utf8(out).ok().ok_or("output")?;
     let err = String::from_utf8(err).ok().ok_or("error output")?;
     Ok((status, out, err))
@@ -68,6 +78,12 @@ fn words_that_are_no_command_line(rt: HostRuntime) -> Result<(), Fail> {
         "export r -1 1 o",
         "export r +1 1 o",
         "export r 0 18446744073709551616 o",
+        "frames r",
+        "frames r --rate 61",
+        "frames r --rate 10 --to later",
+        "times r --every 0",
+        "browse",
+        "browse r --seconds soon",
         "picture r o.ppm",
         "picture r o.png --at 0",
         "picture r o.ppm --at 0 --message 0",

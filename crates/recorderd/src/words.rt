@@ -1,8 +1,9 @@
 //! The words of the command line.
 
+use browse::Browsing;
 use clap::error::ErrorKind;
 use clap::{Arg, ArgAction, ArgMatches, Command};
-use file_commands::{Extract, Moment, PictureFormat, Scene};
+use file_commands::{Extract, Filming, Moment, PictureFormat, Scene, Timing};
 use serve::{Audience, Origin, Pace, Plan, Playing, Stop};
 use std::alloc::{AllocError, Global};
 use std::io;
@@ -15,6 +16,9 @@ pub enum Chosen<'a> {
     Check(&'a str),
     Export(Extract<'a>),
     Picture(Scene<'a>),
+    Frames(Filming<'a>),
+    Times(Timing<'a>),
+    Browse(Browsing<'a>),
     FbsCheck(&'a str),
     Serve(Plan<'a>),
     /// What a refusal of this area and number means.
@@ -91,6 +95,62 @@ fn picture<'a>(alloc: Global) -> Result<Command<'a>, AllocError> {
         ))
 }
 
+fn frames<'a>(alloc: Global) -> Result<Command<'a>, AllocError> {
+    Command::new(alloc, "frames")
+        .about("Writes the screens of a recording as PPM pictures on standard output, for a video")
+        .after_help(
+            "Example: recorderd frames r --rate 10 | ffmpeg -f image2pipe -framerate 10 -i - r.mp4",
+        )
+        .arg(required(alloc, "PATH", "The recording"))?
+        .arg(
+            option(
+                alloc,
+                "rate",
+                "RATE",
+                "How many pictures a second of the recording, 1 to 60",
+            ).required(true),
+        )?
+        .arg(option(
+            alloc,
+            "from",
+            "FROM",
+            "The first picture's moment, in milliseconds of the recording [default: 0]",
+        ))?
+        .arg(option(
+            alloc,
+            "to",
+            "TO",
+            "No picture is later [default: when the last message is shown]",
+        ))
+}
+
+fn times<'a>(alloc: Global) -> Result<Command<'a>, AllocError> {
+    Command::new(alloc, "times")
+        .about("Prints when something came in a recording, and how much")
+        .after_help("Example, minute by minute: recorderd times r --every 60")
+        .arg(required(alloc, "PATH", "The recording"))?
+        .arg(option(
+            alloc,
+            "every",
+            "SECONDS",
+            "How long the stretches are, 1 to 86400 seconds [default: 10]",
+        ))
+}
+
+fn browsing<'a>(alloc: Global) -> Result<Command<'a>, AllocError> {
+    let command = Command::new(alloc, "browse")
+        .about("Serves a page on which a recording is looked at in a browser")
+        .after_help("Example: recorderd browse r, and then look at http://127.0.0.1:8080/")
+        .arg(required(alloc, "PATH", "The recording"))?
+        .arg(option(
+            alloc,
+            "listen",
+            "ADDR",
+            "Where browsers connect to; a number is a port of this machine alone [default: 8080]",
+        ))?;
+    with_stops(alloc, command)
+}
+
 fn fbs_check<'a>(alloc: Global) -> Result<Command<'a>, AllocError> {
     Command::new(alloc, "fbs-check")
         .about("Reads a whole FBS file, and prints its size and how much it holds")
@@ -122,25 +182,29 @@ fn flag<'a>(alloc: Global, name: &'a str, help: &'a str) -> Arg<'a> {
         .action(ArgAction::SetTrue)
 }
 
-// What `serve` takes beside what it records and shows: how it ends, and what it tells.
-fn with_endings<'a>(alloc: Global, command: Command<'a>) -> Result<Command<'a>, AllocError> {
+// What ends a server from outside.
+fn with_stops<'a>(alloc: Global, command: Command<'a>) -> Result<Command<'a>, AllocError> {
     command
         .arg(option(
             alloc,
             "seconds",
             "SECONDS",
-            "Ends the recording after so many seconds",
+            "Ends after so many seconds",
         ))?
         .arg(flag(
             alloc,
             "until-input-ends",
-            "Ends the recording once standard input ends",
-        ))?
-        .arg(flag(
-            alloc,
-            "verbose",
-            "Tells what happens, a line each, on standard error",
+            "Ends once standard input ends",
         ))
+}
+
+// What `serve` takes beside what it records and shows: how it ends, and what it tells.
+fn with_endings<'a>(alloc: Global, command: Command<'a>) -> Result<Command<'a>, AllocError> {
+    with_stops(alloc, command)?.arg(flag(
+        alloc,
+        "verbose",
+        "Tells what happens, a line each, on standard error",
+    ))
 }
 
 // What `serve` takes of where viewers begin, and of a recording that is played in its own time.
@@ -218,7 +282,10 @@ fn all_commands<'a>(alloc: Global) -> Result<Command<'a>, AllocError> {
         .subcommand(check(alloc)?)?
         .subcommand(export(alloc)?)?
         .subcommand(fbs_check(alloc)?)?
+        .subcommand(times(alloc)?)?
         .subcommand(picture(alloc)?)?
+        .subcommand(frames(alloc)?)?
+        .subcommand(browsing(alloc)?)?
         .subcommand(serving(alloc)?)?
         .subcommand(explain(alloc)?)
 }
@@ -272,6 +339,52 @@ fn within(word: Option<&str>, least: u64, most: u64, default: u64) -> Option<u64
         return Some(default);
     };
     number(word).filter(|number| least <= *number && *number <= most)
+}
+
+// A time in milliseconds of a recording.
+fn time(word: &str) -> Option<u32> {
+    u32::try_from(number(word)?).ok()
+}
+
+// Which frames are asked for.
+fn filmed<'a>(matches: &ArgMatches<'a>) -> Option<Filming<'a>> {
+    let rate = u8::try_from(within(matches.get_str("RATE"), 1, 60, 1)?).ok()?;
+    let from = matches.get_str("FROM").map_or(Some(0), time)?;
+    let to = match matches.get_str("TO") {
+        None => None,
+        Some(word) => Some(time(word)?),
+    };
+    if rate == 0 {
+        return None;
+    }
+    Some(Filming {
+        recording: matches.get_str("PATH")?,
+        from,
+        to,
+        rate,
+    })
+}
+
+// Which stretches are asked for.
+fn timed<'a>(matches: &ArgMatches<'a>) -> Option<Timing<'a>> {
+    let seconds = within(matches.get_str("SECONDS"), 1, 86_400, 10)?;
+    let every = u32::try_from(seconds).ok()?.checked_mul(1000)?;
+    if every == 0 {
+        return None;
+    }
+    Some(Timing {
+        recording: matches.get_str("PATH")?,
+        every,
+    })
+}
+
+// What is looked at where.
+fn looked_at<'a>(matches: &ArgMatches<'a>) -> Option<Browsing<'a>> {
+    Some(Browsing {
+        recording: matches.get_str("PATH")?,
+        listen: matches.get_str("ADDR").unwrap_or("8080"),
+        stop: stop(matches)?,
+    })
 }
 
 // Where viewers begin, by a number of messages or a time; one of the two is given at most.
@@ -368,6 +481,9 @@ fn choose<'a>(matches: &ArgMatches<'a>) -> Option<Chosen<'a>> {
         "check" => Some(Chosen::Check(matches.get_str("PATH")?)),
         "export" => Some(Chosen::Export(extract(matches)?)),
         "picture" => Some(Chosen::Picture(shown(matches)?)),
+        "frames" => Some(Chosen::Frames(filmed(matches)?)),
+        "times" => Some(Chosen::Times(timed(matches)?)),
+        "browse" => Some(Chosen::Browse(looked_at(matches)?)),
         "serve" => Some(Chosen::Serve(plan(matches)?)),
         "explain" => {
             let number = number(matches.get_str("NUMBER")?)?;

@@ -7,6 +7,6 @@ mod screens;
 mod slice;
 
 pub use fault::ReplayFault;
-pub use playing::{Replay, from_block};
+pub use playing::{Replay, from_block, from_count};
 pub use screens::screen_at;
 pub use slice::Slice;

@@ -6,22 +6,13 @@ use connections::{Event, Room, Viewer, turn_away};
 use disk::Disk;
 use reception::{Arrival, Reason};
 use shared_book::{Mark, Shared, run_viewer};
-use sockets::{Connection, Woken, pause};
+use sockets::{Accepted, Connection, accept};
 use std::net::{SocketAddr, TcpListener, TcpStream};
-use std::os::fd::AsRawFd;
 use std::sync::Wait;
+use std::thread;
 use std::thread::{Scope, Threads};
 use std::time::Clock;
-use std::{io, thread};
 use watching::{Playing, Watching};
-
-/// What the system answers where it is short of descriptors or memory: ENOMEM, ENFILE, EMFILE and
-/// ENOBUFS of Linux.
-const SHORTAGES: [i32; 4] = [12, 23, 24, 105];
-
-/// What it answers where the listener itself is of no more use: EBADF, EINVAL, ENOTSOCK and
-/// EOPNOTSUPP. Each other failure is of one connection.
-const FINAL: [i32; 4] = [9, 22, 88, 95];
 
 // Shows a viewer the recording, from a seat. One that begins behind a message takes its seat at the
 // last key screen before, so that no more than a block is read under the lock at a time; what lies
@@ -142,52 +133,29 @@ fn attend<D: Disk + Send, M: Mark + Send + Sync, R: Threads + Clock + Eprint + W
     }
 }
 
-// Takes a connection that waits, and has it attended to on a thread of its own.
+// Has a connection attended to on a thread of its own.
 fn take<'s, E, D: Disk + Send, M: Mark + Send + Sync, R: Threads + Clock + Eprint + Wait + Sync>(
     rt: &'s R,
     scope: &'s Scope<'s, E>,
     shared: &'s Shared<D, M>,
     room: &'s Room<M>,
-    listener: &TcpListener,
-) -> io::Result<()> {
-    let (stream, from) = listener.accept()?;
+    stream: TcpStream,
+    from: SocketAddr,
+) {
     let arrival = room.hall.arrive(rt);
     if arrival == Arrival::Dropped {
         room.telling.tell(rt, Event::Dropped(from));
-        return Ok(());
+        return;
     }
     let attending = scope.spawn(move || attend(rt, shared, room, stream, from, arrival));
     if attending.is_err() {
         room.hall.give_up(rt);
         room.telling.tell(rt, Event::NoThread(from));
     }
-    Ok(())
 }
 
-// Whether accepting may go on behind this failure. A shortage is waited out for a moment, and told
-// of once while it lasts.
-fn may_go_on<M: Mark, R: Eprint + Wait>(
-    rt: &R,
-    room: &Room<M>,
-    error: &io::Error,
-    is_short: &mut bool,
-) -> bool {
-    let number = error.raw_os_error().unwrap_or(0);
-    if FINAL.contains(&number) {
-        room.telling.tell_failure(rt, "accept", "viewers", error);
-        return false;
-    }
-    if SHORTAGES.contains(&number) {
-        if !*is_short {
-            room.telling.tell_failure(rt, "accept", "viewers", error);
-        }
-        *is_short = true;
-        let _paused = room.bell.wait(None, Some(pause()));
-    }
-    true
-}
-
-// Accepts connections until the bell rings: whether it did.
+// Accepts connections until the bell rings: whether it did. A shortage of the system is told of once
+// while it lasts.
 fn accept_in<
     's,
     E,
@@ -201,19 +169,26 @@ fn accept_in<
     room: &'s Room<M>,
     listener: &TcpListener,
 ) -> bool {
+    let telling = &room.telling;
     let mut is_short = false;
     for _ in rt.forever() {
-        match room.bell.wait(Some(listener.as_raw_fd()), None) {
-            Woken::Rung => return true,
-            Woken::TimedOut => {}
-            Woken::Ready => match take(rt, scope, shared, room, listener) {
-                Ok(()) => is_short = false,
-                Err(error) => {
-                    if !may_go_on(rt, room, &error, &mut is_short) {
-                        return false;
-                    }
+        match accept(listener, &room.bell) {
+            Accepted::Rung => return true,
+            Accepted::Nothing => {}
+            Accepted::Connection(stream, from) => {
+                is_short = false;
+                take(rt, scope, shared, room, stream, from);
+            }
+            Accepted::Shortage(error) => {
+                if !is_short {
+                    telling.tell_failure(rt, "accept", "viewers", &error);
                 }
-            },
+                is_short = true;
+            }
+            Accepted::Broken(error) => {
+                telling.tell_failure(rt, "accept", "viewers", &error);
+                return false;
+            }
         }
     }
     unreachable!()

@@ -3,15 +3,15 @@
 
 mod beginning;
 mod committing;
-mod ending;
 mod entrance;
 mod no_turnstile;
 mod recording;
 mod serving;
 
-pub use connections::{Audience, Origin, Plan, Playing, Stop};
+pub use connections::{Audience, Origin, Plan, Playing};
 pub use playing::Pace;
 pub use serving::{serve, serve_on};
+pub use sockets::Stop;
 
 #[cfg(test)]
 mod tests;

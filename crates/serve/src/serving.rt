@@ -5,13 +5,12 @@ ghost use Rattle.flusher_core.specs.State.{accepted_count};
 
 use crate::beginning::beginning_of;
 use crate::committing::Committing;
-use crate::ending::wait_for_stop;
 use crate::entrance::accept_all;
 use crate::no_turnstile::NoTurnstile;
 use crate::recording::{Found, Identity, create, find};
 use broadcast::Desk;
 use connections::{
-    Beginning, Ends, Event, Host, HostEnd, Messages, Plan, Refusal, Room, Stop, Stopwatch, Telling,
+    Beginning, Ends, Event, Host, HostEnd, Messages, Plan, Refusal, Room, Stopwatch, Telling,
     first_refusal,
 };
 use disk::Disk;
@@ -19,7 +18,7 @@ use file_disk::{FileDisk, LastError};
 use flusher_core::{Book, HostRefusal, TakeRefusal};
 use gated_journal::Header;
 use shared_book::{FlusherEnd, Mark, Shared, Token, run_flusher, run_host};
-use sockets::Bell;
+use sockets::{Bell, Stop, wait_for_stop};
 use std::alloc::{AllocError, Global};
 use std::fs::File;
 use std::io::Write;

@@ -5,7 +5,11 @@
 mod bell;
 mod connection;
 mod limits;
+mod listening;
+mod stop;
 
 pub use bell::{Bell, Woken};
 pub use connection::Connection;
 pub use limits::{pause, time_left, watch_over, write_within};
+pub use listening::{Accepted, accept};
+pub use stop::{Stop, wait_for_stop};

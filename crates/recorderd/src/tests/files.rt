@@ -1,6 +1,6 @@
 //! The commands on files in the folder that the tests run in, which each test leaves as it was.
 
-use super::{Full, ran};
+use super::{Full, ran, written};
 use crate::command::command;
 use file_disk::Progress;
 use std::fs;
@@ -159,6 +159,10 @@ fn nothing_is_lost(rt: HostRuntime) -> Result<(), Fail> {
         ("drill", "--keep no_such_folder/r", "file 1"),
         ("check", "no_such_file", "file 1"),
         ("list", "no_such_file", "file 1"),
+        ("times", "no_such_file", "file 1"),
+        ("frames", "no_such_file --rate 1", "file 1"),
+        ("browse", "no_such_file", "file 1"),
+        ("browse", "mine --listen nowhere", "net 1"),
         // A folder is opened, and fails at the first read; a full device at the first write.
         ("check", ".", "journal 3"),
         ("fbs-check", ".", "fbs 9"),
@@ -364,6 +368,43 @@ fn an_output_that_is_full(rt: HostRuntime) -> Result<(), Fail> {
         );
         assert!(rt; ended == status && err.is_empty(), "with room for {room}");
     }
+    without(&rt, &files);
+    Ok(())
+}
+
+// Of black at first, and of the newest screen once the last message has come.
+const FRAMES: &[u8] =
+    b"P6\n3 1\n255\n\0\0\0\0\0\0\0\0\0P6\n3 1\n255\n\xff\0\0\xff\0\0\xff\0\0";
+
+// Of the time of the first message alone.
+const FRAME: &[u8] = b"P6\n3 1\n255\n\xff\0\0\0\xff\0\0\0\xff";
+
+#[test]
+fn frames_are_written(rt: HostRuntime) -> Result<(), Fail> {
+    let rt = &rt;
+    fs::write(rt, "filmed", KEYED.as_slice())?;
+    for (options, frames) in [("", FRAMES), (" --from 5 --to 21", FRAME)] {
+        let line = format!(in rt.alloc(); "recorderd frames filmed --rate 60{options}")?;
+        let (status, out, err) = written(rt, &line, "")?;
+        assert!(rt; status == 0 && out.as_slice() == frames && err.is_empty(), "{options}");
+    }
+    fs::remove_file(rt, "filmed")?;
+    Ok(())
+}
+
+/// A drill of an update, a bell and an update a second later, and one more in a second block.
+const IN_THREE_SECONDS: &str =
+    "new 1 1 4 x\nhost 0 0000 0001 0000 0000 0001 0001 00000000 0000ff00\nhost 1500 02\nhost 1600 0000 0001 0000 0000 0001 0001 00000000 0000ff00\ntake\nbody\ngate\nhost 3000 0000 0001 0000 0000 0001 0001 00000000 0000ff00\ntake\nbody\ngate\n";
+
+#[test]
+fn times_are_listed(rt: HostRuntime) -> Result<(), Fail> {
+    let files = ["timed"];
+    without(&rt, &files);
+    said(&rt, "recorderd drill --keep timed", IN_THREE_SECONDS)?;
+    let all = "0 time 0 message 0 block 0 updates 3 bytes 61\n";
+    let each =
+        "0 time 0 message 0 block 0 updates 1 bytes 20\ntime 1500 message 1 block 0 updates 1 bytes 21\ntime 3000 message 3 block 1 updates 1 bytes 20\n";
+    say(&rt, &[("times timed", all), ("times timed --every 1", each)])?;
     without(&rt, &files);
     Ok(())
 }

@@ -1,0 +1,76 @@
+//! Answers: HTTP responses with a body that is known before it is written.
+
+use crate::request::Fault;
+use std::io;
+use std::io::Write;
+
+/// What an answer is, in HTTP's words (RFC 9110, sections 8.3 and 15).
+#[derive(Clone, Copy)]
+pub struct Head<'a> {
+    /// The status code and its reason phrase.
+    pub status: &'a str,
+    /// The media type of the body.
+    pub media: &'a str,
+    /// How many bytes the body has.
+    pub size: u64,
+}
+
+/// Writes what stands before the body. No other page may use what is served, nothing is kept by a
+/// browser, the page uses nothing from elsewhere, and the connection ends behind the body.
+pub fn write_head<W: Write>(out: &mut W, head: Head<'_>) -> io::Result<()> {
+    let Head {
+        status,
+        media,
+        size,
+    } = head;
+    write!(
+        out,
+        "HTTP/1.1 {status}\r\nContent-Type: {media}\r\nContent-Length: {size}\r\n"
+    )?;
+    write!(
+        out,
+        "Cache-Control: no-store\r\nX-Content-Type-Options: nosniff\r\nReferrer-Policy: no-referrer\r\n"
+    )?;
+    write!(
+        out,
+        "Cross-Origin-Resource-Policy: same-origin\r\nContent-Security-Policy: default-src 'self'; img-src 'self' blob: data:; frame-ancestors 'none'\r\n"
+    )?;
+    write!(out, "Allow: GET\r\nConnection: close\r\n\r\n")
+}
+
+/// Writes a whole answer.
+pub fn write_text<W: Write>(out: &mut W, status: &str, media: &str, text: &str) -> io::Result<()> {
+    let size = text.len() as u64;
+    write_head(
+        out,
+        Head {
+            status,
+            media,
+            size,
+        },
+    )?;
+    out.write_all(text.as_bytes())
+}
+
+/// Writes why something isn't given, in a line.
+pub fn write_failure<W: Write>(out: &mut W, status: &str, why: &str) -> io::Result<()> {
+    write_text(out, status, "text/plain; charset=utf-8", why)
+}
+
+/// Writes why a request is refused.
+pub fn write_fault<W: Write>(out: &mut W, fault: Fault) -> io::Result<()> {
+    let (status, why) = match fault {
+        Fault::BadRequest => ("400 Bad Request", "this isn't an HTTP request\n"),
+        Fault::Forbidden => (
+            "403 Forbidden",
+            "this server answers to addresses and to localhost alone\n",
+        ),
+        Fault::NotFound => ("404 Not Found", "there is no such thing\n"),
+        Fault::MethodNotAllowed => ("405 Method Not Allowed", "only GET is answered\n"),
+        Fault::TooLarge => (
+            "431 Request Header Fields Too Large",
+            "the request's head is too long\n",
+        ),
+    };
+    write_failure(out, status, why)
+}

@@ -1,0 +1,16 @@
+//! A page on which a recording is looked at, served over HTTP.
+#![tactic(auto)]
+
+mod answer;
+mod connection;
+mod page;
+mod request;
+mod serving;
+mod site;
+
+pub use request::{Asked, Fault, Judged, asked_by, judge};
+pub use serving::{Browsing, browse, browse_on};
+pub use sockets::Stop;
+
+#[cfg(test)]
+mod tests;

@@ -1,0 +1,162 @@
+//! What a browser asks for: the head of an HTTP request, judged.
+
+ghost use Rattle.std.specs.Prelude.{◌≡◌, ◌≢◌, ◌++◌, ℕ, List, codes, length, All, IfSome, MatchOption, Some};
+ghost use Rattle.httparse.specs.Grammar.{MayBecomeRequest};
+ghost use Rattle.httparse.specs.Spans.{IsHeaderWithin, IsRequestWithin, span_bytes};
+ghost use Rattle.browse.specs.declared.request.Asked.{Asked};
+ghost use Rattle.browse.specs.Requests.{IsAskedBy, IsQueryOf, IsTargetOf};
+
+use file_commands::Moment;
+use httparse::spans::{EMPTY_HEADER_SPAN, HeaderSpan, RequestSpans, parse_request};
+use httparse::{Error, Status};
+use std::str;
+
+/// No head of a request is longer, in bytes.
+pub const LONGEST_HEAD: usize = 8192;
+
+/// No head has more header fields.
+const MOST_FIELDS: usize = 64;
+
+/// What is asked for.
+#[derive(Clone, Copy, Debug, PartialEq, Eq)]
+pub enum Asked {
+    /// `/`, the page.
+    Page,
+    /// `/browse.js`, its script.
+    Script,
+    /// `/browse.css`, its style.
+    Style,
+    /// `/times`: the recording's size and length, and what came when, as JSON.
+    Times,
+    /// `/picture?at=TIME` or `/picture?message=COUNT`: the screen at a moment, as a BMP picture.
+    Picture(Moment),
+}
+
+/// Why a request is refused, by what HTTP has for it (RFC 9110, section 15.5; 431 is of RFC 6585).
+#[derive(Clone, Copy, Debug, PartialEq, Eq)]
+pub enum Fault {
+    /// 400: it isn't HTTP/1.
+    BadRequest,
+    /// 403: it was sent to another name than an address or `localhost`.
+    Forbidden,
+    /// 404: there is no such thing.
+    NotFound,
+    /// 405: it isn't a GET.
+    MethodNotAllowed,
+    /// 431: its head is too long, or has too many fields.
+    TooLarge,
+}
+
+/// What the bytes so far are.
+#[derive(Clone, Copy, Debug, PartialEq, Eq)]
+pub enum Judged {
+    /// The beginning of a head.
+    Unfinished,
+    Asked(Asked),
+    Refused(Fault),
+}
+
+// A decimal number: digits alone, one at least.
+fn number(digits: &[u8]) -> Option<u64> {
+    let text = str::from_utf8(digits).ok()?;
+    if digits.is_empty() || !digits.iter().all(|digit| digit.is_ascii_digit()) {
+        return None;
+    }
+    text.parse().ok()
+}
+
+// What stands behind a front, where bytes begin with it.
+fn behind<'a>(bytes: &'a [u8], front: &[u8]) -> Option<&'a [u8]>
+    ensures { MatchOption result ((rest : List ℕ) → bytes.now ≢ front.now ++ rest) (λ rest. bytes.now ≡ front.now ++ rest.now) }
+{
+    bytes.strip_prefix(front)
+}
+
+// The moment that is asked for behind `/picture?`.
+fn moment(query: &[u8]) -> Option<Moment>
+    ensures { IfSome result (λ moment. IsQueryOf moment query.now) }
+{
+    if let Some(time) = behind(query, b"at=") {
+        return Some(Moment::Time(u32::try_from(number(time)?).ok()?));
+    }
+    let count = behind(query, b"message=")?;
+    Some(Moment::Count(number(count)?))
+}
+
+/// What a request's target asks for (RFC 9112, section 3.2.1); none where there is no such thing.
+pub fn asked_by(target: &[u8]) -> Option<Asked>
+    ensures asked { IfSome result (λ asked. IsTargetOf asked target.now) }
+    ensures page { target.now ≡ codes "/" → result ≡ Some Asked.Page }
+    ensures times { target.now ≡ codes "/times" → result ≡ Some Asked.Times }
+{
+    match target {
+        b"/" => return Some(Asked::Page),
+        b"/browse.js" => return Some(Asked::Script),
+        b"/browse.css" => return Some(Asked::Style),
+        b"/times" => return Some(Asked::Times),
+        _ => {}
+    }
+    let query = behind(target, b"/picture?")?;
+    Some(Asked::Picture(moment(query)?))
+}
+
+// Whether a name of this server is an address or `localhost`, with a port or without. Under a name of
+// its own, a page of somebody else's could read what is served here, by having its name lead here.
+fn is_own(name: &[u8]) -> bool {
+    let bare = match name.iter().rposition(|byte| *byte == b':') {
+        Some(colon) if !name.ends_with(b"]") => &name[..colon],
+        _ => name,
+    };
+    let is_address = bare
+        .iter()
+        .all(|byte| byte.is_ascii_digit() || *byte == b'.');
+    is_address || bare.starts_with(b"[") || bare.eq_ignore_ascii_case(b"localhost")
+}
+
+// Whether a request was sent to such a name, or to none.
+fn is_sent_here(head: &[u8], fields: &[HeaderSpan]) -> bool
+    requires { All (IsHeaderWithin (length head.now)) fields.now }
+{
+    for field in fields {
+        let name = field.name.of(head);
+        if name.eq_ignore_ascii_case(b"host") && !is_own(field.value.of(head)) {
+            return false;
+        }
+    }
+    true
+}
+
+// What a whole head asks for.
+fn judge_whole(head: &[u8], request: RequestSpans, fields: &[HeaderSpan]) -> Judged
+    requires { IsRequestWithin head.now fields.now request }
+    ensures whole { result ≢ Judged.Unfinished }
+    ensures asked { (asked : Asked) → result ≡ Judged.Asked asked
+        → (span_bytes head.now request.method ≡ codes "GET") × IsTargetOf asked (span_bytes head.now request.path) }
+{
+    if !is_sent_here(head, &fields[..request.headers]) {
+        return Judged::Refused(Fault::Forbidden);
+    }
+    if request.method.of(head) != b"GET".as_slice() {
+        return Judged::Refused(Fault::MethodNotAllowed);
+    }
+    match asked_by(request.path.of(head)) {
+        Some(asked) => Judged::Asked(asked),
+        None => Judged::Refused(Fault::NotFound),
+    }
+}
+
+/// What the bytes that have come so far are: the head of a request (RFC 9112, section 2.1), which
+/// asks for something or is refused, or the beginning of one. What stands behind a head isn't looked
+/// at.
+pub fn judge(head: &[u8]) -> Judged
+    ensures asked { (asked : Asked) → result ≡ Judged.Asked asked → IsAskedBy head.now asked }
+    ensures unfinished { result ≡ Judged.Unfinished → MayBecomeRequest head.now }
+{
+    let mut fields = [EMPTY_HEADER_SPAN; MOST_FIELDS];
+    match parse_request(head, &mut fields) {
+        Ok(Status::Complete(request)) => judge_whole(head, request, &fields),
+        Ok(Status::Partial) if head.len() < LONGEST_HEAD => Judged::Unfinished,
+        Ok(Status::Partial) | Err(Error::TooManyHeaders) => Judged::Refused(Fault::TooLarge),
+        Err(_) => Judged::Refused(Fault::BadRequest),
+    }
+}

@@ -1,0 +1,191 @@
+//! The command `browse`.
+
+ghost use Rattle.std.specs.Prelude.{◌<◌};
+
+use crate::connection::attend;
+use crate::site::Site;
+use file_commands::{Ended, Refusal, answer, open_file, open_recording};
+use file_disk::Progress;
+use sockets::{Accepted, Bell, Stop, accept, wait_for_stop};
+use std::alloc::Global;
+use std::fs::File;
+use std::io::Write;
+use std::net::{Net, TcpListener, TcpStream};
+use std::rt::Files;
+use std::sync::Wait;
+use std::thread::{Scope, Threads};
+use std::time::Clock;
+use std::{io, thread};
+
+/// Which recording is looked at, and where.
+#[derive(Clone, Copy)]
+pub struct Browsing<'a> {
+    /// The recording's file.
+    pub recording: &'a str,
+    /// Where browsers connect to: an address with a port, or a port of this machine alone.
+    pub listen: &'a str,
+    /// When it ends.
+    pub stop: Stop,
+}
+
+// Serves a connection on a thread of its own, if it is one of few. One too many is closed.
+fn take<'s, E, R: Threads + Clock + Wait + Sync>(
+    rt: &'s R,
+    scope: &'s Scope<'s, E>,
+    site: &'s Site,
+    stream: TcpStream,
+) {
+    if !site.enter() {
+        return;
+    }
+    let attending = scope.spawn(move || {
+        attend(rt, site, &stream);
+        site.leave();
+    });
+    if attending.is_err() {
+        site.leave();
+    }
+}
+
+// Accepts connections until the bell rings. An error is the listener's.
+fn accept_in<'s, E, R: Threads + Clock + Wait + Sync>(
+    rt: &'s R,
+    scope: &'s Scope<'s, E>,
+    site: &'s Site,
+    listener: &TcpListener,
+) -> io::Result<()> {
+    for _ in rt.forever() {
+        match accept(listener, &site.bell) {
+            Accepted::Rung => return Ok(()),
+            Accepted::Nothing | Accepted::Shortage(_) => {}
+            Accepted::Connection(stream, _) => take(rt, scope, site, stream),
+            Accepted::Broken(error) => return Err(error),
+        }
+    }
+    unreachable!()
+}
+
+// Rings the bell once it is to end.
+fn stop_when<R: Clock>(rt: &R, site: &Site, stop: Stop) {
+    let _came = wait_for_stop(rt, stop, &site.bell);
+    site.bell.ring();
+}
+
+// Serves until it is to end.
+fn serve_in<'s, E, R: Threads + Clock + Wait + Sync>(
+    rt: &'s R,
+    scope: &'s Scope<'s, E>,
+    site: &'s Site,
+    listener: &TcpListener,
+    stop: Stop,
+) -> io::Result<()> {
+    if stop.may_come() && scope.spawn(move || stop_when(rt, site, stop)).is_err() {
+        return Err(io::ErrorKind::OutOfMemory.into());
+    }
+    let accepted = accept_in(rt, scope, site, listener);
+    site.bell.ring();
+    accepted
+}
+
+// The recording, opened for reading alone, as it is served.
+fn open<R: AllocGlobal + Files<File = File> + Net>(
+    rt: &R,
+    path: &str,
+    progress: Progress,
+) -> Result<Site, Ended> {
+    let alloc = rt.alloc();
+    let file = open_file(rt, path)?;
+    let index = open_recording(alloc, file, progress)?;
+    Site::new(alloc, index, Bell::new(rt)?)
+}
+
+fn run<R, L, O: Write>(
+    rt: &R,
+    what: &Browsing<'_>,
+    listen: L,
+    progress: Progress,
+    out: &mut O,
+) -> Result<(), Ended>
+where
+    R: AllocGlobal + Clock + Files<File = File> + Sync + Threads + Wait,
+    R: Net<Stream = TcpStream, Listener = TcpListener>,
+    L: FnOnce() -> io::Result<TcpListener> + Drop,
+    requires { L.IsAlwaysCallable listen }
+{
+    let site = open(rt, what.recording, progress)?;
+    let Ok(listener) = listen() else {
+        return Err(Ended::Refused(Refusal::Net));
+    };
+    listener.set_nonblocking(true)?;
+    let address = listener.local_addr()?;
+    writeln!(out, "browsing http://{address}/")?;
+    out.flush()?;
+    let stop = what.stop;
+    let served = thread::scope(
+        thread::scope_env(),
+        rt,
+        |scope| serve_in(rt, scope, &site, &listener, stop),
+    );
+    match served {
+        Ok(()) => Ok(()),
+        Err(_) => Err(Ended::Refused(Refusal::Net)),
+    }
+}
+
+/// Serves a page on which a recording, which is opened for reading alone, is looked at, to browsers
+/// that connect to the listener that the closure makes. It writes `browsing` and the page's address
+/// once they may come, and goes on until it is to stop. It answers as
+/// [`check`](file_commands::check) does.
+pub fn browse_on<R, L, O: Write, E: Write>(
+    rt: &R,
+    what: Browsing<'_>,
+    listen: L,
+    progress: Progress,
+    out: &mut O,
+    err: &mut E,
+) -> io::Result<bool>
+where
+    R: AllocGlobal + Clock + Files<File = File> + Sync + Threads + Wait,
+    R: Net<Stream = TcpStream, Listener = TcpListener>,
+    L: FnOnce() -> io::Result<TcpListener> + Drop,
+    requires { L.IsAlwaysCallable listen }
+{
+    answer("browse", run(rt, &what, listen, progress, out), err)
+}
+
+// Listens at an address; a number alone is a port of this machine, which no other machine reaches.
+fn listen_at<R: Net<Stream = TcpStream, Listener = TcpListener>>(
+    rt: &R,
+    alloc: Global,
+    address: &str,
+) -> io::Result<TcpListener> {
+    if address.bytes().all(|byte| byte.is_ascii_digit()) {
+        let address = format!(in alloc; "127.0.0.1:{address}")?;
+        return TcpListener::bind(rt, address.as_str());
+    }
+    TcpListener::bind(rt, address)
+}
+
+/// The same with browsers that connect to the address that is asked for.
+pub fn browse<R, O: Write, E: Write>(
+    rt: &R,
+    what: Browsing<'_>,
+    progress: Progress,
+    out: &mut O,
+    err: &mut E,
+) -> io::Result<bool>
+where
+    R: AllocGlobal + Clock + Files<File = File> + Sync + Threads + Wait,
+    R: Net<Stream = TcpStream, Listener = TcpListener>,
+{
+    let alloc = rt.alloc();
+    let address = what.listen;
+    browse_on(
+        rt,
+        what,
+        || listen_at(rt, alloc, address),
+        progress,
+        out,
+        err,
+    )
+}

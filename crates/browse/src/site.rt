@@ -1,0 +1,184 @@
+//! What is served: a recording, opened once, and what came in it when.
+
+ghost use Rattle.std.specs.Prelude.{◌<◌};
+
+use crate::answer::{Head, write_failure, write_fault, write_head, write_text};
+use crate::page::{PAGE, SCRIPT, STYLE};
+use crate::request::{Asked, Judged};
+use file_commands::{Ended, Moment, Refusal, Stretch, StretchSink, screen_of, survey};
+use file_disk::FileDisk;
+use key_index::Indexed;
+use painter::Screen;
+use pictures::{PictureFormat, write_picture};
+use replay::ReplayFault;
+use sockets::Bell;
+use std::alloc::Global;
+use std::io;
+use std::io::Write;
+use std::sync::atomic::{AtomicU32, Ordering};
+use std::sync::{Mutex, Wait};
+
+/// In how many stretches of time at most a page draws what came.
+const MOST_STRETCHES: u32 = 500;
+
+/// How many connections are served at a time.
+const MOST_CONNECTIONS: u32 = 16;
+
+/// A recording that is looked at: one opening, shared by all connections.
+#[derive(Drop)]
+pub struct Site {
+    pub alloc: Global,
+    pub bell: Bell,
+    recording: Mutex<Indexed<FileDisk>>,
+    times: Vec<u8>,
+    connections: AtomicU32,
+}
+
+// The stretches of a recording, as members of a JSON array.
+#[derive(Drop)]
+struct Members<'a, W: Write> {
+    out: &'a mut W,
+    has_some: bool,
+}
+
+impl<W: Write> StretchSink for Members<'_, W> {
+    fn stretch(&mut self, stretch: Stretch) -> io::Result<()> {
+        let Stretch {
+            time,
+            message,
+            block,
+            updates,
+            bytes,
+        } = stretch;
+        if self.has_some {
+            write!(self.out, ",")?;
+        }
+        self.has_some = true;
+        write!(
+            self.out,
+            "{{\"time\":{time},\"message\":{message},\"block\":{block},\"updates\":{updates},\"bytes\":{bytes}}}"
+        )
+    }
+}
+
+// What a page has to know of a recording, as JSON: its size, how many messages it has, its length
+// and how long a stretch is, both in milliseconds, and each stretch in which something came.
+fn write_times<W: Write>(index: &mut Indexed<FileDisk>, out: &mut W) -> Result<(), Ended> {
+    let (width, height) = index.header().size();
+    let (messages, end) = (index.committed(), index.last_time());
+    let every = end / MOST_STRETCHES + 1;
+    write!(
+        out,
+        "{{\"width\":{width},\"height\":{height},\"messages\":{messages},\"length\":{end},\"every\":{every},\"stretches\":["
+    )?;
+    survey(
+        index,
+        every,
+        &mut Members {
+            out,
+            has_some: false,
+        },
+    )?;
+    Ok(write!(out, "]}}\n")?)
+}
+
+// A picture of a screen.
+fn write_screen<W: Write>(alloc: Global, screen: &Screen, out: &mut W) -> io::Result<()> {
+    let (width, height) = screen.size();
+    let head = Head {
+        status: "200 OK",
+        media: "image/bmp",
+        size: 54 + 4 * u64::from(width) * u64::from(height),
+    };
+    write_head(out, head)?;
+    write_picture(alloc, screen, PictureFormat::Bmp, out)
+}
+
+// Why there is no picture.
+fn write_refusal<W: Write>(refusal: Refusal, out: &mut W) -> io::Result<()> {
+    match refusal {
+        Refusal::Screen(ReplayFault::NotCommitted) => {
+            write_failure(out, "404 Not Found", "the recording has fewer messages\n")
+        }
+        Refusal::Screen(ReplayFault::NoMemory) => {
+            write_failure(out, "503 Service Unavailable", "out of memory\n")
+        }
+        _ => write_failure(
+            out,
+            "500 Internal Server Error",
+            "the recording can't be read\n",
+        ),
+    }
+}
+
+impl Site {
+    /// A recording that was opened, of which all is read once more.
+    pub fn new(alloc: Global, mut index: Indexed<FileDisk>, bell: Bell) -> Result<Site, Ended> {
+        let mut times = Vec::new(alloc);
+        write_times(&mut index, &mut times)?;
+        Ok(Site {
+            alloc,
+            bell,
+            recording: Mutex::new(index),
+            times,
+            connections: AtomicU32::new(0),
+        })
+    }
+
+    /// Whether one connection more is served; if so it is given back by `leave`.
+    pub fn enter(&self) -> bool {
+        let is_one_of_few = self.connections.fetch_add(1, Ordering::SeqCst) < MOST_CONNECTIONS;
+        if !is_one_of_few {
+            self.leave();
+        }
+        is_one_of_few
+    }
+
+    /// Gives back the place of a connection.
+    pub fn leave(&self) {
+        self.connections.fetch_sub(1, Ordering::SeqCst);
+    }
+
+    // Answers with the screen at a moment. The recording is read by one connection at a time.
+    fn answer_picture<R: Wait, W: Write>(
+        &self,
+        rt: &R,
+        moment: Moment,
+        out: &mut W,
+    ) -> io::Result<()> {
+        let mut recording = self.recording.lock(rt);
+        let screen = screen_of(self.alloc, &mut *recording, moment);
+        drop(recording);
+        match screen {
+            Ok(screen) => write_screen(self.alloc, &screen, out),
+            Err(refusal) => write_refusal(refusal, out),
+        }
+    }
+
+    fn answer_asked<R: Wait, W: Write>(&self, rt: &R, asked: Asked, out: &mut W) -> io::Result<()> {
+        match asked {
+            Asked::Page => write_text(out, "200 OK", "text/html; charset=utf-8", PAGE),
+            Asked::Script => write_text(out, "200 OK", "text/javascript; charset=utf-8", SCRIPT),
+            Asked::Style => write_text(out, "200 OK", "text/css; charset=utf-8", STYLE),
+            Asked::Times => {
+                let head = Head {
+                    status: "200 OK",
+                    media: "application/json",
+                    size: self.times.len() as u64,
+                };
+                write_head(out, head)?;
+                out.write_all(&self.times)
+            }
+            Asked::Picture(moment) => self.answer_picture(rt, moment, out),
+        }
+    }
+
+    /// Answers what was judged; nothing to what isn't finished.
+    pub fn answer<R: Wait, W: Write>(&self, rt: &R, judged: Judged, out: &mut W) -> io::Result<()> {
+        match judged {
+            Judged::Unfinished => Ok(()),
+            Judged::Asked(asked) => self.answer_asked(rt, asked, out),
+            Judged::Refused(fault) => write_fault(out, fault),
+        }
+    }
+}

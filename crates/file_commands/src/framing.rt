@@ -1,0 +1,74 @@
+//! The command `frames`.
+
+ghost use Rattle.std.specs.Prelude.{◌<◌};
+
+use crate::recording::{open_file, open_recording};
+use crate::refusal::{Ended, Refusal, answer};
+use file_disk::{Progress, Watched};
+use pictures::{Film, FilmFault, write_frames};
+use std::fs::File;
+use std::io;
+use std::io::{BufWriter, Write};
+use std::rt::Files;
+
+/// Which frames of which recording are written.
+#[derive(Clone, Copy)]
+pub struct Filming<'a> {
+    /// The recording's file.
+    pub recording: &'a str,
+    /// The first frame's moment, in milliseconds of the recording.
+    pub from: u32,
+    /// No frame is later; none for the first frame that shows the last message.
+    pub to: Option<u32>,
+    /// How many frames a second.
+    pub rate: u8,
+    ghost rated: { 0 < rate },
+}
+
+impl Filming<'_> {
+    // The film of a recording whose last message came at this time.
+    fn film(&self, last: u32) -> Film {
+        // No two frames are further apart.
+        let apart = 1000 / u32::from(self.rate) + 1;
+        let end = last.saturating_add(apart).max(self.from);
+        Film {
+            from: self.from,
+            to: self.to.unwrap_or(end),
+            rate: self.rate,
+        }
+    }
+}
+
+fn write_film<R: Files<File = File> + AllocGlobal, O: Write>(
+    rt: &R,
+    what: &Filming<'_>,
+    progress: Progress,
+    out: &mut O,
+) -> Result<(), Ended> {
+    let alloc = rt.alloc();
+    let file = open_file(rt, what.recording)?;
+    let mut index = open_recording(alloc, file, progress)?;
+    let film = what.film(index.last_time());
+    let watched = Watched {
+        inner: out,
+        progress,
+    };
+    let mut frames = BufWriter::new(alloc, watched)?;
+    match write_frames(alloc, &mut index, &film, &mut frames) {
+        Ok(()) => Ok(frames.flush()?),
+        Err(FilmFault::Read(fault)) => Err(Ended::Refused(Refusal::Screen(fault))),
+        Err(FilmFault::Write(error)) => Err(Ended::Failed(error)),
+    }
+}
+
+/// Writes the screens of a recording, which is opened for reading alone, as PPM pictures one behind
+/// the other, so many a second of the recording. It answers as [`check`](crate::check) does.
+pub fn frames<R: Files<File = File> + AllocGlobal, O: Write, E: Write>(
+    rt: &R,
+    what: &Filming<'_>,
+    progress: Progress,
+    out: &mut O,
+    err: &mut E,
+) -> io::Result<bool> {
+    answer("frames", write_film(rt, what, progress, out), err)
+}

@@ -1,0 +1,52 @@
+//! Accepting connections, until a bell rings.
+
+use crate::bell::{Bell, Woken};
+use crate::limits::pause;
+use std::io;
+use std::net::{SocketAddr, TcpListener, TcpStream};
+use std::os::fd::AsRawFd;
+
+/// What the system answers where it is short of descriptors or memory: ENOMEM, ENFILE, EMFILE and
+/// ENOBUFS of Linux.
+const SHORTAGES: [i32; 4] = [12, 23, 24, 105];
+
+/// What it answers where the listener itself is of no more use: EBADF, EINVAL, ENOTSOCK and
+/// EOPNOTSUPP. Each other failure is of one connection.
+const FINAL: [i32; 4] = [9, 22, 88, 95];
+
+/// What came of a wait for a connection.
+#[derive(Debug, Drop)]
+pub enum Accepted {
+    /// A connection, and where it is from.
+    Connection(TcpStream, SocketAddr),
+    /// The bell rang.
+    Rung,
+    /// Nothing for now: a signal came, or one connection failed.
+    Nothing,
+    /// The system is short of descriptors or memory, which was waited out for a moment.
+    Shortage(io::Error),
+    /// The listener is of no more use.
+    Broken(io::Error),
+}
+
+/// Waits for a connection to a listener that doesn't block, until the bell rings.
+pub fn accept(listener: &TcpListener, bell: &Bell) -> Accepted {
+    match bell.wait(Some(listener.as_raw_fd()), None) {
+        Woken::Rung => return Accepted::Rung,
+        Woken::TimedOut => return Accepted::Nothing,
+        Woken::Ready => {}
+    }
+    let error = match listener.accept() {
+        Ok((stream, from)) => return Accepted::Connection(stream, from),
+        Err(error) => error,
+    };
+    let number = error.raw_os_error().unwrap_or(0);
+    if FINAL.contains(&number) {
+        return Accepted::Broken(error);
+    }
+    if SHORTAGES.contains(&number) {
+        let _paused = bell.wait(None, Some(pause()));
+        return Accepted::Shortage(error);
+    }
+    Accepted::Nothing
+}
