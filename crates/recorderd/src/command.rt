@@ -110,7 +110,7 @@ where
         Chosen::Times(what) => file_commands::times(rt, &what, progress, out, err),
         Chosen::Browse(what) => browse::browse(rt, what, progress, out, err),
         Chosen::FbsCheck(path) => file_commands::fbs_check(rt, path, progress, out, err),
-        Chosen::Serve(plan) => serve::serve(rt, plan, out, err),
+        Chosen::Serve(plan) => serve::serve(rt, &plan, out, err),
         Chosen::Text(text) => print(out, &text),
         Chosen::Explain(area, number) => match explanations::explain(area, number) {
             Some(text) => print_line(out, text),

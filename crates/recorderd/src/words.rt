@@ -481,10 +481,10 @@ fn choose<'a>(matches: &ArgMatches<'a>) -> Option<Chosen<'a>> {
         "check" => Some(Chosen::Check(matches.get_str("PATH")?)),
         "export" => Some(Chosen::Export(extract(matches)?)),
         "picture" => Some(Chosen::Picture(shown(matches)?)),
-        "frames" => Some(Chosen::Frames(filmed(matches)?)),
-        "times" => Some(Chosen::Times(timed(matches)?)),
+        "frames" => filmed(matches).map(Chosen::Frames),
+        "times" => timed(matches).map(Chosen::Times),
         "browse" => Some(Chosen::Browse(looked_at(matches)?)),
-        "serve" => Some(Chosen::Serve(plan(matches)?)),
+        "serve" => plan(matches).map(Chosen::Serve),
         "explain" => {
             let number = number(matches.get_str("NUMBER")?)?;
             Some(Chosen::Explain(matches.get_str("AREA")?, number))

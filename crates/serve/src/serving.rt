@@ -598,7 +598,7 @@ where
 /// error is of the two writers, or of memory.
 pub fn serve_on<R, L, O: Write, E: Write>(
     rt: &R,
-    plan: Plan<'_>,
+    plan: &Plan<'_>,
     listen: L,
     out: &mut O,
     err: &mut E,
@@ -609,7 +609,7 @@ where
     R: Net<Stream = TcpStream, Listener = TcpListener>,
     requires { L.IsAlwaysCallable listen }
 {
-    match run(rt, &plan, listen, out, err) {
+    match run(rt, plan, listen, out, err) {
         Ok(()) => Ok(true),
         Err(Stopped::Refused(refusal)) => {
             refuse(refusal, err)?;
@@ -623,7 +623,7 @@ where
 /// The same with viewers who connect to the plan's address.
 pub fn serve<R, O: Write, E: Write>(
     rt: &R,
-    plan: Plan<'_>,
+    plan: &Plan<'_>,
     out: &mut O,
     err: &mut E,
 ) -> io::Result<bool>

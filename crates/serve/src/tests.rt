@@ -10,35 +10,52 @@ mod viewers;
 use crate::{Audience, Origin, Plan, Stop, serve_on};
 use file_commands::check;
 use file_disk::Progress;
+use peers::{Place, listener};
 use std::fs::File;
 use std::net::{Net, TcpListener, TcpStream};
 use std::rt::Files;
 use std::sync::Wait;
 use std::test::Fail;
-use std::thread::Threads;
+use std::thread::{Threads, join};
 use std::time::Clock;
 use std::{fs, io};
 
-// What a test serves: to so many viewers, who begin live.
-fn plan_of<'a>(file: &'a str, host: Option<&'a str>, viewers: u32) -> Plan<'a> {
+// What a test serves, to whom, and where they begin.
+fn plan_of<'a>(file: &'a str, host: Option<&'a str>, audience: Audience, from: Origin) -> Plan<'a> {
     Plan {
         file,
         listen: "",
         host,
         key_interval: 4,
-        audience: Audience::Count(viewers),
-        from: Origin::Live,
+        audience,
+        from,
         playing: None,
         stop: Stop::never(),
         is_verbose: false,
     }
 }
 
-// What is printed, once what the host and the viewers did is done.
-fn told(both: (io::Result<String>, Result<(), Fail>)) -> Result<String, Fail> {
-    let (printed, played) = both;
-    played?;
-    Ok(printed?)
+// A place where a host is connected to, with its address, and one that viewers connect to.
+#[derive(Drop)]
+struct Scene {
+    hosts: TcpListener,
+    viewers: TcpListener,
+    place: Place,
+    address: String,
+}
+
+fn set_scene<R: Net<Stream = TcpStream, Listener = TcpListener> + AllocGlobal>(
+    rt: &R,
+) -> Result<Scene, Fail> {
+    let (hosts, host) = listener(rt)?;
+    let (viewers, place) = listener(rt)?;
+    let address = host.address(rt.alloc())?;
+    Ok(Scene {
+        hosts,
+        viewers,
+        place,
+        address,
+    })
 }
 
 // Serves a recording: whether it is done, and what is printed.
@@ -51,7 +68,7 @@ fn print<
         + Eprint
         + Sync
         + AllocGlobal,
->(rt: &R, plan: Plan<'_>, listener: TcpListener) -> io::Result<String> {
+>(rt: &R, plan: &Plan<'_>, listener: TcpListener) -> io::Result<String> {
     let alloc = rt.alloc();
     let mut out = Vec::new(alloc);
     let mut err = Vec::new(alloc);
@@ -61,6 +78,20 @@ fn print<
         return Err(io::ErrorKind::InvalidData.into());
     };
     Ok(format!(in alloc; "{is_done} {said}")?)
+}
+
+// Serves what a plan says while a test plays: what is printed, once both are done.
+fn serve_while<P: FnOnce() -> Result<(), Fail>>(
+    rt: &HostRuntime,
+    plan: &Plan<'_>,
+    viewers: TcpListener,
+    play: P,
+) -> Result<String, Fail>
+    requires { P.IsAlwaysCallable play }
+{
+    let (printed, played) = join(rt, move || print(rt, plan, viewers), play);
+    played?;
+    Ok(printed?)
 }
 
 // What `check` says of a recording, which is then removed.

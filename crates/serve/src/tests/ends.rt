@@ -1,15 +1,14 @@
 //! What viewers are shown of a host's end, and who is taken.
 
 use super::peers::{
-    ALL, BLACK, CHANGES, GREEN, Peer, Place, RED, listener, silent_viewer, small_host, viewer,
+    ALL, BLACK, CHANGES, GREEN, Peer, Place, RED, silent_viewer, small_host, viewer,
 };
-use super::{checked, print, told};
-use crate::{Audience, Origin, Plan, Stop};
+use super::{Scene, checked, plan_of, serve_while, set_scene};
+use crate::{Audience, Origin};
 use std::alloc::Global;
 use std::fs;
 use std::net::{Net, TcpListener, TcpStream};
 use std::test::Fail;
-use std::thread::join;
 
 /// An update of the one place in blue.
 const BLUE: [u8; 20] = *b"\0\0\0\x01\0\0\0\0\0\x01\0\x01\0\0\0\0\xff\0\0\0";
@@ -67,27 +66,21 @@ fn a_viewer_is_shown_the_end(rt: HostRuntime) -> Result<(), Fail> {
     let rt = &rt;
     let file = "shown";
     for audience in [Audience::Any, Audience::Count(1)] {
-        let (hosts, host) = listener(rt)?;
-        let (viewers, place) = listener(rt)?;
-        let address = host.address(rt.alloc())?;
-        let plan = Plan {
-            file,
-            listen: "",
-            host: Some(address.as_str()),
-            key_interval: 4,
-            audience,
-            from: Origin::Live,
-            playing: None,
-            stop: Stop::never(),
-            is_verbose: false,
-        };
+        let Scene {
+            hosts,
+            viewers,
+            place,
+            address,
+        } = set_scene(rt)?;
+        let plan = plan_of(file, Some(address.as_str()), audience, Origin::Live);
         let _ = fs::remove_file(rt, file);
         let stays = audience == Audience::Count(1);
-        let said = told(join(
+        let said = serve_while(
             rt,
-            move || print(rt, plan, viewers),
-            move || { the_end_is_shown(rt, hosts, place, stays) },
-        ))?;
+            &plan,
+            viewers,
+            move || the_end_is_shown(rt, hosts, place, stays),
+        )?;
         assert!(rt; said.as_str() == "true serving\ncommitted 301\n", "{said}");
     }
     fs::remove_file(rt, file)?;
@@ -121,26 +114,20 @@ fn pieces_come<R: Net<Stream = TcpStream, Listener = TcpListener> + AllocGlobal>
 fn messages_in_one_piece_keep_their_order(rt: HostRuntime) -> Result<(), Fail> {
     let rt = &rt;
     let file = "pieces";
-    let (hosts, host) = listener(rt)?;
-    let (viewers, place) = listener(rt)?;
-    let address = host.address(rt.alloc())?;
-    let plan = Plan {
+    let Scene {
+        hosts,
+        viewers,
+        place,
+        address,
+    } = set_scene(rt)?;
+    let plan = plan_of(
         file,
-        listen: "",
-        host: Some(address.as_str()),
-        key_interval: 4,
-        audience: Audience::Count(1),
-        from: Origin::Count(0),
-        playing: None,
-        stop: Stop::never(),
-        is_verbose: false,
-    };
+        Some(address.as_str()),
+        Audience::Count(1),
+        Origin::Count(0),
+    );
     let _ = fs::remove_file(rt, file);
-    let said = told(join(
-        rt,
-        move || print(rt, plan, viewers),
-        move || pieces_come(rt, hosts, place),
-    ))?;
+    let said = serve_while(rt, &plan, viewers, move || pieces_come(rt, hosts, place))?;
     let refused = "false serving\nrecorderd: serve refused host 1\n";
     assert!(rt; said.as_str() == refused, "{said}");
     let said = checked(rt, file)?;

@@ -1,13 +1,12 @@
 //! How a host ends, and a recording without one.
 
 use super::peers::{ALL, BLACK, CHANGES, GREEN, RED, deaf_host, listener, small_host, viewer};
-use super::{checked, plan_of, print, told};
+use super::{Scene, checked, plan_of, serve_while, set_scene};
 use crate::tests::peers::{Peer, Place};
-use crate::{Audience, Origin, Plan, Stop};
+use crate::{Audience, Origin};
 use std::fs;
 use std::net::{Net, TcpListener, TcpStream};
 use std::test::Fail;
-use std::thread::join;
 
 /// How a host of the test ends.
 #[derive(Clone, Copy)]
@@ -67,15 +66,24 @@ fn a_host_ends(rt: HostRuntime) -> Result<(), Fail> {
             "false serving\nrecorderd: serve refused host 1\n",
         ),
     ] {
-        let (hosts, host) = listener(rt)?;
-        let (viewers, place) = listener(rt)?;
-        let address = host.address(rt.alloc())?;
-        let plan = plan_of(file, Some(address.as_str()), 1);
-        let said = told(join(
+        let Scene {
+            hosts,
+            viewers,
+            place,
+            address,
+        } = set_scene(rt)?;
+        let plan = plan_of(
+            file,
+            Some(address.as_str()),
+            Audience::Count(1),
+            Origin::Live,
+        );
+        let said = serve_while(
             rt,
-            move || print(rt, plan, viewers),
-            move || { host_ends(rt, hosts, place, ending) },
-        ))?;
+            &plan,
+            viewers,
+            move || host_ends(rt, hosts, place, ending),
+        )?;
         assert!(rt; said.as_str() == line, "{said}");
         assert!(rt; checked(rt, file)?.as_str() == "recording 1 1 messages 1 blocks 1\n");
     }
@@ -107,15 +115,8 @@ fn a_recording_is_served_alone(rt: HostRuntime) -> Result<(), Fail> {
         (Origin::Time(0), &RED),
     ] {
         let (viewers, place) = listener(rt)?;
-        let plan = Plan {
-            from,
-            ..plan_of(file, None, 1)
-        };
-        let said = told(join(
-            rt,
-            move || print(rt, plan, viewers),
-            move || alone(rt, place, first),
-        ))?;
+        let plan = plan_of(file, None, Audience::Count(1), from);
+        let said = serve_while(rt, &plan, viewers, move || alone(rt, place, first))?;
         assert!(rt; said.as_str() == "true serving\ncommitted 1\n", "{said}");
     }
     assert!(rt; checked(rt, file)?.as_str() == "recording 1 1 messages 1 blocks 1\n");
@@ -131,25 +132,20 @@ fn what_can_t_be_served_makes_no_file(rt: HostRuntime) -> Result<(), Fail> {
     let (hosts, host) = listener(rt)?;
     drop(hosts);
     let address = host.address(rt.alloc())?;
-    let plan = Plan {
+    let plan = plan_of(
         file,
-        listen: "",
-        host: Some(address.as_str()),
-        key_interval: 4,
-        audience: Audience::Count(1),
-        from: Origin::Live,
-        playing: None,
-        stop: Stop::never(),
-        is_verbose: false,
-    };
-    let alone = Plan { host: None, ..plan };
-    let said = told(join(rt, move || print(rt, plan, viewers), move || Ok(())))?;
+        Some(address.as_str()),
+        Audience::Count(1),
+        Origin::Live,
+    );
+    let alone = plan_of(file, None, Audience::Count(1), Origin::Live);
+    let said = serve_while(rt, &plan, viewers, move || Ok(()))?;
     assert!(rt;
         said.as_str() == "false recorderd: serve refused net 1\n",
         "{said}"
     );
     let (viewers, _) = listener(rt)?;
-    let said = told(join(rt, move || print(rt, alone, viewers), move || Ok(())))?;
+    let said = serve_while(rt, &alone, viewers, move || Ok(()))?;
     assert!(rt;
         said.as_str() == "false recorderd: serve refused file 1\n",
         "{said}"
@@ -157,7 +153,7 @@ fn what_can_t_be_served_makes_no_file(rt: HostRuntime) -> Result<(), Fail> {
     assert!(rt; fs::metadata(rt, file).is_err());
     fs::write(rt, file, b"".as_slice())?;
     let (viewers, _) = listener(rt)?;
-    let said = told(join(rt, move || print(rt, alone, viewers), move || Ok(())))?;
+    let said = serve_while(rt, &alone, viewers, move || Ok(()))?;
     assert!(rt;
         said.as_str() == "false recorderd: serve refused journal 1\n",
         "{said}"

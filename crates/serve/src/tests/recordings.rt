@@ -1,12 +1,11 @@
 //! Recordings that are shown from their start.
 
 use super::peers::{ALL, BLACK, CHANGES, GREEN, Peer, Place, RED, listener, viewer};
-use super::{checked, plan_of, print, told};
-use crate::{Origin, Pace, Plan, Playing};
+use super::{checked, plan_of, serve_while};
+use crate::{Audience, Origin, Pace, Plan, Playing};
 use std::fs;
 use std::net::{Net, TcpListener, TcpStream};
 use std::test::Fail;
-use std::thread::join;
 use std::time::{Clock, Instant};
 
 /// A recording of one place with two messages: red after 3 seconds, and green after 25 minutes.
@@ -58,16 +57,9 @@ fn each_message_is_shown(rt: HostRuntime) -> Result<(), Fail> {
     let rt = &rt;
     let file = "each";
     fs::write(rt, file, RECORDING.as_slice())?;
-    let plan = Plan {
-        from: Origin::Count(0),
-        ..plan_of(file, None, 1)
-    };
+    let plan = plan_of(file, None, Audience::Count(1), Origin::Count(0));
     let (viewers, place) = listener(rt)?;
-    let said = told(join(
-        rt,
-        move || print(rt, plan, viewers),
-        move || sees_each(rt, place),
-    ))?;
+    let said = serve_while(rt, &plan, viewers, move || sees_each(rt, place))?;
     assert!(rt; said.as_str() == "true serving\ncommitted 2\n", "{said}");
     let plan = Plan {
         playing: Some(Playing {
@@ -78,11 +70,7 @@ fn each_message_is_shown(rt: HostRuntime) -> Result<(), Fail> {
         ..plan
     };
     let (viewers, place) = listener(rt)?;
-    let said = told(join(
-        rt,
-        move || print(rt, plan, viewers),
-        move || sees_each_in_time(rt, place),
-    ))?;
+    let said = serve_while(rt, &plan, viewers, move || sees_each_in_time(rt, place))?;
     assert!(rt; said.as_str() == "true serving\ncommitted 2\n", "{said}");
     assert!(rt; checked(rt, file)?.as_str() == "recording 1 1 messages 2 blocks 1\n");
     Ok(())

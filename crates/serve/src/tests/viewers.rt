@@ -1,15 +1,14 @@
 //! Viewers of a host.
 
 use super::peers::{
-    ALL, BLACK, CHANGES, GREEN, RED, large_host, listener, silent_viewer, small_host, viewer,
+    ALL, BLACK, CHANGES, GREEN, RED, large_host, silent_viewer, small_host, viewer,
 };
-use super::{checked, plan_of, print, told};
+use super::{Scene, checked, plan_of, serve_while, set_scene};
 use crate::tests::peers::Place;
-use crate::{Origin, Plan};
+use crate::{Audience, Origin};
 use std::fs;
 use std::net::{Net, TcpListener, TcpStream};
 use std::test::Fail;
-use std::thread::join;
 
 // Two viewers, who see the black screen, and then the host's update.
 fn two_watch<R: Net<Stream = TcpStream, Listener = TcpListener> + AllocGlobal>(
@@ -33,16 +32,20 @@ fn two_watch<R: Net<Stream = TcpStream, Listener = TcpListener> + AllocGlobal>(
 #[test]
 fn two_viewers_get_a_host_s_update(rt: HostRuntime) -> Result<(), Fail> {
     let rt = &rt;
-    let (hosts, host) = listener(rt)?;
-    let (viewers, place) = listener(rt)?;
-    let address = host.address(rt.alloc())?;
-    let plan = plan_of("watched", Some(address.as_str()), 2);
+    let Scene {
+        hosts,
+        viewers,
+        place,
+        address,
+    } = set_scene(rt)?;
+    let plan = plan_of(
+        "watched",
+        Some(address.as_str()),
+        Audience::Count(2),
+        Origin::Live,
+    );
     let _ = fs::remove_file(rt, plan.file);
-    let said = told(join(
-        rt,
-        move || print(rt, plan, viewers),
-        move || two_watch(rt, hosts, place),
-    ))?;
+    let said = serve_while(rt, &plan, viewers, move || two_watch(rt, hosts, place))?;
     assert!(rt; said.as_str() == "true serving\ncommitted 1\n", "{said}");
     assert!(rt; checked(rt, plan.file)?.as_str() == "recording 1 1 messages 1 blocks 1\n");
     Ok(())
@@ -81,19 +84,20 @@ fn strangers_come<R: Net<Stream = TcpStream, Listener = TcpListener> + AllocGlob
 #[test]
 fn a_viewer_s_fault_ends_it_alone(rt: HostRuntime) -> Result<(), Fail> {
     let rt = &rt;
-    let (hosts, host) = listener(rt)?;
-    let (viewers, place) = listener(rt)?;
-    let address = host.address(rt.alloc())?;
-    let plan = Plan {
-        from: Origin::Count(0),
-        ..plan_of("strangers", Some(address.as_str()), 3)
-    };
+    let Scene {
+        hosts,
+        viewers,
+        place,
+        address,
+    } = set_scene(rt)?;
+    let plan = plan_of(
+        "strangers",
+        Some(address.as_str()),
+        Audience::Count(3),
+        Origin::Count(0),
+    );
     let _ = fs::remove_file(rt, plan.file);
-    let said = told(join(
-        rt,
-        move || print(rt, plan, viewers),
-        move || strangers_come(rt, hosts, place),
-    ))?;
+    let said = serve_while(rt, &plan, viewers, move || strangers_come(rt, hosts, place))?;
     assert!(rt; said.as_str() == "true serving\ncommitted 2\n", "{said}");
     assert!(rt; checked(rt, plan.file)?.as_str() == "recording 1 1 messages 2 blocks 2\n");
     Ok(())
@@ -134,16 +138,20 @@ fn one_sleeps<R: Net<Stream = TcpStream, Listener = TcpListener> + AllocGlobal>(
 #[test]
 fn a_viewer_that_sleeps_holds_up_nobody(rt: HostRuntime) -> Result<(), Fail> {
     let rt = &rt;
-    let (hosts, host) = listener(rt)?;
-    let (viewers, place) = listener(rt)?;
-    let address = host.address(rt.alloc())?;
-    let plan = plan_of("asleep", Some(address.as_str()), 2);
+    let Scene {
+        hosts,
+        viewers,
+        place,
+        address,
+    } = set_scene(rt)?;
+    let plan = plan_of(
+        "asleep",
+        Some(address.as_str()),
+        Audience::Count(2),
+        Origin::Live,
+    );
     let _ = fs::remove_file(rt, plan.file);
-    let said = told(join(
-        rt,
-        move || print(rt, plan, viewers),
-        move || one_sleeps(rt, hosts, place),
-    ))?;
+    let said = serve_while(rt, &plan, viewers, move || one_sleeps(rt, hosts, place))?;
     assert!(rt; said.as_str() == "true serving\ncommitted 2\n", "{said}");
     assert!(rt; checked(rt, plan.file)?.as_str() == "recording 2048 1024 messages 2 blocks 2\n");
     Ok(())
