@@ -4,7 +4,7 @@ ghost use Rattle.std.specs.Prelude.{◌<◌};
 
 use crate::connection::attend;
 use crate::site::Site;
-use file_commands::{Ended, Refusal, answer, open_file, open_recording};
+use file_commands::{Ended, Refusal, answer, open_path};
 use file_disk::Progress;
 use sockets::{Accepted, Bell, Stop, accept, wait_for_stop};
 use std::alloc::Global;
@@ -93,10 +93,8 @@ fn open<R: AllocGlobal + Files<File = File> + Net>(
     path: &str,
     progress: Progress,
 ) -> Result<Site, Ended> {
-    let alloc = rt.alloc();
-    let file = open_file(rt, path)?;
-    let index = open_recording(alloc, file, progress)?;
-    Site::new(alloc, index, Bell::new(rt)?)
+    let index = open_path(rt, path, progress)?;
+    Site::new(rt.alloc(), index, Bell::new(rt)?)
 }
 
 fn run<R, L, O: Write>(
@@ -135,7 +133,7 @@ where
 /// Serves a page on which a recording, which is opened for reading alone, is looked at, to browsers
 /// that connect to the listener that the closure makes. It writes `browsing` and the page's address
 /// once they may come, and goes on until it is to stop. It answers as
-/// [`check`](file_commands::check) does.
+/// [`run`](file_commands::run) does.
 pub fn browse_on<R, L, O: Write, E: Write>(
     rt: &R,
     what: Browsing<'_>,

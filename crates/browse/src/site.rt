@@ -43,20 +43,18 @@ struct Members<'a, W: Write> {
 
 impl<W: Write> StretchSink for Members<'_, W> {
     fn stretch(&mut self, stretch: Stretch) -> io::Result<()> {
-        let Stretch {
-            time,
-            message,
-            block,
-            updates,
-            bytes,
-        } = stretch;
         if self.has_some {
             write!(self.out, ",")?;
         }
         self.has_some = true;
         write!(
             self.out,
-            "{{\"time\":{time},\"message\":{message},\"block\":{block},\"updates\":{updates},\"bytes\":{bytes}}}"
+            "{{\"time\":{},\"message\":{},\"block\":{},\"updates\":{},\"bytes\":{}}}",
+            stretch.time,
+            stretch.message,
+            stretch.block,
+            stretch.updates,
+            stretch.bytes
         )
     }
 }

@@ -1,7 +1,8 @@
 //! The command `export`.
 
+use crate::command::FileCommand;
 use crate::recording::{open_file, open_recording};
-use crate::refusal::{Ended, Refusal, answer};
+use crate::refusal::{Ended, Refusal};
 use fbs_export::{ExportFault, first_exported};
 use file_disk::{Progress, Watched};
 use std::fs::{File, Metadata, OpenOptions};
@@ -36,7 +37,10 @@ pub fn open_out<R: Files<File = File>>(
     Ok(file)
 }
 
-/// What is exported of which recording, and where to.
+/// `export`: writes a part of a recording, which is opened for reading alone, as an FBS file, and
+/// prints how many messages it has. That file is created, or emptied where it is there, only once it
+/// is known that there are such a block and such an end; one that can't be, and the recording itself,
+/// are refused as a file.
 #[derive(Clone, Copy)]
 pub struct Extract<'a> {
     /// The recording's file.
@@ -81,27 +85,19 @@ fn write_export<R: Files<File = File> + AllocGlobal>(
     }
 }
 
-fn write_count<R: Files<File = File> + AllocGlobal, O: Write>(
-    rt: &R,
-    what: Extract<'_>,
-    progress: Progress,
-    out: &mut O,
-) -> Result<(), Ended> {
-    let count = write_export(rt, what, progress)?;
-    writeln!(out, "exported {count}")?;
-    Ok(())
-}
+impl FileCommand for Extract<'_> {
+    fn word(&self) -> &'static str {
+        "export"
+    }
 
-/// Writes a part of a recording, which is opened for reading alone, as an FBS file, and then how
-/// many messages it has. That file is created, or emptied where it is there, only once it is known
-/// that there are such a block and such an end; one that can't be, and the recording itself, are
-/// refused as a file. It answers as [`check`](crate::check) does.
-pub fn export<R: Files<File = File> + AllocGlobal, O: Write, E: Write>(
-    rt: &R,
-    what: Extract<'_>,
-    progress: Progress,
-    out: &mut O,
-    err: &mut E,
-) -> io::Result<bool> {
-    answer("export", write_count(rt, what, progress, out), err)
+    fn work<R: Files<File = File> + AllocGlobal, O: Write>(
+        &self,
+        rt: &R,
+        progress: Progress,
+        out: &mut O,
+    ) -> Result<(), Ended> {
+        let count = write_export(rt, *self, progress)?;
+        writeln!(out, "exported {count}")?;
+        Ok(())
+    }
 }

@@ -2,16 +2,17 @@
 
 ghost use Rattle.std.specs.Prelude.{◌<◌};
 
-use crate::recording::{open_file, open_recording};
-use crate::refusal::{Ended, Refusal, answer};
+use crate::command::FileCommand;
+use crate::recording::open_path;
+use crate::refusal::{Ended, Refusal};
 use file_disk::{Progress, Watched};
 use pictures::{Film, FilmFault, write_frames};
 use std::fs::File;
-use std::io;
 use std::io::{BufWriter, Write};
 use std::rt::Files;
 
-/// Which frames of which recording are written.
+/// `frames`: writes the screens of a recording, which is opened for reading alone, as PPM pictures one
+/// behind the other, so many a second of the recording.
 #[derive(Clone, Copy)]
 pub struct Filming<'a> {
     /// The recording's file.
@@ -39,36 +40,29 @@ impl Filming<'_> {
     }
 }
 
-fn write_film<R: Files<File = File> + AllocGlobal, O: Write>(
-    rt: &R,
-    what: &Filming<'_>,
-    progress: Progress,
-    out: &mut O,
-) -> Result<(), Ended> {
-    let alloc = rt.alloc();
-    let file = open_file(rt, what.recording)?;
-    let mut index = open_recording(alloc, file, progress)?;
-    let film = what.film(index.last_time());
-    let watched = Watched {
-        inner: out,
-        progress,
-    };
-    let mut frames = BufWriter::new(alloc, watched)?;
-    match write_frames(alloc, &mut index, &film, &mut frames) {
-        Ok(()) => Ok(frames.flush()?),
-        Err(FilmFault::Read(fault)) => Err(Ended::Refused(Refusal::Screen(fault))),
-        Err(FilmFault::Write(error)) => Err(Ended::Failed(error)),
+impl FileCommand for Filming<'_> {
+    fn word(&self) -> &'static str {
+        "frames"
     }
-}
 
-/// Writes the screens of a recording, which is opened for reading alone, as PPM pictures one behind
-/// the other, so many a second of the recording. It answers as [`check`](crate::check) does.
-pub fn frames<R: Files<File = File> + AllocGlobal, O: Write, E: Write>(
-    rt: &R,
-    what: &Filming<'_>,
-    progress: Progress,
-    out: &mut O,
-    err: &mut E,
-) -> io::Result<bool> {
-    answer("frames", write_film(rt, what, progress, out), err)
+    fn work<R: Files<File = File> + AllocGlobal, O: Write>(
+        &self,
+        rt: &R,
+        progress: Progress,
+        out: &mut O,
+    ) -> Result<(), Ended> {
+        let alloc = rt.alloc();
+        let mut index = open_path(rt, self.recording, progress)?;
+        let film = self.film(index.last_time());
+        let watched = Watched {
+            inner: out,
+            progress,
+        };
+        let mut frames = BufWriter::new(alloc, watched)?;
+        match write_frames(alloc, &mut index, &film, &mut frames) {
+            Ok(()) => Ok(frames.flush()?),
+            Err(FilmFault::Read(fault)) => Err(Ended::Refused(Refusal::Screen(fault))),
+            Err(FilmFault::Write(error)) => Err(Ended::Failed(error)),
+        }
+    }
 }

@@ -2,6 +2,7 @@
 #![tactic(auto)]
 
 mod checking;
+mod command;
 mod exporting;
 mod framing;
 mod keeping;
@@ -12,14 +13,15 @@ mod refusal;
 mod surveying;
 mod timing;
 
-pub use checking::{check, fbs_check};
-pub use exporting::{Extract, export};
-pub use framing::{Filming, frames};
+pub use checking::{Check, FbsCheck};
+pub use command::{FileCommand, run};
+pub use exporting::Extract;
+pub use framing::Filming;
 pub use keeping::{create_new, keep};
-pub use listing::list;
+pub use listing::List;
 pub use pictures::PictureFormat;
-pub use picturing::{Moment, Scene, picture, screen_of};
-pub use recording::{open_file, open_recording};
+pub use picturing::{Moment, Scene, screen_of};
+pub use recording::open_path;
 pub use refusal::{Ended, Refusal, answer, refuse};
 pub use surveying::{Stretch, StretchSink, survey};
-pub use timing::{Timing, times};
+pub use timing::Timing;

@@ -1,7 +1,8 @@
 //! The command `list`.
 
-use crate::recording::{open_file, open_recording};
-use crate::refusal::{Ended, answer};
+use crate::command::FileCommand;
+use crate::recording::open_path;
+use crate::refusal::Ended;
 use file_disk::{FileDisk, Progress};
 use key_index::Indexed;
 use std::fs::File;
@@ -25,29 +26,25 @@ fn write_blocks<O: Write>(index: &Indexed<FileDisk>, out: &mut O) -> io::Result<
     Ok(())
 }
 
-fn write_list<R: Files<File = File> + AllocGlobal, O: Write>(
-    rt: &R,
-    path: &str,
-    progress: Progress,
-    out: &mut O,
-) -> Result<(), Ended> {
-    let alloc = rt.alloc();
-    let file = open_file(rt, path)?;
-    let index = open_recording(alloc, file, progress)?;
-    let mut lines = BufWriter::new(alloc, out)?;
-    write_blocks(&index, &mut lines)?;
-    lines.flush()?;
-    Ok(())
-}
+/// `list`: opens the recording at a path, and prints a line for each block that counts.
+#[derive(Clone, Copy, Debug)]
+pub struct List<'a>(pub &'a str);
 
-/// Opens the recording at a path, for reading alone, and writes a line for each block that counts.
-/// It answers as [`check`](crate::check) does.
-pub fn list<R: Files<File = File> + AllocGlobal, O: Write, E: Write>(
-    rt: &R,
-    path: &str,
-    progress: Progress,
-    out: &mut O,
-    err: &mut E,
-) -> io::Result<bool> {
-    answer("list", write_list(rt, path, progress, out), err)
+impl FileCommand for List<'_> {
+    fn word(&self) -> &'static str {
+        "list"
+    }
+
+    fn work<R: Files<File = File> + AllocGlobal, O: Write>(
+        &self,
+        rt: &R,
+        progress: Progress,
+        out: &mut O,
+    ) -> Result<(), Ended> {
+        let index = open_path(rt, self.0, progress)?;
+        let mut lines = BufWriter::new(rt.alloc(), out)?;
+        write_blocks(&index, &mut lines)?;
+        lines.flush()?;
+        Ok(())
+    }
 }

@@ -1,8 +1,9 @@
 //! The command `picture`.
 
+use crate::command::FileCommand;
 use crate::exporting::open_out;
 use crate::recording::{open_file, open_recording};
-use crate::refusal::{Ended, Refusal, answer};
+use crate::refusal::{Ended, Refusal};
 use file_disk::{FileDisk, Progress, Watched};
 use gated_journal::ReadFault;
 use key_index::Indexed;
@@ -11,7 +12,6 @@ use pictures::{PictureFormat, count_at, write_picture};
 use replay::{ReplayFault, screen_at};
 use std::alloc::Global;
 use std::fs::{File, Metadata};
-use std::io;
 use std::io::{BufWriter, Write};
 use std::rt::Files;
 
@@ -24,7 +24,9 @@ pub enum Moment {
     Time(u32),
 }
 
-/// Which screen of which recording is shown, and where to.
+/// `picture`: writes the screen at a moment of a recording, which is opened for reading alone, as a
+/// picture. A file is created, or emptied where it is there, only once there is such a screen; one
+/// that can't be written, and the recording itself, are refused as a file.
 #[derive(Clone, Copy)]
 pub struct Scene<'a> {
     /// The recording's file.
@@ -82,33 +84,25 @@ fn write_file<R: Files<File = File> + AllocGlobal>(
     }
 }
 
-fn write_screen<R: Files<File = File> + AllocGlobal, O: Write>(
-    rt: &R,
-    what: Scene<'_>,
-    progress: Progress,
-    out: &mut O,
-) -> Result<(), Ended> {
-    let alloc = rt.alloc();
-    let file = open_file(rt, what.recording)?;
-    let metadata = file.metadata()?;
-    let mut index = open_recording(alloc, file, progress)?;
-    let screen = screen_of(alloc, &mut index, what.moment)?;
-    match what.out {
-        Some(path) => write_file(rt, path, &metadata, &screen, what, progress),
-        None => Ok(write_picture(alloc, &screen, what.format, out)?),
+impl FileCommand for Scene<'_> {
+    fn word(&self) -> &'static str {
+        "picture"
     }
-}
 
-/// Writes the screen at a moment of a recording, which is opened for reading alone, as a picture. A
-/// file is created, or emptied where it is there, only once there is such a screen; one that can't
-/// be written, and the recording itself, are refused as a file. It answers as
-/// [`check`](crate::check) does.
-pub fn picture<R: Files<File = File> + AllocGlobal, O: Write, E: Write>(
-    rt: &R,
-    what: Scene<'_>,
-    progress: Progress,
-    out: &mut O,
-    err: &mut E,
-) -> io::Result<bool> {
-    answer("picture", write_screen(rt, what, progress, out), err)
+    fn work<R: Files<File = File> + AllocGlobal, O: Write>(
+        &self,
+        rt: &R,
+        progress: Progress,
+        out: &mut O,
+    ) -> Result<(), Ended> {
+        let alloc = rt.alloc();
+        let file = open_file(rt, self.recording)?;
+        let metadata = file.metadata()?;
+        let mut index = open_recording(alloc, file, progress)?;
+        let screen = screen_of(alloc, &mut index, self.moment)?;
+        match self.out {
+            Some(path) => write_file(rt, path, &metadata, &screen, *self, progress),
+            None => Ok(write_picture(alloc, &screen, self.format, out)?),
+        }
+    }
 }

@@ -15,6 +15,16 @@ pub fn open_file<R: Files<File = File>>(files: &R, path: &str) -> Result<File, R
     }
 }
 
+/// The recording in a file, opened for reading alone.
+pub fn open_path<R: Files<File = File> + AllocGlobal>(
+    rt: &R,
+    path: &str,
+    progress: Progress,
+) -> Result<Indexed<FileDisk>, Refusal> {
+    let file = open_file(rt, path)?;
+    open_recording(rt.alloc(), file, progress)
+}
+
 /// The recording that a file holds.
 pub fn open_recording(
     alloc: Global,

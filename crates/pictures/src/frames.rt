@@ -19,6 +19,7 @@ use replay::{Replay, ReplayFault, from_count};
 use std::alloc::Global;
 use std::io;
 use std::io::Write;
+use thiserror::Error;
 
 /// Which frames of a recording make a video. Moments are in milliseconds of the recording.
 #[derive(Clone, Copy, Debug)]
@@ -55,29 +56,19 @@ impl Film {
 }
 
 /// Why the frames aren't written.
-#[derive(Debug, Drop)]
+#[derive(Debug, Drop, Error)]
 pub enum FilmFault {
     /// The recording isn't read.
-    Read(ReplayFault),
+    #[error("the recording isn't read: {0}")]
+    Read(#[from] ReplayFault),
     /// They can't be written, or memory for a picture is wanting.
-    Write(io::Error),
-}
-
-impl From<ReplayFault> for FilmFault {
-    fn from(fault: ReplayFault) -> FilmFault {
-        FilmFault::Read(fault)
-    }
+    #[error("the frames can't be written: {0}")]
+    Write(#[from] io::Error),
 }
 
 impl From<ReadFault> for FilmFault {
     fn from(fault: ReadFault) -> FilmFault {
         FilmFault::Read(fault.into())
-    }
-}
-
-impl From<io::Error> for FilmFault {
-    fn from(error: io::Error) -> FilmFault {
-        FilmFault::Write(error)
     }
 }
 

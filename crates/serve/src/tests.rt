@@ -8,7 +8,7 @@ mod recordings;
 mod viewers;
 
 use crate::{Audience, Origin, Plan, Stop, serve_on};
-use file_commands::check;
+use file_commands::{Check, run};
 use file_disk::Progress;
 use peers::{Place, listener};
 use std::fs::File;
@@ -33,29 +33,6 @@ fn plan_of<'a>(file: &'a str, host: Option<&'a str>, audience: Audience, from: O
         stop: Stop::never(),
         is_verbose: false,
     }
-}
-
-// A place where a host is connected to, with its address, and one that viewers connect to.
-#[derive(Drop)]
-struct Scene {
-    hosts: TcpListener,
-    viewers: TcpListener,
-    place: Place,
-    address: String,
-}
-
-fn set_scene<R: Net<Stream = TcpStream, Listener = TcpListener> + AllocGlobal>(
-    rt: &R,
-) -> Result<Scene, Fail> {
-    let (hosts, host) = listener(rt)?;
-    let (viewers, place) = listener(rt)?;
-    let address = host.address(rt.alloc())?;
-    Ok(Scene {
-        hosts,
-        viewers,
-        place,
-        address,
-    })
 }
 
 // Serves a recording: whether it is done, and what is printed.
@@ -94,12 +71,31 @@ fn serve_while<P: FnOnce() -> Result<(), Fail>>(
     Ok(printed?)
 }
 
+// Records a host of a test into a new file, and serves that: what is printed. The test is given a place
+// for its host, and one for its viewers.
+fn recorded<P: FnOnce(TcpListener, Place) -> Result<(), Fail>>(
+    rt: &HostRuntime,
+    file: &str,
+    audience: Audience,
+    from: Origin,
+    play: P,
+) -> Result<String, Fail>
+    requires { P.IsAlwaysCallable play }
+{
+    let _ = fs::remove_file(rt, file);
+    let (hosts, host) = listener(rt)?;
+    let (viewers, place) = listener(rt)?;
+    let address = host.address(rt.alloc())?;
+    let plan = plan_of(file, Some(address.as_str()), audience, from);
+    serve_while(rt, &plan, viewers, move || play(hosts, place))
+}
+
 // What `check` says of a recording, which is then removed.
 fn checked<R: Files<File = File> + AllocGlobal>(rt: &R, file: &str) -> Result<String, Fail> {
     let alloc = rt.alloc();
     let mut out = Vec::new(alloc);
     let mut err = Vec::new(alloc);
-    check(rt, file, Progress::silent(), &mut out, &mut err)?;
+    run(rt, &Check(file), Progress::silent(), &mut out, &mut err)?;
     fs::remove_file(rt, file)?;
     Ok(String::from_utf8(out).ok().ok_or("output")?)
 }

@@ -3,7 +3,7 @@
 use super::peers::{
     ALL, BLACK, CHANGES, GREEN, Peer, Place, RED, silent_viewer, small_host, viewer,
 };
-use super::{Scene, checked, plan_of, serve_while, set_scene};
+use super::{checked, recorded};
 use crate::{Audience, Origin};
 use std::alloc::Global;
 use std::fs;
@@ -66,20 +66,13 @@ fn a_viewer_is_shown_the_end(rt: HostRuntime) -> Result<(), Fail> {
     let rt = &rt;
     let file = "shown";
     for audience in [Audience::Any, Audience::Count(1)] {
-        let Scene {
-            hosts,
-            viewers,
-            place,
-            address,
-        } = set_scene(rt)?;
-        let plan = plan_of(file, Some(address.as_str()), audience, Origin::Live);
-        let _ = fs::remove_file(rt, file);
         let stays = audience == Audience::Count(1);
-        let said = serve_while(
+        let said = recorded(
             rt,
-            &plan,
-            viewers,
-            move || the_end_is_shown(rt, hosts, place, stays),
+            file,
+            audience,
+            Origin::Live,
+            |hosts, place| the_end_is_shown(rt, hosts, place, stays),
         )?;
         assert!(rt; said.as_str() == "true serving\ncommitted 301\n", "{said}");
     }
@@ -114,20 +107,13 @@ fn pieces_come<R: Net<Stream = TcpStream, Listener = TcpListener> + AllocGlobal>
 fn messages_in_one_piece_keep_their_order(rt: HostRuntime) -> Result<(), Fail> {
     let rt = &rt;
     let file = "pieces";
-    let Scene {
-        hosts,
-        viewers,
-        place,
-        address,
-    } = set_scene(rt)?;
-    let plan = plan_of(
+    let said = recorded(
+        rt,
         file,
-        Some(address.as_str()),
         Audience::Count(1),
         Origin::Count(0),
-    );
-    let _ = fs::remove_file(rt, file);
-    let said = serve_while(rt, &plan, viewers, move || pieces_come(rt, hosts, place))?;
+        |hosts, place| pieces_come(rt, hosts, place),
+    )?;
     let refused = "false serving\nrecorderd: serve refused host 1\n";
     assert!(rt; said.as_str() == refused, "{said}");
     let said = checked(rt, file)?;

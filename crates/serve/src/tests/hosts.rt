@@ -1,7 +1,7 @@
 //! How a host ends, and a recording without one.
 
 use super::peers::{ALL, BLACK, CHANGES, GREEN, RED, deaf_host, listener, small_host, viewer};
-use super::{Scene, checked, plan_of, serve_while, set_scene};
+use super::{checked, plan_of, recorded, serve_while};
 use crate::tests::peers::{Peer, Place};
 use crate::{Audience, Origin};
 use std::fs;
@@ -54,7 +54,6 @@ fn host_ends<R: Net<Stream = TcpStream, Listener = TcpListener> + AllocGlobal>(
 fn a_host_ends(rt: HostRuntime) -> Result<(), Fail> {
     let rt = &rt;
     let file = "ended";
-    let _ = fs::remove_file(rt, file);
     for (ending, line) in [
         (Ending::Torn, "true serving\ncommitted 1\n"),
         (
@@ -66,23 +65,12 @@ fn a_host_ends(rt: HostRuntime) -> Result<(), Fail> {
             "false serving\nrecorderd: serve refused host 1\n",
         ),
     ] {
-        let Scene {
-            hosts,
-            viewers,
-            place,
-            address,
-        } = set_scene(rt)?;
-        let plan = plan_of(
+        let said = recorded(
+            rt,
             file,
-            Some(address.as_str()),
             Audience::Count(1),
             Origin::Live,
-        );
-        let said = serve_while(
-            rt,
-            &plan,
-            viewers,
-            move || host_ends(rt, hosts, place, ending),
+            |hosts, place| host_ends(rt, hosts, place, ending),
         )?;
         assert!(rt; said.as_str() == line, "{said}");
         assert!(rt; checked(rt, file)?.as_str() == "recording 1 1 messages 1 blocks 1\n");

@@ -3,10 +3,9 @@
 use super::peers::{
     ALL, BLACK, CHANGES, GREEN, RED, large_host, silent_viewer, small_host, viewer,
 };
-use super::{Scene, checked, plan_of, serve_while, set_scene};
+use super::{checked, recorded};
 use crate::tests::peers::Place;
 use crate::{Audience, Origin};
-use std::fs;
 use std::net::{Net, TcpListener, TcpStream};
 use std::test::Fail;
 
@@ -32,22 +31,15 @@ fn two_watch<R: Net<Stream = TcpStream, Listener = TcpListener> + AllocGlobal>(
 #[test]
 fn two_viewers_get_a_host_s_update(rt: HostRuntime) -> Result<(), Fail> {
     let rt = &rt;
-    let Scene {
-        hosts,
-        viewers,
-        place,
-        address,
-    } = set_scene(rt)?;
-    let plan = plan_of(
+    let said = recorded(
+        rt,
         "watched",
-        Some(address.as_str()),
         Audience::Count(2),
         Origin::Live,
-    );
-    let _ = fs::remove_file(rt, plan.file);
-    let said = serve_while(rt, &plan, viewers, move || two_watch(rt, hosts, place))?;
+        |hosts, place| two_watch(rt, hosts, place),
+    )?;
     assert!(rt; said.as_str() == "true serving\ncommitted 1\n", "{said}");
-    assert!(rt; checked(rt, plan.file)?.as_str() == "recording 1 1 messages 1 blocks 1\n");
+    assert!(rt; checked(rt, "watched")?.as_str() == "recording 1 1 messages 1 blocks 1\n");
     Ok(())
 }
 
@@ -84,22 +76,15 @@ fn strangers_come<R: Net<Stream = TcpStream, Listener = TcpListener> + AllocGlob
 #[test]
 fn a_viewer_s_fault_ends_it_alone(rt: HostRuntime) -> Result<(), Fail> {
     let rt = &rt;
-    let Scene {
-        hosts,
-        viewers,
-        place,
-        address,
-    } = set_scene(rt)?;
-    let plan = plan_of(
+    let said = recorded(
+        rt,
         "strangers",
-        Some(address.as_str()),
         Audience::Count(3),
         Origin::Count(0),
-    );
-    let _ = fs::remove_file(rt, plan.file);
-    let said = serve_while(rt, &plan, viewers, move || strangers_come(rt, hosts, place))?;
+        |hosts, place| strangers_come(rt, hosts, place),
+    )?;
     assert!(rt; said.as_str() == "true serving\ncommitted 2\n", "{said}");
-    assert!(rt; checked(rt, plan.file)?.as_str() == "recording 1 1 messages 2 blocks 2\n");
+    assert!(rt; checked(rt, "strangers")?.as_str() == "recording 1 1 messages 2 blocks 2\n");
     Ok(())
 }
 
@@ -138,21 +123,14 @@ fn one_sleeps<R: Net<Stream = TcpStream, Listener = TcpListener> + AllocGlobal>(
 #[test]
 fn a_viewer_that_sleeps_holds_up_nobody(rt: HostRuntime) -> Result<(), Fail> {
     let rt = &rt;
-    let Scene {
-        hosts,
-        viewers,
-        place,
-        address,
-    } = set_scene(rt)?;
-    let plan = plan_of(
+    let said = recorded(
+        rt,
         "asleep",
-        Some(address.as_str()),
         Audience::Count(2),
         Origin::Live,
-    );
-    let _ = fs::remove_file(rt, plan.file);
-    let said = serve_while(rt, &plan, viewers, move || one_sleeps(rt, hosts, place))?;
+        |hosts, place| one_sleeps(rt, hosts, place),
+    )?;
     assert!(rt; said.as_str() == "true serving\ncommitted 2\n", "{said}");
-    assert!(rt; checked(rt, plan.file)?.as_str() == "recording 2048 1024 messages 2 blocks 2\n");
+    assert!(rt; checked(rt, "asleep")?.as_str() == "recording 2048 1024 messages 2 blocks 2\n");
     Ok(())
 }
