@@ -5,6 +5,7 @@ pub mod Message
 pub mod Host
 pub mod Stream
 pub mod PartialMessage
+pub mod Judged
 pub mod Reader
 pub mod Written
 pub mod Plain
