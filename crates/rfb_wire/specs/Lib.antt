@@ -1,6 +1,7 @@
 pub use Rattle.terms.specs.Reading
 pub mod Fault
 pub mod Grammar
+pub mod Header
 pub mod Message
 pub mod Host
 pub mod Stream

@@ -7,9 +7,9 @@ ghost use Rattle.rfb_wire.specs.Plain.{Says, SaysMessage, kind_of};
 
 use crate::message::{HostMessage, Rectangle};
 use crate::progress::MESSAGE_LIMIT;
-use crate::step::{TEXT_LIMIT, area_at, encoding_at};
+use crate::step::{TEXT_LIMIT, judge_header};
 use pixel_format::PixelFormat;
-use rect_data::{Encoding, lies_inside, measure};
+use rect_data::measure;
 use std::alloc::Global;
 use terms::{WireFault, field};
 
@@ -37,14 +37,7 @@ fn rectangle(
     let Some((header, rest)) = field(12, bytes) else {
         return Ok(None);
     };
-    let area = area_at(header);
-    if !lies_inside(area, width, height) {
-        return Err(WireFault::OutsideScreen);
-    }
-    let number = encoding_at(header);
-    let Some(encoding) = Encoding::from_number(number) else {
-        return Err(WireFault::Encoding(number.cast_signed()));
-    };
+    let (area, encoding) = judge_header(width, height, header)?;
     let start = at + 12;
     let length = match measure(&PixelFormat::host(), width, height, encoding, area, rest) {
         Ok(Some(length)) => length,
