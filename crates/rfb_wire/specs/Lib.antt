@@ -7,6 +7,7 @@ pub mod Host
 pub mod Stream
 pub mod PartialMessage
 pub mod Judged
+pub mod Behind
 pub mod Reader
 pub mod Written
 pub mod Plain

@@ -7,6 +7,7 @@ ghost use Rattle.terms.specs.Number.{u16_at, u32_at};
 ghost use Rattle.rect_data.specs.Judging.{HasBytes};
 ghost use Rattle.rect_data.specs.Judging as judging;
 ghost use Rattle.rfb_wire.specs.Grammar.{message_limit, text_limit, read_over, text_data_at, area_of, encoding_number};
+ghost use Rattle.rfb_wire.specs.Behind.{IsBehind};
 ghost use Rattle.rfb_wire.specs.Header.{Names, IsRefusedBy};
 ghost use Rattle.rfb_wire.specs.PartialMessage.{wants_of, start_of, NextBegins, IsOfUpdate, IsOfKind, NextIsOfKind, resume, go_on, step_on, others_at, behind_data};
 
@@ -103,8 +104,7 @@ fn next_of_type(number: u8) -> Result<Next, WireFault>
 // Behind the type of a message.
 fn behind_type(field: &[u8]) -> Result<AfterField, WireFault>
     requires { length field.now ≡ 1 }
-    ensures goes { IfOk result (λ s. (width height : ℕ) → (more : List ℕ)
-        → resume width height Stage.Type (field.now ++ more) ≡ step_on width height s more) }
+    ensures goes { IfOk result (IsBehind Stage.Type field.now) }
     ensures begins { IfOk result (λ s. NextBegins 1 s.next) }
     ensures kind { IfOk result (λ s. NextIsOfKind s.next field.now) }
     ensures faults { IfErr result (λ f. (width height : ℕ) → (more : List ℕ)
@@ -123,8 +123,7 @@ fn behind_type(field: &[u8]) -> Result<AfterField, WireFault>
 // Behind the head of a colour map: six bytes for each colour.
 fn behind_color_map_head(field: &[u8]) -> AfterField
     requires { length field.now ≡ 5 }
-    ensures goes { (width height : ℕ) → (more : List ℕ)
-        → resume width height Stage.ColorMapHead (field.now ++ more) ≡ step_on width height result more }
+    ensures goes { IsBehind Stage.ColorMapHead field.now result }
     ensures begins { NextBegins 6 result.next }
     ensures kind { (bytes : List ℕ) → NextIsOfKind result.next bytes }
 {
@@ -154,8 +153,7 @@ fn next_text(count: u32) -> Next
 // Behind the head of a cut text.
 fn behind_text_head(field: &[u8]) -> AfterField
     requires { length field.now ≡ 7 }
-    ensures goes { (width height : ℕ) → (more : List ℕ)
-        → resume width height Stage.TextHead (field.now ++ more) ≡ step_on width height result more }
+    ensures goes { IsBehind Stage.TextHead field.now result }
     ensures begins { NextBegins 8 result.next }
     ensures kind { (bytes : List ℕ) → NextIsOfKind result.next bytes }
 {
@@ -183,8 +181,7 @@ fn behind_text(count: u32) -> AfterField
 // Behind the head of an update.
 fn behind_update_head(field: &[u8]) -> AfterField
     requires { length field.now ≡ 3 }
-    ensures goes { (width height : ℕ) → (more : List ℕ)
-        → resume width height Stage.UpdateHead (field.now ++ more) ≡ step_on width height result more }
+    ensures goes { IsBehind Stage.UpdateHead field.now result }
     ensures begins { NextBegins 4 result.next }
     ensures kind { (bytes : List ℕ) → IsOfUpdate bytes → NextIsOfKind result.next bytes }
 {
