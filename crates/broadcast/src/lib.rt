@@ -10,6 +10,6 @@ mod step;
 
 pub use desk::Desk;
 pub use laws::{any_number_of_runs_and_crashes, runs_go_on, steps_only_append};
-pub use refusal::{JoinRefusal, LeaveRefusal, NextRefusal, SeekRefusal};
+pub use refusal::{JoinRefusal, LeaveRefusal, NextRefusal, SeekRefusal, StepRefusal};
 pub use seat::{Seat, Seated, Start};
 pub use step::{Reply, Step};

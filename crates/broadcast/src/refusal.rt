@@ -1,8 +1,9 @@
-//! Why a step of a seat is refused, with the numbers that programs print.
+//! Why a step of a seat is refused, and the numbers that programs print of each step's refusals.
 
-ghost use Rattle.std.specs.Prelude.{◌≡◌, ◌-◌, ◌<◌, Some, slice_get};
-ghost use Rattle.broadcast.specs.Refusals.{join_refusals, next_refusals, seek_refusals, leave_refusals, next_refusal};
+ghost use Rattle.std.specs.Prelude.{◌≡◌};
+ghost use Rattle.broadcast.specs.Refusals.{IsStepNumber, next_refusal};
 
+use flusher_core::{FlushRefusal, HostRefusal, TakeRefusal};
 use gated_journal::ReadFault;
 use thiserror::Error;
 
@@ -50,43 +51,40 @@ pub enum LeaveRefusal {
     NotSeated = 1,
 }
 
-impl JoinRefusal {
-    /// The number that programs print.
-    pub fn number(self) -> u64
-        ensures value { slice_get join_refusals (result - 1) ≡ Some self }
-        ensures some { 0 < result }
-    {
-        self as u64
-    }
+/// Why a step of a desk is refused.
+#[derive(Clone, Copy, Debug, PartialEq, Eq, Error)]
+pub enum StepRefusal {
+    #[error("{0}")]
+    Host(HostRefusal),
+    #[error("{0}")]
+    Take(TakeRefusal),
+    /// Of `body` or `gate`.
+    #[error("{0}")]
+    Flush(FlushRefusal),
+    #[error("{0}")]
+    Join(JoinRefusal),
+    #[error("{0}")]
+    Next(NextRefusal),
+    #[error("{0}")]
+    Seek(SeekRefusal),
+    #[error("{0}")]
+    Leave(LeaveRefusal),
 }
 
-impl NextRefusal {
-    /// The number that programs print.
+impl StepRefusal {
+    /// The number that programs print: 1 for the first reason of the step, and so on.
     pub fn number(self) -> u64
-        ensures value { slice_get next_refusals (result - 1) ≡ Some self }
-        ensures some { 0 < result }
+        ensures { IsStepNumber self result }
     {
-        self as u64
-    }
-}
-
-impl SeekRefusal {
-    /// The number that programs print.
-    pub fn number(self) -> u64
-        ensures value { slice_get seek_refusals (result - 1) ≡ Some self }
-        ensures some { 0 < result }
-    {
-        self as u64
-    }
-}
-
-impl LeaveRefusal {
-    /// The number that programs print.
-    pub fn number(self) -> u64
-        ensures value { slice_get leave_refusals (result - 1) ≡ Some self }
-        ensures some { 0 < result }
-    {
-        self as u64
+        match self {
+            StepRefusal::Host(why) => why as u64,
+            StepRefusal::Take(why) => why as u64,
+            StepRefusal::Flush(why) => why as u64,
+            StepRefusal::Join(why) => why as u64,
+            StepRefusal::Next(why) => why as u64,
+            StepRefusal::Seek(why) => why as u64,
+            StepRefusal::Leave(why) => why as u64,
+        }
     }
 }
 

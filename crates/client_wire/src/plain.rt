@@ -1,29 +1,12 @@
 //! The grammar of a viewer's messages as a plain function, which has all the bytes before it.
 
-ghost use Rattle.std.specs.Prelude.{◌≡◌, ◌+◌, length, IfSome, MatchOption};
-ghost use Rattle.terms.specs.Reading.{Got, More};
-ghost use Rattle.terms.specs.Reading as reading;
-ghost use Rattle.terms.specs.declared.wire_fault.WireFault.{WireFault};
 ghost use Rattle.client_wire.specs.Grammar.{set_pixel_format_at, set_encodings_at, request_at, input_at, cut_text_at, message_at};
 ghost use Rattle.client_wire.specs.Plain.{Says};
 
 use crate::field::{encodings_in, pixel_format_in, request_in};
 use crate::message::ClientMessage;
 use std::alloc::Global;
-use terms::WireFault;
-
-// The first bytes, where there are so many, and the bytes behind them.
-fn field(count: usize, bytes: &[u8]) -> Option<(&[u8], &[u8])>
-    ensures reads { MatchOption result (reading.field {E = WireFault} count bytes.now ≡ More)
-        (λ x. reading.field {E = WireFault} count bytes.now ≡ Got x.0.now x.1.now) }
-    ensures lengths { IfSome result (λ x. (length x.0.now ≡ count)
-        × (count + length x.1.now ≡ length bytes.now)) }
-{
-    if bytes.len() < count {
-        return None;
-    }
-    Some(bytes.split_at(count))
-}
+use terms::{WireFault, field};
 
 // What the bytes behind the type of a SetPixelFormat begin with.
 fn set_pixel_format(bytes: &[u8]) -> Result<Option<(ClientMessage, &[u8])>, WireFault>

@@ -4,6 +4,7 @@ ghost use Rattle.host_session.specs.declared.fault.HostFault.{HostFault};
 ghost use Rattle.shared_book.specs.declared.workers.FlusherEnd.TheVariants.{Take};
 ghost use Rattle.std.specs.Prelude.{◌≡◌, ◌≢◌, Err, None, Some, IfErr, OnOk, OnErr, true, false};
 
+use broadcast::StepRefusal;
 use flusher_core::{HostRefusal, TakeRefusal};
 use gated_journal::{CreateFault, OpenFault, ReadFault};
 use host_session::HostFault;
@@ -43,7 +44,10 @@ impl fmt::Display for Refusal {
             Refusal::Recording(fault) => write!(f, "{}", Numbered(*fault)),
             Refusal::Create(fault) => write!(f, "journal {}", fault.number()),
             Refusal::Host(fault) => write!(f, "host {}", fault.number()),
-            Refusal::Book(refusal) => write!(f, "book {}", refusal.number()),
+            Refusal::Book(refusal) => {
+                let refusal = StepRefusal::Host(*refusal);
+                write!(f, "book {}", refusal.number())
+            }
         }
     }
 }

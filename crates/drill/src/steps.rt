@@ -5,7 +5,7 @@ ghost use Rattle.broadcast.specs.Steps.{IsSizedStep, IsStep};
 
 use crate::answer::Answer;
 use crate::fuse::Fuse;
-use broadcast::{Desk, Reply, Start, Step};
+use broadcast::{Desk, Reply, Start, Step, StepRefusal};
 use disk::FusedDisk;
 use drill_script::DeskLine;
 use rfb_wire::HostMessage;
@@ -73,7 +73,7 @@ fn host(
     };
     Ok(match reply {
         Ok(number) => Answer::Accepted(number),
-        Err(refused) => Answer::HostRefused(refused.why.number()),
+        Err(refused) => Answer::HostRefused(StepRefusal::Host(refused.why).number()),
     })
 }
 
@@ -87,7 +87,7 @@ fn take(alloc: Global, desk: &mut Desk<FusedDisk>) -> Result<Answer, AllocError>
             first: taken.first,
             count: taken.count,
         },
-        Err(refusal) => Answer::TakeRefused(refusal.number()),
+        Err(refusal) => Answer::TakeRefused(StepRefusal::Take(refusal).number()),
     })
 }
 
@@ -98,7 +98,7 @@ fn body(alloc: Global, desk: &mut Desk<FusedDisk>) -> Result<Answer, AllocError>
     };
     Ok(match reply {
         Ok(()) => Answer::Written,
-        Err(refusal) => Answer::BodyRefused(refusal.number()),
+        Err(refusal) => Answer::BodyRefused(StepRefusal::Flush(refusal).number()),
     })
 }
 
@@ -109,7 +109,7 @@ fn gate(alloc: Global, desk: &mut Desk<FusedDisk>) -> Result<Answer, AllocError>
     };
     Ok(match reply {
         Ok(slice) => { Answer::Committed(slice.first.saturating_add(slice.messages.len() as u64)) }
-        Err(refusal) => Answer::GateRefused(refusal.number()),
+        Err(refusal) => Answer::GateRefused(StepRefusal::Flush(refusal).number()),
     })
 }
 
@@ -123,7 +123,7 @@ fn join(alloc: Global, desk: &mut Desk<FusedDisk>, start: Start) -> Result<Answe
             seat: seated.number,
             position: seated.position,
         },
-        Err(refusal) => Answer::JoinRefused(refusal.number()),
+        Err(refusal) => Answer::JoinRefused(StepRefusal::Join(refusal).number()),
     })
 }
 
@@ -142,7 +142,7 @@ fn next(
             first: slice.first,
             count: slice.messages.len(),
         },
-        Err(refusal) => Answer::NextRefused(refusal.number()),
+        Err(refusal) => Answer::NextRefused(StepRefusal::Next(refusal).number()),
     })
 }
 
@@ -158,7 +158,7 @@ fn seek(
     };
     Ok(match reply {
         Ok(()) => Answer::Seated { seat, position },
-        Err(refusal) => Answer::SeekRefused(refusal.number()),
+        Err(refusal) => Answer::SeekRefused(StepRefusal::Seek(refusal).number()),
     })
 }
 
@@ -169,7 +169,7 @@ fn leave(alloc: Global, desk: &mut Desk<FusedDisk>, seat: u32) -> Result<Answer,
     };
     Ok(match reply {
         Ok(()) => Answer::Left(seat),
-        Err(refusal) => Answer::LeaveRefused(refusal.number()),
+        Err(refusal) => Answer::LeaveRefused(StepRefusal::Leave(refusal).number()),
     })
 }
 

@@ -1,6 +1,6 @@
 //! Why nothing is exported, or nothing read, with the numbers that programs print.
 
-ghost use Rattle.std.specs.Prelude.{◌≡◌, ◌-◌, ◌<◌, Some, slice_get};
+ghost use Rattle.std.specs.Prelude.{◌≡◌};
 ghost use Rattle.fbs_export.specs.Faults.{export_faults, fault_of, fbs_number};
 ghost use Rattle.fbs_export.specs.declared.fault.FbsFault.TheVariants.{NoMemory as FbsNoMemory};
 ghost use Rattle.fbs_export.specs.declared.fault.Stop.TheVariants.{NoMemory as StopNoMemory};
@@ -89,10 +89,11 @@ pub enum ExportFault {
 }
 
 impl ExportFault {
+    ghost use Rattle.terms.specs.Fault.{IsNumber};
+
     /// The number that programs print.
     pub fn number(self) -> u8
-        ensures value { slice_get export_faults (result - 1) ≡ Some self }
-        ensures some { 0 < result }
+        ensures { IsNumber export_faults self result }
     {
         self as u8
     }

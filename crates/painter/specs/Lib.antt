@@ -1,5 +1,6 @@
 pub mod Picture
 pub mod Pixels
+pub mod Areas
 pub mod Framebuffer
 pub mod Update
 pub mod Key

@@ -1,10 +1,11 @@
 //! Painting areas of places that are kept by rows.
 
-ghost use Rattle.std.specs.Prelude.{◌≡◌, ◌+◌, ◌-◌, ◌*◌, ◌<◌, ◌≤◌, ℕ, length, if◌then◌else◌};
+ghost use Rattle.std.specs.Prelude.{◌≡◌, ◌+◌, ◌*◌, ◌<◌, ◌≤◌, length};
 ghost use Rattle.std.specs.List.{CopiedTo, SameBelow, SameFrom};
+ghost use Rattle.painter.specs.Areas.{LiesIn, IsPainted};
 ghost use Rattle.painter.specs.Pixels.{color_in, color_of};
 ghost use Rattle.pixel_format.specs.Format.{host_format};
-ghost use Rattle.rect_codec.specs.Picture.{is_in, raw_picture, copied_picture};
+ghost use Rattle.rect_codec.specs.Picture.{raw_picture, copied_picture};
 
 use crate::pixel::Pixel;
 use crate::row::{TILE, fill_row, paint_row};
@@ -12,11 +13,9 @@ use terms::Area;
 
 /// Paints a Raw rectangle (RFC 6143, section 7.7.1), row by row.
 pub(crate) fn paint_raw(pixels: &mut [Pixel], width: u16, area: Area, bytes: &[u8])
-    requires columns { area.x + area.w ≤ width }
-    requires rows { (area.y + area.h) * width ≤ length pixels.old }
+    requires area { LiesIn width (length pixels.old) area }
     requires size { length bytes.now ≡ 4 * (area.w * area.h) }
-    ensures { (x y : ℕ) → x < width → color_in pixels.new width x y
-        ≡ (if is_in area x y then raw_picture host_format area bytes.now x y else color_in pixels.old width x y) }
+    ensures { IsPainted width area (raw_picture host_format area bytes.now) pixels.old pixels.new }
 {
     let (width, w) = (usize::from(width), usize::from(area.w));
     let (left, top) = (usize::from(area.x), usize::from(area.y));
@@ -30,10 +29,8 @@ pub(crate) fn paint_raw(pixels: &mut [Pixel], width: u16, area: Area, bytes: &[u
 // Gives the places of an area one colour, row by row.
 #[inline(always)]
 fn fill_rows(pixels: &mut [Pixel], width: u16, area: Area, pixel: Pixel, at_once: bool)
-    requires columns { area.x + area.w ≤ width }
-    requires rows { (area.y + area.h) * width ≤ length pixels.old }
-    ensures { (x y : ℕ) → x < width → color_in pixels.new width x y
-        ≡ (if is_in area x y then color_of pixel else color_in pixels.old width x y) }
+    requires { LiesIn width (length pixels.old) area }
+    ensures { IsPainted width area (λ x y. color_of pixel) pixels.old pixels.new }
 {
     let (width, w) = (usize::from(width), usize::from(area.w));
     let (left, top) = (usize::from(area.x), usize::from(area.y));
@@ -46,10 +43,8 @@ fn fill_rows(pixels: &mut [Pixel], width: u16, area: Area, pixel: Pixel, at_once
 // The same for wide areas: a function of its own, so that the one for small areas stays small.
 #[inline(never)]
 fn fill_wide_area(pixels: &mut [Pixel], width: u16, area: Area, pixel: Pixel)
-    requires columns { area.x + area.w ≤ width }
-    requires rows { (area.y + area.h) * width ≤ length pixels.old }
-    ensures { (x y : ℕ) → x < width → color_in pixels.new width x y
-        ≡ (if is_in area x y then color_of pixel else color_in pixels.old width x y) }
+    requires { LiesIn width (length pixels.old) area }
+    ensures { IsPainted width area (λ x y. color_of pixel) pixels.old pixels.new }
 {
     fill_rows(pixels, width, area, pixel, true);
 }
@@ -57,10 +52,8 @@ fn fill_wide_area(pixels: &mut [Pixel], width: u16, area: Area, pixel: Pixel)
 /// Gives the places of an area one colour.
 #[inline(always)]
 pub(crate) fn fill_area(pixels: &mut [Pixel], width: u16, area: Area, pixel: Pixel)
-    requires columns { area.x + area.w ≤ width }
-    requires rows { (area.y + area.h) * width ≤ length pixels.old }
-    ensures { (x y : ℕ) → x < width → color_in pixels.new width x y
-        ≡ (if is_in area x y then color_of pixel else color_in pixels.old width x y) }
+    requires { LiesIn width (length pixels.old) area }
+    ensures { IsPainted width area (λ x y. color_of pixel) pixels.old pixels.new }
 {
     if usize::from(area.w) < TILE {
         fill_rows(pixels, width, area, pixel, false);
@@ -92,13 +85,10 @@ fn copy_row(pixels: &mut [Pixel], from: usize, to: usize, count: usize)
 
 // Copies an area to one that stands no lower, from the top row to the bottom.
 fn copy_up(pixels: &mut [Pixel], width: u16, source: Area, area: Area)
-    requires columns { area.x + area.w ≤ width }
-    requires rows { (area.y + area.h) * width ≤ length pixels.old }
-    requires source_columns { source.x + area.w ≤ width }
-    requires source_rows { (source.y + area.h) * width ≤ length pixels.old }
+    requires area { LiesIn width (length pixels.old) area }
+    requires source { LiesIn width (length pixels.old) (record source { w = area.w; h = area.h }) }
     requires above { area.y ≤ source.y }
-    ensures { (x y : ℕ) → x < width → color_in pixels.new width x y
-        ≡ (if is_in area x y then copied_picture source area (color_in pixels.old width) x y else color_in pixels.old width x y) }
+    ensures { IsPainted width area (copied_picture source area (color_in pixels.old width)) pixels.old pixels.new }
 {
     let (width, w) = (usize::from(width), usize::from(area.w));
     let (left, top) = (usize::from(area.x), usize::from(area.y));
@@ -111,13 +101,10 @@ fn copy_up(pixels: &mut [Pixel], width: u16, source: Area, area: Area)
 
 // Copies an area to one that stands lower, from the bottom row to the top.
 fn copy_down(pixels: &mut [Pixel], width: u16, source: Area, area: Area)
-    requires columns { area.x + area.w ≤ width }
-    requires rows { (area.y + area.h) * width ≤ length pixels.old }
-    requires source_columns { source.x + area.w ≤ width }
-    requires source_rows { (source.y + area.h) * width ≤ length pixels.old }
+    requires area { LiesIn width (length pixels.old) area }
+    requires source { LiesIn width (length pixels.old) (record source { w = area.w; h = area.h }) }
     requires below { source.y < area.y }
-    ensures { (x y : ℕ) → x < width → color_in pixels.new width x y
-        ≡ (if is_in area x y then copied_picture source area (color_in pixels.old width) x y else color_in pixels.old width x y) }
+    ensures { IsPainted width area (copied_picture source area (color_in pixels.old width)) pixels.old pixels.new }
 {
     let (width, w) = (usize::from(width), usize::from(area.w));
     let (left, top) = (usize::from(area.x), usize::from(area.y));
@@ -133,12 +120,9 @@ fn copy_down(pixels: &mut [Pixel], width: u16, source: Area, area: Area)
 /// Copies an area of the same size to this one, as if it were read as a whole before anything is
 /// written (RFC 6143, section 7.7.2).
 pub(crate) fn copy_area(pixels: &mut [Pixel], width: u16, source: Area, area: Area)
-    requires columns { area.x + area.w ≤ width }
-    requires rows { (area.y + area.h) * width ≤ length pixels.old }
-    requires source_columns { source.x + area.w ≤ width }
-    requires source_rows { (source.y + area.h) * width ≤ length pixels.old }
-    ensures { (x y : ℕ) → x < width → color_in pixels.new width x y
-        ≡ (if is_in area x y then copied_picture source area (color_in pixels.old width) x y else color_in pixels.old width x y) }
+    requires area { LiesIn width (length pixels.old) area }
+    requires source { LiesIn width (length pixels.old) (record source { w = area.w; h = area.h }) }
+    ensures { IsPainted width area (copied_picture source area (color_in pixels.old width)) pixels.old pixels.new }
 {
     if area.y <= source.y {
         copy_up(pixels, width, source, area);

@@ -6,6 +6,7 @@ ghost use Rattle.pixel_format.specs.Pixel.{IsWithin};
 ghost use Rattle.pixel_format.specs.Canvas.{nth};
 ghost use Rattle.terms.specs.Appending.{Appends};
 ghost use Rattle.rect_codec.specs.Picture.{pixel_at};
+ghost use Rattle.rect_codec.specs.Room.{HaveRoom};
 ghost use Rattle.rect_codec.specs.Written.{IsPixelOf, ArePixels};
 
 use pixel_format::{Color, PixelFormat};
@@ -19,8 +20,7 @@ const TOGETHER: usize = 8;
 
 // Writes the pixels of colours, one behind the other.
 fn put_pixels(format: &PixelFormat, colors: &[Color], pixels: &mut [u8])
-    requires size { length pixels.old ≡ length colors.now * pixel_bytes format.now }
-    requires within { All (IsWithin format.now) colors.now }
+    requires { HaveRoom format.now colors.now (length pixels.old) }
     ensures { (k : ℕ) → k < length colors.now → IsPixelOf format.now (nth colors.now k) (pixel_at format.now pixels.new k) }
 {
     if format.is_host() {
@@ -38,8 +38,7 @@ fn put_pixels(format: &PixelFormat, colors: &[Color], pixels: &mut [u8])
 #[inline(always)]
 fn put_of_size(format: &PixelFormat, size: usize, colors: &[Color], pixels: &mut [u8])
     requires bytes { size ≡ pixel_bytes format.now }
-    requires size { length pixels.old ≡ length colors.now * pixel_bytes format.now }
-    requires within { All (IsWithin format.now) colors.now }
+    requires room { HaveRoom format.now colors.now (length pixels.old) }
     ensures { (k : ℕ) → k < length colors.now → IsPixelOf format.now (nth colors.now k) (pixel_at format.now pixels.new k) }
 {
     for (k, color) in colors.iter().enumerate() {
@@ -52,8 +51,7 @@ fn put_of_size(format: &PixelFormat, size: usize, colors: &[Color], pixels: &mut
 // vectors.
 #[inline(always)]
 fn put_in_eights(format: &PixelFormat, size: usize, colors: &[Color], pixels: &mut [u8])
-    requires within { All (IsWithin format.now) colors.now }
-    requires size { length pixels.old ≡ length colors.now * pixel_bytes format.now }
+    requires room { HaveRoom format.now colors.now (length pixels.old) }
     requires bytes { size ≡ pixel_bytes format.now }
     ensures { (k : ℕ) → k < length colors.now → IsPixelOf format.now (nth colors.now k) (pixel_at format.now pixels.new k) }
 {

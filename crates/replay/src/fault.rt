@@ -1,6 +1,7 @@
 //! Why no screen is answered, with the numbers that programs print.
 
-ghost use Rattle.std.specs.Prelude.{◌≡◌, ◌-◌, ◌<◌, Some, slice_get};
+ghost use Rattle.std.specs.Prelude.{◌≡◌};
+ghost use Rattle.terms.specs.Fault.{IsNumber};
 ghost use Rattle.replay.specs.Faults.{replay_faults, fault_of_read};
 ghost use Rattle.replay.specs.declared.fault.ReplayFault.TheVariants.{NoMemory as ReplayNoMemory};
 
@@ -44,8 +45,7 @@ impl From<AllocError> for ReplayFault {
 impl ReplayFault {
     /// The number that programs print.
     pub fn number(self) -> u64
-        ensures value { slice_get replay_faults (result - 1) ≡ Some self }
-        ensures some { 0 < result }
+        ensures { IsNumber replay_faults self result }
     {
         self as u64
     }

@@ -1,10 +1,13 @@
 pub use Rattle.terms.specs.Reading
 pub mod Fault
 pub mod Grammar
+pub mod Header
 pub mod Message
 pub mod Host
 pub mod Stream
 pub mod PartialMessage
+pub mod Judged
+pub mod Behind
 pub mod Reader
 pub mod Written
 pub mod Plain

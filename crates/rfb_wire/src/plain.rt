@@ -2,18 +2,16 @@
 
 ghost use Rattle.std.specs.Prelude.{◌≡◌, ◌+◌, ◌*◌, ◌<◌, ◌≤◌, slice_index, nat_eq, true, false, length, IfOk, IfSome, MatchOption};
 ghost use Rattle.terms.specs.Reading.{Got, More};
-ghost use Rattle.terms.specs.Reading as reading;
-ghost use Rattle.terms.specs.declared.wire_fault.WireFault.{WireFault};
 ghost use Rattle.rfb_wire.specs.Grammar.{rectangle_at, rectangles_at, update_at, color_map_at, text_at, other_at, message_at, message_limit, Recorded, ReadOver};
 ghost use Rattle.rfb_wire.specs.Plain.{Says, SaysMessage, kind_of};
 
 use crate::message::{HostMessage, Rectangle};
 use crate::progress::MESSAGE_LIMIT;
-use crate::step::{TEXT_LIMIT, area_at, encoding_at};
+use crate::step::{TEXT_LIMIT, judge_header};
 use pixel_format::PixelFormat;
-use rect_data::{Encoding, lies_inside, measure};
+use rect_data::measure;
 use std::alloc::Global;
-use terms::WireFault;
+use terms::{WireFault, field};
 
 /// The message that bytes begin with.
 #[derive(Drop)]
@@ -22,19 +20,6 @@ pub enum Front {
     Recorded(HostMessage),
     /// It is read over; it has so many bytes.
     ReadOver(usize),
-}
-
-// The first bytes, where there are so many, and the bytes behind them.
-fn field(count: usize, bytes: &[u8]) -> Option<(&[u8], &[u8])>
-    ensures reads { MatchOption result (reading.field {E = WireFault} count bytes.now ≡ More)
-        (λ x. reading.field {E = WireFault} count bytes.now ≡ Got x.0.now x.1.now) }
-    ensures lengths { IfSome result (λ x. (length x.0.now ≡ count)
-        × (count + length x.1.now ≡ length bytes.now)) }
-{
-    if bytes.len() < count {
-        return None;
-    }
-    Some(bytes.split_at(count))
 }
 
 // The rectangle that the bytes begin with, at a place of its message, and the bytes behind it.
@@ -52,14 +37,7 @@ fn rectangle(
     let Some((header, rest)) = field(12, bytes) else {
         return Ok(None);
     };
-    let area = area_at(header);
-    if !lies_inside(area, width, height) {
-        return Err(WireFault::OutsideScreen);
-    }
-    let number = encoding_at(header);
-    let Some(encoding) = Encoding::from_number(number) else {
-        return Err(WireFault::Encoding(number.cast_signed()));
-    };
+    let (area, encoding) = judge_header(width, height, header)?;
     let start = at + 12;
     let length = match measure(&PixelFormat::host(), width, height, encoding, area, rest) {
         Ok(Some(length)) => length,

@@ -139,6 +139,7 @@ impl Stage {
 
 impl PartialMessage {
     ghost use Rattle.rfb_wire.specs.PartialMessage.{unlimited_at, Follows, IsAt, IsInField, IsOver, After, passed_in};
+    ghost use Rattle.rfb_wire.specs.Judged.{Judged};
     ghost use Rattle.rfb_wire.specs.Grammar.{read_over};
 
     /// A reader at the start of a message.
@@ -186,11 +187,7 @@ impl PartialMessage {
     ) -> Result<(usize, Ending), WireFault>
         requires field { IsInField message_limit width height self.old }
         requires some { 0 < length piece.now }
-        ensures taken { IfOk result (λ x. (0 < x.0) × (x.0 ≤ length piece.now)) }
-        ensures goes { IfOk result (λ x. After message_limit width height self.new.bytes.items self.new x.1) }
-        ensures bytes { IfOk result (λ x. self.new.bytes.items ≡ self.old.bytes.items ++ take x.0 piece.now) }
-        ensures over { OnOk result (self.new.over ≡ self.old.over) }
-        ensures short { OnOk result (length self.new.bytes.items ≤ message_limit) }
+        ensures ok { IfOk result (λ x. Judged message_limit width height self.old self.new piece.now x.0 x.1) }
         ensures faults { IfErr result (λ f. UnlessMemory f (message_at message_limit width height (self.old.bytes.items ++ piece.now) ≡ Bad f)) }
     {
         let taken = take(&mut self.bytes, self.end, piece)?;
@@ -210,11 +207,7 @@ impl PartialMessage {
     fn judge(&mut self, width: u16, height: u16, piece: &[u8]) -> Result<(usize, Ending), WireFault>
         requires some { 0 < length piece.now }
         requires field { IsInField message_limit width height self.old }
-        ensures taken { IfOk result (λ x. (0 < x.0) × (x.0 ≤ length piece.now)) }
-        ensures goes { IfOk result (λ x. After message_limit width height self.new.bytes.items self.new x.1) }
-        ensures bytes { IfOk result (λ x. self.new.bytes.items ≡ self.old.bytes.items ++ take x.0 piece.now) }
-        ensures over { OnOk result (self.new.over ≡ self.old.over) }
-        ensures short { OnOk result (length self.new.bytes.items ≤ message_limit) }
+        ensures ok { IfOk result (λ x. Judged message_limit width height self.old self.new piece.now x.0 x.1) }
         ensures faults { IfErr result (λ f. UnlessMemory f (message_at message_limit width height (self.old.bytes.items ++ piece.now) ≡ Bad f)) }
     {
         if let Stage::Data {

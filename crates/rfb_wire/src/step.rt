@@ -7,6 +7,8 @@ ghost use Rattle.terms.specs.Number.{u16_at, u32_at};
 ghost use Rattle.rect_data.specs.Judging.{HasBytes};
 ghost use Rattle.rect_data.specs.Judging as judging;
 ghost use Rattle.rfb_wire.specs.Grammar.{message_limit, text_limit, read_over, text_data_at, area_of, encoding_number};
+ghost use Rattle.rfb_wire.specs.Behind.{IsBehind};
+ghost use Rattle.rfb_wire.specs.Header.{Names, IsRefusedBy};
 ghost use Rattle.rfb_wire.specs.PartialMessage.{wants_of, start_of, NextBegins, IsOfUpdate, IsOfKind, NextIsOfKind, resume, go_on, step_on, others_at, behind_data};
 
 use crate::message::Rectangle;
@@ -18,10 +20,10 @@ use terms::{Area, WireFault};
 /// The greatest number of bytes of a text that is recorded.
 pub const TEXT_LIMIT: u32 = 65_536;
 
-/// The area that the header of a rectangle names: x, y, width and height, the higher byte of each
-/// first (RFC 6143, section 7.6.1).
+// The area that the header of a rectangle names: x, y, width and height, the higher byte of each
+// first (RFC 6143, section 7.6.1).
 #[tactic(auto, unfolding(crate::specs::Grammar::area_of))]
-pub fn area_at(header: &[u8]) -> Area
+fn area_at(header: &[u8]) -> Area
     requires { length header.now ≡ 12 }
     ensures { result ≡ area_of header.now }
 {
@@ -33,13 +35,31 @@ pub fn area_at(header: &[u8]) -> Area
     }
 }
 
-/// The number of the encoding that the header of a rectangle names, as four unsigned bytes.
+// The number of the encoding that the header of a rectangle names, as four unsigned bytes.
 #[tactic(auto, unfolding(crate::specs::Grammar::encoding_number))]
-pub fn encoding_at(header: &[u8]) -> u32
+fn encoding_at(header: &[u8]) -> u32
     requires { length header.now ≡ 12 }
     ensures { result ≡ encoding_number header.now }
 {
     u32::from_be_bytes([header[8], header[9], header[10], header[11]])
+}
+
+/// The area and the encoding that the header of a rectangle names. An area that leaves the screen is
+/// refused, and then an encoding that isn't known.
+pub fn judge_header(width: u16, height: u16, header: &[u8]) -> Result<(Area, Encoding), WireFault>
+    requires { length header.now ≡ 12 }
+    ensures ok { IfOk result (λ x. Names width height header.now x.0 x.1) }
+    ensures faults { IfErr result (IsRefusedBy width height header.now) }
+{
+    let area = area_at(header);
+    if !lies_inside(area, width, height) {
+        return Err(WireFault::OutsideScreen);
+    }
+    let number = encoding_at(header);
+    let Some(encoding) = Encoding::from_number(number) else {
+        return Err(WireFault::Encoding(number.cast_signed()));
+    };
+    Ok((area, encoding))
 }
 
 // The header of the next of so many rectangles.
@@ -84,8 +104,7 @@ fn next_of_type(number: u8) -> Result<Next, WireFault>
 // Behind the type of a message.
 fn behind_type(field: &[u8]) -> Result<AfterField, WireFault>
     requires { length field.now ≡ 1 }
-    ensures goes { IfOk result (λ s. (width height : ℕ) → (more : List ℕ)
-        → resume width height Stage.Type (field.now ++ more) ≡ step_on width height s more) }
+    ensures goes { IfOk result (IsBehind Stage.Type field.now) }
     ensures begins { IfOk result (λ s. NextBegins 1 s.next) }
     ensures kind { IfOk result (λ s. NextIsOfKind s.next field.now) }
     ensures faults { IfErr result (λ f. (width height : ℕ) → (more : List ℕ)
@@ -104,8 +123,7 @@ fn behind_type(field: &[u8]) -> Result<AfterField, WireFault>
 // Behind the head of a colour map: six bytes for each colour.
 fn behind_color_map_head(field: &[u8]) -> AfterField
     requires { length field.now ≡ 5 }
-    ensures goes { (width height : ℕ) → (more : List ℕ)
-        → resume width height Stage.ColorMapHead (field.now ++ more) ≡ step_on width height result more }
+    ensures goes { IsBehind Stage.ColorMapHead field.now result }
     ensures begins { NextBegins 6 result.next }
     ensures kind { (bytes : List ℕ) → NextIsOfKind result.next bytes }
 {
@@ -135,8 +153,7 @@ fn next_text(count: u32) -> Next
 // Behind the head of a cut text.
 fn behind_text_head(field: &[u8]) -> AfterField
     requires { length field.now ≡ 7 }
-    ensures goes { (width height : ℕ) → (more : List ℕ)
-        → resume width height Stage.TextHead (field.now ++ more) ≡ step_on width height result more }
+    ensures goes { IsBehind Stage.TextHead field.now result }
     ensures begins { NextBegins 8 result.next }
     ensures kind { (bytes : List ℕ) → NextIsOfKind result.next bytes }
 {
@@ -164,8 +181,7 @@ fn behind_text(count: u32) -> AfterField
 // Behind the head of an update.
 fn behind_update_head(field: &[u8]) -> AfterField
     requires { length field.now ≡ 3 }
-    ensures goes { (width height : ℕ) → (more : List ℕ)
-        → resume width height Stage.UpdateHead (field.now ++ more) ≡ step_on width height result more }
+    ensures goes { IsBehind Stage.UpdateHead field.now result }
     ensures begins { NextBegins 4 result.next }
     ensures kind { (bytes : List ℕ) → IsOfUpdate bytes → NextIsOfKind result.next bytes }
 {
@@ -274,14 +290,7 @@ fn behind_header(
     ensures faults { IfErr result (λ f. (more : List ℕ)
         → resume width height (Stage.RectangleHead at others) (header.now ++ more) ≡ Bad f) }
 {
-    let area = area_at(header);
-    if !lies_inside(area, width, height) {
-        return Err(WireFault::OutsideScreen);
-    }
-    let number = encoding_at(header);
-    let Some(encoding) = Encoding::from_number(number) else {
-        return Err(WireFault::Encoding(number.cast_signed()));
-    };
+    let (area, encoding) = judge_header(width, height, header)?;
     let begun = Begun {
         start: at + 12,
         area,

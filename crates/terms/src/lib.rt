@@ -1,16 +1,19 @@
-//! What the crates above mean by one word: an area of a screen, a screen's size, what is wrong with
-//! a peer's bytes, want of memory; and, for contracts, readings, conversations and numbers.
+//! What the crates above mean by one word: an area of a screen, a screen's size, a field of bytes,
+//! what is wrong with a peer's bytes, want of memory; and, for contracts, readings, conversations
+//! and numbers.
 #![tactic(auto)]
 
 mod appending;
 mod area;
 mod format_fault;
+mod front;
 mod screen_size;
 mod wire_fault;
 
 pub use appending::whole_or_none;
 pub use area::Area;
 pub use format_fault::FormatFault;
+pub use front::field;
 pub use screen_size::is_size;
 pub use wire_fault::WireFault;
 

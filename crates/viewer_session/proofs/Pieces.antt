@@ -16,6 +16,7 @@ use Rattle.viewer_session.specs.declared.view.View.{View}
 use Rattle.viewer_session.specs.View.{AreTaken}
 use Rattle.viewer_session.specs.Stream.{Ends}
 use Rattle.viewer_session.specs.Session.{Session, IsAfter, IsStopped, Fed, Stopped}
+use Rattle.viewer_session.specs.Feeding.{KeepsView}
 use Rattle.viewer_session.proofs.Handshakes.{whole_more, bad_more}
 
 taken_append : (a b c : View) (ms ns : List ClientMessage) → AreTaken a b ms → AreTaken b c ns → AreTaken a c (ms ++ ns)
@@ -75,3 +76,14 @@ fed_stopped a b c stream front part behind told messages f fed stops =
           (append_assoc (stream ++ front) part behind ∙ append_assoc stream front (part ++ behind))
           (ends_more c.width c.height c.name c.reader ((stream ++ front) ++ part) behind (messages ++ (fed.more ++ g.more)) (told ++ c.due) f first);
     }
+
+-- what is kept twice is kept
+pub kept_again : (a b c : Session) → KeepsView a b → KeepsView b c → KeepsView a c
+kept_again a b c first then = record {
+  width = then.width ∙ first.width;
+  height = then.height ∙ first.height;
+  name = then.name ∙ first.name;
+  screen = then.screen ∙ first.screen;
+  position = then.position ∙ first.position;
+  right = λ head seen list right. then.right head seen list (first.right head seen list right);
+}

@@ -10,3 +10,4 @@ pub mod Greeting
 pub mod Stream
 pub mod Progress
 pub mod Session
+pub mod Feeding

@@ -9,7 +9,8 @@ ghost use Rattle.keyed_entries.specs.declared.entry.Stamped.{Stamped};
 ghost use Rattle.replay.specs.Slices.{Stands};
 ghost use Rattle.client_wire.specs.declared.message.ClientMessage.{ClientMessage};
 ghost use Rattle.viewer_session.specs.View.{IsRight, IsNext, AreStale, stale_at, is_stale_after, is_there, IsDue, Answers, IsOne};
-ghost use Rattle.viewer_session.specs.Session.{IsAfter, Fed, Stopped, closed_by};
+ghost use Rattle.viewer_session.specs.Session.{IsAfter, closed_by};
+ghost use Rattle.viewer_session.specs.Feeding.{Takes, StopsIn, KeepsView};
 
 use crate::fault::SessionFault;
 use crate::greeting::Greeting;
@@ -93,20 +94,11 @@ impl Session {
     // Takes a part of a piece.
     fn feed_part(&mut self, piece: &[u8]) -> Result<(), SessionFault>
         requires { self.old.fault ≡ None }
-        ensures goes { OnOk result ((stream told : List ℕ) → (messages : List ClientMessage)
-            → IsAfter self.old stream messages told
-            → Fed self.old self.new (stream ++ piece.now) messages told) }
-        ensures faults { IfErr result (λ f. (stream told : List ℕ)
-            → (messages : List ClientMessage) → IsAfter self.old stream messages told
-            → Stopped self.old self.new (stream ++ piece.now) messages told f) }
+        ensures goes { OnOk result (Takes self.old self.new piece.now) }
+        ensures faults { IfErr result (StopsIn self.old self.new piece.now) }
         ensures going { OnOk result (self.new.fault ≡ None) }
         ensures stopped { IfErr result (λ f. self.new.fault ≡ Some f) }
-        ensures right { (head : Head) → (seen : Picture) → (list : List Stamped)
-            → IsRight head self.old.view seen list → IsRight head self.new.view seen list }
-        ensures screen { self.new.view.screen ≡ self.old.view.screen }
-        ensures position { self.new.view.position ≡ self.old.view.position }
-        ensures told { (self.new.width ≡ self.old.width) × (self.new.height ≡ self.old.height)
-            × (self.new.name ≡ self.old.name) }
+        ensures kept { KeepsView self.old self.new }
     {
         let mut messages = Vec::new(self.alloc);
         let heard = self.progress.feed(self.alloc, piece, &mut messages);
@@ -123,24 +115,13 @@ impl Session {
     /// from then on each call answers the same fault and does nothing else, also where memory ran
     /// out.
     pub fn feed(&mut self, piece: &[u8]) -> Result<(), SessionFault>
-        // Whatever stream the session has got, it has got the piece too, and goes on.
-        ensures goes { OnOk result ((stream told : List ℕ) → (messages : List ClientMessage)
-            → IsAfter self.old stream messages told
-            → Fed self.old self.new (stream ++ piece.now) messages told) }
-        // A fault stands in the stream.
-        ensures faults { IfErr result (λ f. self.old.fault ≡ None → (stream told : List ℕ)
-            → (messages : List ClientMessage) → IsAfter self.old stream messages told
-            → Stopped self.old self.new (stream ++ piece.now) messages told f) }
+        ensures goes { OnOk result (Takes self.old self.new piece.now) }
+        ensures faults { IfErr result (λ f. self.old.fault ≡ None → StopsIn self.old self.new piece.now f) }
         ensures going { OnOk result (self.new.fault ≡ None) }
         ensures stopped { IfErr result (λ f. self.new.fault ≡ Some f) }
         ensures for_good { (f : SessionFault) → self.old.fault ≡ Some f
             → (result ≡ Err f) × (self.new ≡ self.old) }
-        ensures position { self.new.view.position ≡ self.old.view.position }
-        ensures screen { self.new.view.screen ≡ self.old.view.screen }
-        ensures told { (self.new.width ≡ self.old.width) × (self.new.height ≡ self.old.height)
-            × (self.new.name ≡ self.old.name) }
-        ensures right { (head : Head) → (seen : Picture) → (list : List Stamped)
-            → IsRight head self.old.view seen list → IsRight head self.new.view seen list }
+        ensures kept { KeepsView self.old self.new }
     {
         if let Some(fault) = self.fault {
             return Err(fault);

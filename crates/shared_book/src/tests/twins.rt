@@ -5,7 +5,9 @@ ghost use Rattle.flusher_core.specs.State.{accepted_count};
 
 use super::{UPDATE, confirm, find, new_desk};
 use crate::{Mark, Receipt, Shared, Ticket, Token};
-use broadcast::{Desk, JoinRefusal, LeaveRefusal, NextRefusal, Seat, SeekRefusal, Start};
+use broadcast::{
+    Desk, JoinRefusal, LeaveRefusal, NextRefusal, Seat, SeekRefusal, Start, StepRefusal,
+};
 use disk::{Disk, FailingDisk, MemoryDisk, Switch};
 use flusher_core::{FlushRefusal, HostRefused, TakeRefusal, Taken};
 use pixel_format::Color;
@@ -78,35 +80,35 @@ fn told_seat(seat: &Seat) -> Told {
 fn told_host(answer: Result<u64, HostRefused>) -> Told {
     match answer {
         Ok(number) => Told::Accepted(number),
-        Err(refused) => Told::Refused(refused.why.number()),
+        Err(refused) => Told::Refused(StepRefusal::Host(refused.why).number()),
     }
 }
 
 fn told_take(answer: Result<Taken, TakeRefusal>) -> Told {
     match answer {
         Ok(taken) => Told::Taken(taken.first, taken.count),
-        Err(refusal) => Told::Refused(refusal.number()),
+        Err(refusal) => Told::Refused(StepRefusal::Take(refusal).number()),
     }
 }
 
 fn told_body(answer: Result<(), FlushRefusal>) -> Told {
     match answer {
         Ok(()) => Told::Done,
-        Err(refusal) => Told::Refused(refusal.number()),
+        Err(refusal) => Told::Refused(StepRefusal::Flush(refusal).number()),
     }
 }
 
 fn told_seek(answer: Result<(), SeekRefusal>) -> Told {
     match answer {
         Ok(()) => Told::Done,
-        Err(refusal) => Told::Refused(refusal.number()),
+        Err(refusal) => Told::Refused(StepRefusal::Seek(refusal).number()),
     }
 }
 
 fn told_leave(answer: Result<(), LeaveRefusal>) -> Told {
     match answer {
         Ok(()) => Told::Done,
-        Err(refusal) => Told::Refused(refusal.number()),
+        Err(refusal) => Told::Refused(StepRefusal::Leave(refusal).number()),
     }
 }
 
@@ -115,7 +117,7 @@ fn gate_at_desk<D: Disk>(desk: &mut Desk<D>) -> Told
 {
     match desk.gate() {
         Ok(slice) => told_slice(&slice),
-        Err(refusal) => Told::Refused(refusal.number()),
+        Err(refusal) => Told::Refused(StepRefusal::Flush(refusal).number()),
     }
 }
 
@@ -132,7 +134,7 @@ fn join_at_desk<D: Disk>(
             seats.push(seat)?;
             Ok(told)
         }
-        Err(refusal) => Ok(Told::Refused(refusal.number())),
+        Err(refusal) => Ok(Told::Refused(StepRefusal::Join(refusal).number())),
     }
 }
 
@@ -141,7 +143,7 @@ fn next_at_desk<D: Disk>(desk: &mut Desk<D>, seat: &mut Seat) -> Told
 {
     match desk.next(seat, 8) {
         Ok(slice) => told_slice(&slice),
-        Err(refusal) => Told::Refused(refusal.number()),
+        Err(refusal) => Told::Refused(StepRefusal::Next(refusal).number()),
     }
 }
 
@@ -194,7 +196,7 @@ impl<M: Mark> Kept<M> {
                 self.tickets.push(ticket)?;
                 Ok(Told::Accepted(number))
             }
-            Err(refused) => Ok(Told::Refused(refused.why.number())),
+            Err(refused) => Ok(Told::Refused(StepRefusal::Host(refused.why).number())),
         }
     }
 
@@ -205,7 +207,7 @@ impl<M: Mark> Kept<M> {
                 self.seats.push(seat)?;
                 Ok(told)
             }
-            Err(refusal) => Ok(Told::Refused(refusal.number())),
+            Err(refusal) => Ok(Told::Refused(StepRefusal::Join(refusal).number())),
         }
     }
 
@@ -218,14 +220,14 @@ impl<M: Mark> Kept<M> {
     fn gate(&mut self, answer: Result<Receipt<M>, FlushRefusal>) -> Result<Told, NoMemory> {
         match answer {
             Ok(receipt) => self.receipt(receipt),
-            Err(refusal) => Ok(Told::Refused(refusal.number())),
+            Err(refusal) => Ok(Told::Refused(StepRefusal::Flush(refusal).number())),
         }
     }
 
     fn next(&mut self, answer: Result<Receipt<M>, NextRefusal>) -> Result<Told, NoMemory> {
         match answer {
             Ok(receipt) => self.receipt(receipt),
-            Err(refusal) => Ok(Told::Refused(refusal.number())),
+            Err(refusal) => Ok(Told::Refused(StepRefusal::Next(refusal).number())),
         }
     }
 }

@@ -17,7 +17,7 @@ loop-row-preserved c =
     let next : c.loop-row.row ≡ row + 1 = omega (arith, c.loop-row-test.true) in
     let so_far = rw (c.from-width.ensures, next) at c.loop-row.invariant.copied in
     let within : row < area.h = omega (arith, next, c.loop-row.invariant.some) in
-    let writes = row_copied c.loop-row.pixels c.copy_row.new.pixels width source area (rows_from area (row + 1)) initial row c.requires.columns c.requires.source_columns
+    let writes = row_copied c.loop-row.pixels c.copy_row.new.pixels width source area (rows_from area (row + 1)) initial row c.requires.area.columns c.requires.source.columns
     (λ k place. let top = place.top in omega (arith, c.requires.below)) so_far copied below behind in
     record {
       some = omega (arith, c.loop-row.invariant.some);

@@ -18,7 +18,7 @@ loop-row-preserved c = λ x y across.
     (rw (c.from-top.ensures, c.from-left.ensures, c.from-w.ensures, c.from-width.ensures) inside) c.paint_row.auto.row c.paint_row.ensures in
     let told : Written line c.args.bytes.now (row * area.w) area.w = rw c.from-w.ensures at told in
     let writes =
-    line_put c.loop-row.pixels line c.args.width area (raw_picture host_format area c.args.bytes.now) row c.requires.columns inside told.len (λ k lt. told.colors k lt ∙ raw_row area c.args.bytes.now row k lt) in
+    line_put c.loop-row.pixels line c.args.width area (raw_picture host_format area c.args.bytes.now) row c.requires.area.columns inside told.len (λ k lt. told.colors k lt ∙ raw_row area c.args.bytes.now row k lt) in
     let inv = rw c.from-width.ensures at (c.loop-row.invariant x y across) in
     rw (c.from-top.ensures, c.from-left.ensures, c.from-w.ensures, c.from-width.ensures, range_len ((area.y + row) * c.args.width + area.x) area.w)
     (row_below c.loop-row.pixels _ c.args.width area (raw_picture host_format area c.args.bytes.now) (color_in c.args.pixels.now c.args.width x y) row x y writes (omega (arith, across)) inv)

@@ -8,17 +8,12 @@ use Rattle.rect_codec.specs.Picture.{painted_data}
 use Rattle.painter.proofs.Screens.{has_data, source_within, rre_painted, hextile_painted, host_colors}
 use Rattle.painter.proofs.screen.Screen.paint_data.Goals as goal
 
-pub copy_area-requires-clause-source_columns : goal.copy_area-requires-clause-source_columns
-copy_area-requires-clause-source_columns c =
+pub copy_area-requires-clause-source : goal.copy_area-requires-clause-source
+copy_area-requires-clause-source c =
     let content = rw (c.in-CopyRect.is, ← c.self.view_is) at c.requires.content in
-    (source_within c.self.inside.width c.self.inside.height c.args.area c.source_at.result c.args.bytes.now c.source_at.ensures content).0
-
-pub copy_area-requires-clause-source_rows : goal.copy_area-requires-clause-source_rows
-copy_area-requires-clause-source_rows c =
-    let content = rw (c.in-CopyRect.is, ← c.self.view_is) at c.requires.content in
-    let within = (source_within c.self.inside.width c.self.inside.height c.args.area c.source_at.result c.args.bytes.now c.source_at.ensures content).1 in
-    let rows = mul-le-mul_left c.self.inside.width within in
-    omega (arith, rows, c.self.invariant, c.deref_mut-in-CopyRect.ensures.len)
+    let within = source_within c.self.inside.width c.self.inside.height c.args.area c.source_at.result c.args.bytes.now c.source_at.ensures content in
+    let rows = mul-le-mul_left c.self.inside.width within.1 in
+    record { columns = within.0; rows = omega (arith, rows, c.self.invariant, c.deref_mut-in-CopyRect.ensures.len) }
 
 pub paint-requires-clause-held : goal.paint-requires-clause-held
 paint-requires-clause-held c = λ pixel. rw c.host-host.ensures (host_colors pixel)

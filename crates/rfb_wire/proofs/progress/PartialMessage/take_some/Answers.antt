@@ -32,8 +32,8 @@ returns-in_err-kept-clause-faults c =
 pub give-requires : goal.give-requires
 give-requires c =
     let s = c.judge.new.self in
-    let whole = rw c.in-Whole.is at c.in_ok-taken.ensures.goes in
-    whole_recorded message_limit c.args.width c.args.height s.bytes.items s.bytes.items s.rectangles.items refl c.in_ok-taken.ensures.short whole
+    let whole = rw c.in-Whole.is at c.in_ok-taken.ensures.ok.goes in
+    whole_recorded message_limit c.args.width c.args.height s.bytes.items s.bytes.items s.rectangles.items refl c.in_ok-taken.ensures.ok.short whole
 
 pub returns-in-Field-clause-moves : goal.returns-in-Field-clause-moves
 returns-in-Field-clause-moves c = λ rest stands.
@@ -42,7 +42,7 @@ returns-in-Field-clause-moves c = λ rest stands.
     let piece = take c.in_ok-taken.taken c.args.piece.now in
     let same = stands_kept s.bytes.items (passed_in s.over) rest (ap passed_in c.in_default.is) stands in
     kept_stands message_limit c.args.width c.args.height t.bytes.items (passed_in t.over) c.args.out.now.items (rest ++ piece)
-    (ap (λ z. z ++ piece) same ∙ sym c.in_ok-taken.ensures.bytes) (ap passed_in (c.in_ok-taken.ensures.over ∙ c.in_default.is))
+    (ap (λ z. z ++ piece) same ∙ sym c.in_ok-taken.ensures.ok.bytes) (ap passed_in (c.in_ok-taken.ensures.ok.over ∙ c.in_default.is))
 
 pub returns-in_ok-give-in-Whole-clause-moves : goal.returns-in_ok-give-in-Whole-clause-moves
 returns-in_ok-give-in-Whole-clause-moves c = λ rest stands.
@@ -50,11 +50,11 @@ returns-in_ok-give-in-Whole-clause-moves c = λ rest stands.
     let t = c.judge.new.self in
     let piece = take c.in_ok-taken.taken c.args.piece.now in
     let kept = stands_kept s.bytes.items (passed_in s.over) rest (ap passed_in c.in_default.is) stands in
-    let whole = rw c.in-Whole.is at c.in_ok-taken.ensures.goes in
+    let whole = rw c.in-Whole.is at c.in_ok-taken.ensures.ok.goes in
     let rectangles = t.rectangles.items in
-    let recorded = whole_recorded message_limit c.args.width c.args.height t.bytes.items t.bytes.items rectangles refl c.in_ok-taken.ensures.short whole in
+    let recorded = whole_recorded message_limit c.args.width c.args.height t.bytes.items t.bytes.items rectangles refl c.in_ok-taken.ensures.ok.short whole in
     let stream = rest ++ piece in
-    let is : stream ≡ t.bytes.items = ap (λ z. z ++ piece) kept ∙ sym c.in_ok-taken.ensures.bytes in
+    let is : stream ≡ t.bytes.items = ap (λ z. z ++ piece) kept ∙ sym c.in_ok-taken.ensures.ok.bytes in
     record {
       rest = [];
       gives = gives_one (message_at message_limit c.args.width c.args.height) (given c.args.width c.args.height) c.args.out.now.items c.give.new.out.items
@@ -76,6 +76,6 @@ returns-in-ReadOver-clause-moves c = λ rest stands.
     let t = c.read_over.new.self in
     let piece = take c.in_ok-taken.taken c.args.piece.now in
     let kept = stands_kept s.bytes.items (passed_in s.over) rest (ap passed_in c.in_default.is) stands in
-    let is : c.judge.new.self.bytes.items ≡ rest ++ piece = c.in_ok-taken.ensures.bytes ∙ ap (λ z. z ++ piece) (sym kept) in
+    let is : c.judge.new.self.bytes.items ≡ rest ++ piece = c.in_ok-taken.ensures.ok.bytes ∙ ap (λ z. z ++ piece) (sym kept) in
     subst (λ z. Moves (message_at message_limit c.args.width c.args.height) (given c.args.width c.args.height) t.bytes.items (passed_in t.over) c.args.out.now.items c.args.out.now.items z)
     is (c.read_over.ensures.moves c.args.out.now.items)

@@ -2,7 +2,7 @@ use Rattle.std.proofs.Common.{◌≡◌, ◌++◌, List, ℕ, ◌∙◌, take, d
 use Rattle.std.proofs.lemmas.List.{take-append-drop}
 use Rattle.std.proofs.lemmas.Result.{err_from_is_err_and}
 use Rattle.viewer_session.specs.Session.{Stopped}
-use Rattle.viewer_session.proofs.Pieces.{fed_more, fed_stopped}
+use Rattle.viewer_session.proofs.Pieces.{fed_more, fed_stopped, kept_again}
 use Rattle.viewer_session.proofs.session.Session.feed.Goals as goal
 
 -- a part and what is behind it
@@ -23,16 +23,11 @@ parts-preserved c =
       going = now.going;
       fed = λ stream told messages h.
           fed_more c.args.self.now c.parts.self c.feed_part.new.self stream inv.front part told messages (inv.fed stream told messages h) (λ s t ms k. now.goes s t ms k);
-      right = λ head seen list r. now.right head seen list (inv.right head seen list r);
-      screen = now.screen ∙ inv.screen;
-      position = now.position ∙ inv.position;
-      width = now.told.0 ∙ inv.width;
-      height = now.told.1 ∙ inv.height;
-      name = now.told.2 ∙ inv.name;
+      kept = kept_again c.args.self.now c.parts.self c.feed_part.new.self inv.kept now.kept;
     }
 
-pub returns-in_err-feed_part-clause-right : goal.returns-in_err-feed_part-clause-right
-returns-in_err-feed_part-clause-right c = λ head seen list r. c.in_err-feed_part.ensures.right head seen list (c.parts.invariant.right head seen list r)
+pub returns-in_err-feed_part-clause-kept : goal.returns-in_err-feed_part-clause-kept
+returns-in_err-feed_part-clause-kept c = kept_again c.args.self.now c.parts.self c.feed_part.new.self c.parts.invariant.kept c.in_err-feed_part.ensures.kept
 
 pub returns-in_err-feed_part-clause-faults : goal.returns-in_err-feed_part-clause-faults
 returns-in_err-feed_part-clause-faults c =

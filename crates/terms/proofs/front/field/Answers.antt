@@ -1,7 +1,7 @@
 use Rattle.std.proofs.Common.{length, refl}
 use Rattle.std.proofs.lemmas.Bool.{lt-ltb, le-ltb}
 use Rattle.terms.specs.Reading as reading
-use Rattle.client_wire.proofs.plain.field.Goals as goal
+use Rattle.terms.proofs.front.field.Goals as goal
 
 pub returns-then-bytes-count-clause-reads : goal.returns-then-bytes-count-clause-reads
 unfolding reading.field
