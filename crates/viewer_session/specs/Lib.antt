@@ -3,6 +3,7 @@ pub use Rattle.terms.specs.Talk
 pub mod Bits
 pub mod Places
 pub mod View
+pub mod Encoded
 pub mod Fault
 pub mod Handshake
 pub mod Stage

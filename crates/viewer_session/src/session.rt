@@ -8,6 +8,7 @@ ghost use Rattle.gated_journal.specs.Recording.{Head};
 ghost use Rattle.keyed_entries.specs.declared.entry.Stamped.{Stamped};
 ghost use Rattle.replay.specs.Slices.{Stands};
 ghost use Rattle.client_wire.specs.declared.message.ClientMessage.{ClientMessage};
+ghost use Rattle.viewer_session.specs.Encoded.{IsEncodedFor};
 ghost use Rattle.viewer_session.specs.View.{IsRight, IsNext, AreStale, stale_at, is_stale_after, is_there, IsDue, Answers, IsOne};
 ghost use Rattle.viewer_session.specs.Session.{IsAfter, closed_by};
 ghost use Rattle.viewer_session.specs.Feeding.{Takes, StopsIn, KeepsView};
@@ -180,7 +181,7 @@ impl Session {
     }
 
     /// Appends the handshake's answers that are due, each byte once, and then the update that is
-    /// due, whose places are taken as clean. Want of memory changes nothing. After a fault it still
+    /// due, in the encoding that the viewer asked for, whose places are taken as clean. Want of memory changes nothing. After a fault it still
     /// gives what was due.
     pub fn answer(&mut self, out: &mut Vec<u8>) -> Result<(), NoMemory>
         ensures due { OnOk result (IsDue self.old.view
@@ -188,6 +189,8 @@ impl Session {
             (out.old.items ++ self.old.due) out.new.items) }
         ensures one { OnOk result (IsDue self.old.view
             → Appends (IsOne self.old.view) (out.old.items ++ self.old.due) out.new.items) }
+        ensures encoded { OnOk result (IsDue self.old.view
+            → Appends (IsEncodedFor self.old.view) (out.old.items ++ self.old.due) out.new.items) }
         ensures none { OnOk result ((IsDue self.old.view → ⊥)
             → (out.new.items ≡ out.old.items ++ self.old.due)
             × (self.new.view ≡ self.old.view)) }

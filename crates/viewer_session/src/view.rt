@@ -14,6 +14,7 @@ ghost use Rattle.keyed_entries.specs.declared.entry.Stamped.{Stamped};
 ghost use Rattle.keyed_entries.specs.Entry.{hosts_of};
 ghost use Rattle.replay.specs.Slices.{Stands};
 ghost use Rattle.viewer_session.specs.Places.{holds, AreJust, SameSize, IsSmallest};
+ghost use Rattle.viewer_session.specs.Encoded.{IsEncodedFor};
 ghost use Rattle.viewer_session.specs.View.{IsRight, IsSound, IsNext, AreStale, stale_at, is_stale_after, is_there, is_touched, is_touched_by, is_pending, IsDue, IsDueIn, IsPart, IsCut, IsAsked, IsTaken, AreTaken, Answers, IsOne, AreConverted};
 
 use crate::places::Places;
@@ -224,6 +225,8 @@ impl View {
             → Appends (Answers self.old self.new) out.old.items out.new.items) }
         ensures one { OnOk result (IsDue self.old
             → Appends (IsOne self.old) out.old.items out.new.items) }
+        ensures encoded { OnOk result (IsDue self.old
+            → Appends (IsEncodedFor self.old) out.old.items out.new.items) }
         ensures none { OnOk result ((IsDue self.old → ⊥)
             → (out.new.items ≡ out.old.items) × (self.new ≡ self.old)) }
         ensures err { OnErr result ((out.new.items ≡ out.old.items) × (self.new ≡ self.old)) }

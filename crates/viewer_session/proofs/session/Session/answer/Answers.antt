@@ -1,5 +1,6 @@
 use Rattle.std.proofs.Common.{List, ℕ, subst}
 use Rattle.terms.specs.Appending.{Appends}
+use Rattle.viewer_session.specs.Encoded.{IsEncodedFor}
 use Rattle.viewer_session.specs.View.{Answers, IsOne}
 use Rattle.viewer_session.proofs.session.Session.answer.Goals as goal
 
@@ -10,3 +11,7 @@ returns-clause-due c = rw (← c.self.view_is) (λ due.
 pub returns-clause-one : goal.returns-clause-one
 returns-clause-one c = rw (← c.self.view_is) (λ due.
     subst (λ (o : List ℕ). Appends (IsOne c.self.inside.view) o c.answer.new.out.items) c.in_ok-sent.ensures.ok (c.in_default.ensures.one due))
+
+pub returns-clause-encoded : goal.returns-clause-encoded
+returns-clause-encoded c = rw (← c.self.view_is) (λ due.
+    subst (λ (o : List ℕ). Appends (IsEncodedFor c.self.inside.view) o c.answer.new.out.items) c.in_ok-sent.ensures.ok (c.in_default.ensures.encoded due))

@@ -1,6 +1,7 @@
 use Rattle.std.proofs.Common.{List, subst}
 use Rattle.pixel_format.specs.declared.Color.{Color}
 use Rattle.rect_codec.specs.Written.{IsUpdateFor}
+use Rattle.viewer_session.specs.Encoded.{IsEncodedFor}
 use Rattle.viewer_session.specs.View.{IsDueIn, stale_at}
 use Rattle.viewer_session.proofs.Answered.{within_screen, answers_one, is_one, appended}
 use Rattle.viewer_session.proofs.view.View.answer.Goals as goal
@@ -36,3 +37,10 @@ remove-requires c =
     let v = c.args.self.now in
     let due : IsDueIn v c.in-Some.area = c.in-Some.ensures.some in
     rw (c.requires.sound.width, c.requires.sound.height) (within_screen v.screen.width v.screen.height v.pending (stale_at v) c.in-Some.area c.requires.sound.pending due.smallest)
+
+pub returns-in_ok-write_update-clause-encoded : goal.returns-in_ok-write_update-clause-encoded
+returns-in_ok-write_update-clause-encoded c = λ _.
+    let v = c.args.self.now in
+    appended (IsUpdateFor v.format c.in-Some.area c.deref.result.now v.encoding) (IsEncodedFor v) c.args.out.now.items c.write_update.new.out.items
+    (λ update u. record { area = c.in-Some.area; colors = c.deref.result.now; is = u })
+    c.in_ok-write_update.ensures.ok
