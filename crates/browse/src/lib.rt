@@ -3,7 +3,7 @@
 
 mod answer;
 mod connection;
-mod page;
+pub mod page;
 mod request;
 mod serving;
 mod site;
@@ -11,6 +11,3 @@ mod site;
 pub use request::{Asked, Fault, Judged, asked_by, judge};
 pub use serving::{Browsing, browse, browse_on};
 pub use sockets::Stop;
-
-#[cfg(test)]
-mod tests;

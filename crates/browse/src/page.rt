@@ -1,4 +1,4 @@
-//! The page, its script and its style.
+//! The page, its script and its style, as they are answered.
 
 /// The page, in HTML.
 pub const PAGE: &str = r#"<!doctype html>

@@ -50,11 +50,7 @@ impl<W: Write> StretchSink for Members<'_, W> {
         write!(
             self.out,
             "{{\"time\":{},\"message\":{},\"block\":{},\"updates\":{},\"bytes\":{}}}",
-            stretch.time,
-            stretch.message,
-            stretch.block,
-            stretch.updates,
-            stretch.bytes
+            stretch.time, stretch.message, stretch.block, stretch.updates, stretch.bytes
         )
     }
 }

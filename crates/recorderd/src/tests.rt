@@ -1,6 +1,8 @@
 //! The command line: what the program prints, and how it ends.
 
+mod browsing;
 mod files;
+mod serving;
 
 use crate::command::command;
 use file_disk::Progress;

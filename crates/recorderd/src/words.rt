@@ -102,14 +102,13 @@ fn frames<'a>(alloc: Global) -> Result<Command<'a>, AllocError> {
             "Example: recorderd frames r --rate 10 | ffmpeg -f image2pipe -framerate 10 -i - r.mp4",
         )
         .arg(required(alloc, "PATH", "The recording"))?
-        .arg(
-            option(
-                alloc,
-                "rate",
-                "RATE",
-                "How many pictures a second of the recording, 1 to 60",
-            ).required(true),
-        )?
+        .arg(option(
+            alloc,
+            "rate",
+            "RATE",
+            "How many pictures a second of the recording, 1 to 60",
+        )
+        .required(true))?
         .arg(option(
             alloc,
             "from",
@@ -185,17 +184,8 @@ fn flag<'a>(alloc: Global, name: &'a str, help: &'a str) -> Arg<'a> {
 // What ends a server from outside.
 fn with_stops<'a>(alloc: Global, command: Command<'a>) -> Result<Command<'a>, AllocError> {
     command
-        .arg(option(
-            alloc,
-            "seconds",
-            "SECONDS",
-            "Ends after so many seconds",
-        ))?
-        .arg(flag(
-            alloc,
-            "until-input-ends",
-            "Ends once standard input ends",
-        ))
+        .arg(option(alloc, "seconds", "SECONDS", "Ends after so many seconds"))?
+        .arg(flag(alloc, "until-input-ends", "Ends once standard input ends"))
 }
 
 // What `serve` takes beside what it records and shows: how it ends, and what it tells.

@@ -12,6 +12,3 @@ pub use connections::{Audience, Origin, Plan, Playing};
 pub use playing::Pace;
 pub use serving::{serve, serve_on};
 pub use sockets::Stop;
-
-#[cfg(test)]
-mod tests;

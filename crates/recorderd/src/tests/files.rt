@@ -373,8 +373,7 @@ fn an_output_that_is_full(rt: HostRuntime) -> Result<(), Fail> {
 }
 
 // Of black at first, and of the newest screen once the last message has come.
-const FRAMES: &[u8] =
-    b"P6\n3 1\n255\n\0\0\0\0\0\0\0\0\0P6\n3 1\n255\n\xff\0\0\xff\0\0\xff\0\0";
+const FRAMES: &[u8] = b"P6\n3 1\n255\n\0\0\0\0\0\0\0\0\0P6\n3 1\n255\n\xff\0\0\xff\0\0\xff\0\0";
 
 // Of the time of the first message alone.
 const FRAME: &[u8] = b"P6\n3 1\n255\n\xff\0\0\0\xff\0\0\0\xff";
@@ -386,7 +385,10 @@ fn frames_are_written(rt: HostRuntime) -> Result<(), Fail> {
     for (options, frames) in [("", FRAMES), (" --from 5 --to 21", FRAME)] {
         let line = format!(in rt.alloc(); "recorderd frames filmed --rate 60{options}")?;
         let (status, out, err) = written(rt, &line, "")?;
-        assert!(rt; status == 0 && out.as_slice() == frames && err.is_empty(), "{options}");
+        assert!(rt;
+            status == 0 && out.as_slice() == frames && err.is_empty(),
+            "{options}"
+        );
     }
     fs::remove_file(rt, "filmed")?;
     Ok(())
@@ -404,7 +406,10 @@ fn times_are_listed(rt: HostRuntime) -> Result<(), Fail> {
     let all = "0 time 0 message 0 block 0 updates 3 bytes 61\n";
     let each =
         "0 time 0 message 0 block 0 updates 1 bytes 20\ntime 1500 message 1 block 0 updates 1 bytes 21\ntime 3000 message 3 block 1 updates 1 bytes 20\n";
-    say(&rt, &[("times timed", all), ("times timed --every 1", each)])?;
+    say(
+        &rt,
+        &[("times timed", all), ("times timed --every 1", each)],
+    )?;
     without(&rt, &files);
     Ok(())
 }

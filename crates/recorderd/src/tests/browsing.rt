@@ -1,7 +1,7 @@
 //! The page over loopback, in one process with a browser of the test.
 
-use crate::page::{PAGE, SCRIPT, STYLE};
-use crate::{Browsing, Stop, browse_on};
+use browse::page::{PAGE, SCRIPT, STYLE};
+use browse::{Browsing, Stop, browse_on};
 use file_disk::Progress;
 use std::fs::File;
 use std::io::{Read, Write};

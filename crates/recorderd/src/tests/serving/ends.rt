@@ -4,7 +4,7 @@ use super::peers::{
     ALL, BLACK, CHANGES, GREEN, Peer, Place, RED, silent_viewer, small_host, viewer,
 };
 use super::{checked, recorded};
-use crate::{Audience, Origin};
+use serve::{Audience, Origin};
 use std::alloc::Global;
 use std::fs;
 use std::net::{Net, TcpListener, TcpStream};

@@ -1,9 +1,10 @@
 //! How a host ends, and a recording without one.
 
-use super::peers::{ALL, BLACK, CHANGES, GREEN, RED, deaf_host, listener, small_host, viewer};
+use super::peers::{
+    ALL, BLACK, CHANGES, GREEN, Peer, Place, RED, deaf_host, listener, small_host, viewer,
+};
 use super::{checked, plan_of, recorded, serve_while};
-use crate::tests::peers::{Peer, Place};
-use crate::{Audience, Origin};
+use serve::{Audience, Origin};
 use std::fs;
 use std::net::{Net, TcpListener, TcpStream};
 use std::test::Fail;

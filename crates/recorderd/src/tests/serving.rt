@@ -7,10 +7,10 @@ mod peers;
 mod recordings;
 mod viewers;
 
-use crate::{Audience, Origin, Plan, Stop, serve_on};
 use file_commands::{Check, run};
 use file_disk::Progress;
 use peers::{Place, listener};
+use serve::{Audience, Origin, Plan, Stop, serve_on};
 use std::fs::File;
 use std::net::{Net, TcpListener, TcpStream};
 use std::rt::Files;

@@ -2,7 +2,7 @@
 
 use super::peers::{ALL, BLACK, CHANGES, GREEN, Peer, Place, RED, listener, viewer};
 use super::{checked, plan_of, serve_while};
-use crate::{Audience, Origin, Pace, Plan, Playing};
+use serve::{Audience, Origin, Pace, Plan, Playing};
 use std::fs;
 use std::net::{Net, TcpListener, TcpStream};
 use std::test::Fail;

@@ -1,11 +1,10 @@
 //! Viewers of a host.
 
 use super::peers::{
-    ALL, BLACK, CHANGES, GREEN, RED, large_host, silent_viewer, small_host, viewer,
+    ALL, BLACK, CHANGES, GREEN, Place, RED, large_host, silent_viewer, small_host, viewer,
 };
 use super::{checked, recorded};
-use crate::tests::peers::Place;
-use crate::{Audience, Origin};
+use serve::{Audience, Origin};
 use std::net::{Net, TcpListener, TcpStream};
 use std::test::Fail;
 
