@@ -6,11 +6,11 @@ mod twins;
 
 ghost use Rattle.std.specs.Prelude.{◌≡◌, [], IfOk};
 
-use crate::{Closed, Mark, Receipt, Ticket};
+use crate::desk_of_one_place;
 use broadcast::Desk;
 use disk::Disk;
-use flusher_core::Book;
-use gated_journal::{Header, ReadFault};
+use gated_journal::ReadFault;
+use shared_book::{Closed, Mark, Receipt, Ticket};
 use std::alloc::Global;
 use std::process::Abort;
 use std::sync::Wait;
@@ -21,17 +21,11 @@ const UPDATE: [u8; 20] = [
     0, 0, 0, 1, 0, 0, 0, 0, 0, 1, 0, 1, 0, 0, 0, 0, 0, 0, 0xff, 0,
 ];
 
-// A desk over a new recording of one place.
 fn new_desk<D: Disk + Drop>(alloc: Global, disk: D) -> Result<Desk<D>, Fail>
     ensures width { IfOk result (λ desk. desk.head.width ≡ 1) }
     ensures height { IfOk result (λ desk. desk.head.height ≡ 1) }
 {
-    let header = Header::new(alloc, 1, 1, 4, b"x")?;
-    let book = match Book::create(alloc, disk, header) {
-        Ok(book) => book,
-        Err(refused) => Err(refused.fault)?,
-    };
-    Ok(Desk::new(book))
+    Ok(desk_of_one_place(alloc, disk).ok_or("no desk")?)
 }
 
 // Each receipt is confirmed; a reading that meets a fault is made again. How many messages they have.

@@ -4,7 +4,6 @@
 ghost use Rattle.std.specs.Prelude.{◌≡◌, ◌<◌, IfOk, OnOk};
 
 use super::{HANDSHAKE, answered};
-use crate::Session;
 use client_wire::{write_request, write_set_encodings, write_set_pixel_format};
 use key_index::Stamped;
 use painter::Screen;
@@ -14,6 +13,7 @@ use rfb_wire::HostMessage;
 use std::alloc::Global;
 use std::test::Fail;
 use terms::Area;
+use viewer_session::Session;
 
 // The screen's size: of four tiles, three of which aren't whole.
 const WIDTH: u16 = 20;

@@ -4,13 +4,13 @@ ghost use Rattle.std.specs.Prelude.{◌≡◌, IfOk};
 ghost use Rattle.flusher_core.specs.State.{accepted_count};
 
 use super::{UPDATE, confirm, find, new_desk};
-use crate::{Mark, Receipt, Shared, Ticket, Token};
 use broadcast::{Desk, JoinRefusal, LeaveRefusal, NextRefusal, Seat, SeekRefusal, Start};
 use disk::{Disk, FailingDisk, MemoryDisk, Switch};
 use flusher_core::{FlushRefusal, HostRefused, TakeRefusal, Taken};
 use pixel_format::Color;
 use replay::Slice;
 use rfb_wire::{BytesFault, HostMessage};
+use shared_book::{Mark, Receipt, Shared, Ticket, Token};
 use std::alloc::Global;
 use std::marker::Brand;
 use std::process::Abort;

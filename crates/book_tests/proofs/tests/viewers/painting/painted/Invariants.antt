@@ -1,5 +1,5 @@
 use Rattle.std.proofs.Common.{◌≡◌}
-use Rattle.viewer_session.proofs.tests.viewer.painted.Given as goal
+use Rattle.book_tests.proofs.tests.viewers.painting.painted.Given as goal
 
 -- both keep their size
 abbrev pub invariant-loop : goal.invariant-loop

@@ -2,7 +2,6 @@
 
 ghost use Rattle.std.specs.Prelude.{◌≡◌, IfOk};
 
-use crate::{Session, SessionFault, is_whole};
 use client_wire::write_request;
 use key_index::Stamped;
 use painter::Screen;
@@ -11,8 +10,9 @@ use rfb_wire::HostMessage;
 use std::alloc::Global;
 use std::test::Fail;
 use terms::{Area, FormatFault, WireFault};
+use viewer_session::{Session, SessionFault, is_whole};
 
-mod viewer;
+mod painting;
 
 // A viewer's handshake: its version, the type None, and a shared-flag.
 const HANDSHAKE: [u8; 14] = *b"RFB 003.008\n\x01\x01";
@@ -119,42 +119,31 @@ fn greeting(rt: HostRuntime) -> Result<(), Fail> {
     Ok(())
 }
 
-// Another version: the fault at each call from then on, and the reason once.
+// Another version, and another type: the fault at each call from then on, and the reason once.
 #[test]
-fn another_version(rt: HostRuntime) -> Result<(), Fail> {
+fn refusals(rt: HostRuntime) -> Result<(), Fail> {
     let alloc = rt.alloc();
-    let mut session = new_session(alloc)?;
-    assert!(rt;
-        refuses(
-            &mut session,
-            [b"RFB 003.003\n\x01", b""],
-            SessionFault::Version
-        )
-    );
-    session.close();
-    assert!(rt; feed(&mut session, &HANDSHAKE) == Err(SessionFault::Version));
-    for answer in [b"RFB 003.008\n\0\0\0\0\x10only RFB 003.008".as_slice(), b""] {
-        assert!(rt; put_out(alloc, &mut session)?.as_slice() == answer);
+    let rows: [(&[u8], SessionFault, &[u8]); 2] = [
+        (
+            b"RFB 003.003\n\x01",
+            SessionFault::Version,
+            b"RFB 003.008\n\0\0\0\0\x10only RFB 003.008",
+        ),
+        (
+            b"RFB 003.008\n\x02",
+            SessionFault::Security,
+            b"RFB 003.008\n\x01\x01\0\0\0\x01\0\0\0\x09only None",
+        ),
+    ];
+    for (piece, fault, told) in rows {
+        let mut session = new_session(alloc)?;
+        assert!(rt; refuses(&mut session, [piece, b"\x01"], fault));
+        session.close();
+        assert!(rt; feed(&mut session, &HANDSHAKE) == Err(fault));
+        for answer in [told, b""] {
+            assert!(rt; put_out(alloc, &mut session)?.as_slice() == answer);
+        }
     }
-    Ok(())
-}
-
-// Another type.
-#[test]
-fn another_security(rt: HostRuntime) -> Result<(), Fail> {
-    let alloc = rt.alloc();
-    let mut session = new_session(alloc)?;
-    assert!(rt;
-        refuses(
-            &mut session,
-            [b"RFB 003.008\n\x02", b"\x01"],
-            SessionFault::Security
-        )
-    );
-    let told = put_out(alloc, &mut session)?;
-    assert!(rt;
-        told.as_slice() == b"RFB 003.008\n\x01\x01\0\0\0\x01\0\0\0\x09only None".as_slice()
-    );
     Ok(())
 }
 
