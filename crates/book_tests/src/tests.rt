@@ -10,3 +10,5 @@ mod index;
 mod journal;
 mod lines;
 mod replays;
+mod shared;
+mod viewers;

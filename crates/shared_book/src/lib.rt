@@ -20,6 +20,3 @@ pub use parties::{HostSource, Point, ReceiptSink, Turnstile, ViewerSink, ViewerW
 pub use receipt::{Ending, Receipt, Ticket};
 pub use shared::Shared;
 pub use workers::{FlusherEnd, ViewerEnd, run_flusher, run_host, run_viewer};
-
-#[cfg(test)]
-mod tests;

@@ -16,6 +16,3 @@ pub use fault::SessionFault;
 pub use handshake::is_whole;
 pub use laws::{a_refused_stream_is_not_followed, any_cut_gives_the_same};
 pub use session::Session;
-
-#[cfg(test)]
-mod tests;

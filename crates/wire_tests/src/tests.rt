@@ -1,13 +1,12 @@
-//! What no clause says: values worked by hand, against what the crates make of them.
+//! What no clause and no vector says: data that are made at random, what is written, and want of
+//! memory.
 
 mod client_messages;
-mod formats;
 mod hextile_data;
 mod host_messages;
 mod host_sessions;
-mod keys;
+mod laws;
 mod readers;
-mod rectangles;
 mod rre_data;
 mod samples;
 mod screens;

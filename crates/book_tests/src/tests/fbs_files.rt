@@ -52,29 +52,6 @@ fn a_message_that_is_cut_off(rt: HostRuntime) -> Result<(), Fail> {
     Ok(())
 }
 
-#[test]
-fn a_cut_file_is_counted(rt: HostRuntime) -> Result<(), Fail> {
-    let alloc = rt.alloc();
-    let file = two_blocks(alloc)?;
-    let whole = Counted {
-        width: 1,
-        height: 1,
-        messages: 1,
-        rest: 0,
-    };
-    assert!(rt; counted(alloc, &file)? == whole);
-    let unfinished = Counted {
-        width: 1,
-        height: 1,
-        messages: 0,
-        rest: 7,
-    };
-    assert!(rt; counted(alloc, file.get(..80).ok_or("short")?)? == unfinished);
-    let cut = counted(alloc, file.get(..70).ok_or("short")?);
-    assert!(rt; cut.err() == Some(FbsFault::Truncated));
-    Ok(())
-}
-
 // A block at time 7 of a black update, no colours of a colour map, which aren't recorded, a Bell, and
 // a red update: 47 bytes, padded with 255.
 const SEVERAL: [u8; 56] =

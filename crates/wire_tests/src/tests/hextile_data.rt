@@ -1,155 +1,16 @@
-//! What no clause says: Hextile data and pictures worked by hand, and data that a host sent.
+//! What no clause says: Hextile data that are made at random, and how short the encoder's are.
 
-ghost use Rattle.std.specs.Prelude.{◌≡◌, ℕ, IfOk, All, ◌/◌, ◌%◌, length, ◌<◌, ◌≤◌, ◌+◌, ◌*◌, slice_index_or, if◌then◌else◌};
-ghost use Rattle.pixel_format.specs.Canvas.{covers};
-ghost use Rattle.pixel_format.specs.Pixel.{IsWithin, IsScreenColor};
+ghost use Rattle.std.specs.Prelude.{◌≡◌, IfOk, length, ◌<◌, ◌≤◌, ◌*◌};
 
-use crate::pieces::hextile_in_pieces;
-use crate::test_canvas::TestCanvas;
+use crate::Kind;
 use crate::tests::samples::{
     BLACK, BLUE, EIGHT, GREEN, RED, SIXTEEN, WHITE, any_color, below, converted, pixel_of, shows,
 };
-use hextile::{
-    Measure, Subrectangle, encode, grammar_reads_data, measure, no_data_begin_others,
-    one_reading_of_data, paint,
-};
+use hextile::{Subrectangle, encode, measure};
 use pixel_format::{Color, PixelFormat};
 use std::alloc::Global;
 use std::test::Fail;
 use terms::NoMemory;
-
-// The rectangle that the bytes are, in the upper left corner of a white sheet.
-fn painted(format: &PixelFormat, w: u16, h: u16, bytes: &[u8]) -> Result<TestCanvas, Measure>
-    requires columns { w ≤ 320 }
-    requires rows { h ≤ 120 }
-{
-    let length = measure(format, w, h, bytes)?;
-    let mut test_canvas = TestCanvas::new(WHITE);
-    paint(format, 0, 0, w, h, &bytes[..length], &mut test_canvas);
-    Ok(test_canvas)
-}
-
-// 17 by 17 places: a red tile, one of the same background, a blue one, and one of the same
-// background.
-const FOUR_TILES: [u8; 12] = [2, 0, 0, 255, 0, 0, 2, 255, 0, 0, 0, 0];
-
-#[test]
-fn colors_carried_over(rt: HostRuntime) -> Result<(), Fail> {
-    let host = PixelFormat::host();
-    let test_canvas = painted(&host, 17, 17, &FOUR_TILES)?;
-    assert!(rt; test_canvas.color(0, 0) == RED);
-    assert!(rt; test_canvas.color(16, 0) == RED);
-    assert!(rt; test_canvas.color(0, 16) == BLUE);
-    assert!(rt; test_canvas.color(16, 16) == BLUE);
-    assert!(rt; test_canvas.color(17, 16) == WHITE);
-    assert!(rt; test_canvas.color(16, 17) == WHITE);
-    Ok(())
-}
-
-#[test]
-fn whole_at_the_last_byte(rt: HostRuntime) {
-    let host = PixelFormat::host();
-    for n in 0..12 {
-        assert!(rt; measure(&host, 17, 17, &FOUR_TILES[..n]) == Err(Measure::NeedMore));
-    }
-    assert!(rt; measure(&host, 17, 17, &FOUR_TILES) == Ok(12));
-    grammar_reads_data();
-    one_reading_of_data();
-    no_data_begin_others();
-}
-
-// What is answered to the bytes, whole and in pieces; `None` where the two differ, or where a
-// beginning of theirs is answered otherwise than that more is needed.
-fn answer(w: u16, h: u16, bytes: &[u8]) -> Option<Result<usize, Measure>> {
-    let host = PixelFormat::host();
-    for n in 0..bytes.len() {
-        let whole = measure(&host, w, h, &bytes[..n]);
-        let pieces = hextile_in_pieces(&host, w, h, &bytes[..n]);
-        if whole != Err(Measure::NeedMore) || pieces != whole {
-            return None;
-        }
-    }
-    let whole = measure(&host, w, h, bytes);
-    if hextile_in_pieces(&host, w, h, bytes) != whole {
-        return None;
-    }
-    Some(whole)
-}
-
-// A tile of a background and two coloured subrectangles, the second of which is in rows 1 and 2.
-const TWO_COLORED: [u8; 18] =
-    *b"\x1a\x01\x02\x03\x04\x02\x05\x06\x07\x08\x20\x01\x05\x06\x07\x08\x11\x11";
-
-#[test]
-fn masks_refused_at_once(rt: HostRuntime) {
-    let bad = Some(Err(Measure::Bad));
-    // no background; bits that mean nothing; a foreground beside coloured subrectangles; no
-    // foreground
-    for mask in [0, 4, 8, 12, 16, 24, 34, 66, 130, 22, 30, 10] {
-        assert!(rt; answer(3, 2, &[mask]) == bad);
-    }
-    // no foreground in the second tile; a raw tile in between names nothing
-    let rows: [(u16, u16, &[u8], Result<usize, Measure>); 3] = [
-        (17, 1, b"\x02\0\0\0\0\x08", Err(Measure::Bad)),
-        (17, 1, b"\x02\0\0\0\0\x04\0\0\0\0", Ok(10)),
-        (1, 17, b"\x12\0\0\0\0\x10", Ok(6)),
-    ];
-    for (w, h, bytes, expected) in rows {
-        assert!(rt; answer(w, h, bytes) == Some(expected));
-    }
-}
-
-#[test]
-fn masks_behind_raw_tiles(rt: HostRuntime) -> Result<(), Fail> {
-    let mut raw = vec![in rt.alloc(); 7; 65]?;
-    raw[0] = 255;
-    assert!(rt; answer(16, 1, &raw) == Some(Ok(65)));
-    raw.push(0)?;
-    assert!(rt; answer(17, 1, &raw) == Some(Err(Measure::Bad)));
-    Ok(())
-}
-
-#[test]
-fn subrectangles_refused_at_the_last_byte(rt: HostRuntime) {
-    let rows: [(u16, &[u8], Result<usize, Measure>); 7] = [
-        (
-            2,
-            b"\x0e\x01\x02\x03\x04\x05\x06\x07\x08\x01\x10\x11",
-            Ok(12),
-        ),
-        (
-            2,
-            b"\x0e\x01\x02\x03\x04\x05\x06\x07\x08\x01\x20\x10",
-            Err(Measure::Bad),
-        ),
-        (
-            2,
-            b"\x0e\x01\x02\x03\x04\x05\x06\x07\x08\x01\x01\x01",
-            Err(Measure::Bad),
-        ),
-        (
-            2,
-            b"\x0e\x01\x02\x03\x04\x05\x06\x07\x08\x01\x30\0",
-            Err(Measure::Bad),
-        ),
-        (2, &TWO_COLORED, Err(Measure::Bad)),
-        (3, &TWO_COLORED, Ok(18)),
-        (2, b"\x1a\x01\x02\x03\x04\0", Ok(6)),
-    ];
-    for (h, bytes, expected) in rows {
-        assert!(rt; answer(3, h, bytes) == Some(expected));
-    }
-}
-
-#[test]
-fn no_area(rt: HostRuntime) -> Result<(), Fail> {
-    assert!(rt; answer(0, 7, &[]) == Some(Ok(0)));
-    assert!(rt; measure(&PixelFormat::host(), 65_535, 0, &[9]) == Ok(0));
-    let mut bytes = vec![in rt.alloc(); 9]?;
-    encode(&PixelFormat::host(), 0, 5, &[], &mut bytes)?;
-    assert!(rt; bytes.as_slice() == [9].as_slice());
-    Ok(())
-}
 
 // What a tile says.
 #[derive(Drop)]
@@ -297,7 +158,7 @@ fn as_the_plain_way(rt: HostRuntime) -> Result<(), Fail> {
             }
         }
         assert!(rt; measure(&host, w, h, &bytes) == Ok(bytes.len()));
-        let test_canvas = painted(&host, w, h, &bytes)?;
+        let test_canvas = Kind::Hextile.painted(&host, w, h, &bytes)?;
         for row in 0..h {
             for column in 0..w {
                 assert!(rt; test_canvas.color(column, row) == plain(&tiles, w, column, row));
@@ -344,7 +205,7 @@ fn comes_through(
     let Some(data) = bytes.strip_prefix(&[9, 9]) else {
         return Ok(false);
     };
-    let test_canvas = painted(format, w, h, data)?;
+    let test_canvas = Kind::Hextile.painted(format, w, h, data)?;
     Ok(shows(&test_canvas, w, h, &colors) && measure(format, w, h, data) == Ok(data.len()))
 }
 

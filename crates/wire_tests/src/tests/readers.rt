@@ -1,6 +1,4 @@
-//! What readers of either side make of bytes in pieces.
-
-ghost use Rattle.std.specs.Prelude.{◌<◌};
+//! What readers of either side make of bytes while memory lasts.
 
 use client_wire::{ClientMessage, ClientReader};
 use host_session::{HostFault, HostSession};
@@ -32,30 +30,45 @@ impl Reader<HostMessage, HostFault> for HostSession {
     }
 }
 
-/// What a reader makes of bytes that come in pieces of this length: its messages, and its fault.
-pub(crate) fn read_in_pieces<M: Drop, R: Reader<M, WireFault>>(
-    alloc: Global,
-    reader: &mut R,
-    bytes: &[u8],
-    length: usize,
-) -> (Vec<M>, Option<WireFault>)
-    requires { 0 < length }
-{
-    let mut messages = Vec::new(alloc);
-    let mut fault = None;
-    for piece in bytes.chunks(length) {
-        fault = reader.take(piece, &mut messages).err();
-    }
-    (messages, fault)
+/// What has a number that tells the messages of a test apart.
+pub(crate) trait Marked {
+    fn mark(&self) -> usize;
 }
 
-/// What a reader makes of the bytes, one by one, while memory lasts: its messages, and whether it
-/// lasted. `None` where another fault comes, or anything behind that one but the same fault.
-pub(crate) fn read_while_memory_lasts<M: Drop, R: Reader<M, WireFault>>(
+impl Marked for ClientMessage {
+    // Its type.
+    fn mark(&self) -> usize {
+        match self {
+            ClientMessage::SetPixelFormat(_) => 0,
+            ClientMessage::SetEncodings(_) => 2,
+            ClientMessage::Request { .. } => 3,
+            ClientMessage::Input(kind) => usize::from(*kind),
+        }
+    }
+}
+
+impl Marked for HostMessage {
+    // Its length.
+    fn mark(&self) -> usize {
+        self.bytes().len()
+    }
+}
+
+fn have_marks<M: Marked>(messages: &[M], marks: &[usize]) -> bool {
+    messages
+        .iter()
+        .zip(marks)
+        .all(|(message, mark)| message.mark() == *mark)
+}
+
+/// Whether a reader gives the messages with these marks, of bytes that come one by one; or, where
+/// memory is wanting, the first of them, and that fault at each call from then on.
+pub(crate) fn gives<M: Marked + Drop, R: Reader<M, WireFault>>(
     alloc: Global,
     reader: &mut R,
     bytes: &[u8],
-) -> Option<(Vec<M>, bool)> {
+    marks: &[usize],
+) -> bool {
     let mut messages = Vec::new(alloc);
     let mut stopped = None;
     for piece in bytes.chunks(1) {
@@ -64,9 +77,10 @@ pub(crate) fn read_while_memory_lasts<M: Drop, R: Reader<M, WireFault>>(
         let is_memory = fault.is_none() || fault == Some(WireFault::NoMemory);
         let goes_on = stopped.is_some() && (fault != stopped || messages.len() != before);
         if !is_memory || goes_on {
-            return None;
+            return false;
         }
         stopped = fault;
     }
-    Some((messages, stopped.is_none()))
+    let is_right = messages.len() <= marks.len() && have_marks(&messages, marks);
+    is_right && (stopped.is_some() || messages.len() == marks.len())
 }

@@ -1,109 +1,18 @@
-//! What no clause says: RRE data and pictures worked by hand.
+//! What no clause says: RRE data that are made at random, and how short the encoder's are.
 
-ghost use Rattle.std.specs.Prelude.{◌≡◌, ℕ, IfOk, All, ◌/◌, ◌%◌, length, ◌<◌, ◌≤◌, ◌+◌, ◌*◌, ◌∷◌, [], slice_index_or, if◌then◌else◌};
-ghost use Rattle.pixel_format.specs.Canvas.{covers};
-ghost use Rattle.pixel_format.specs.Pixel.{IsWithin, IsScreenColor};
+ghost use Rattle.std.specs.Prelude.{◌≡◌, IfOk, length, ◌*◌};
 
-use crate::test_canvas::TestCanvas;
+use crate::Kind;
 use crate::tests::samples::{
     BLACK, EIGHT, GREEN, RED, SIXTEEN, WHITE, any_color, below, converted, pixel_of, shows,
 };
 use pixel_format::{Color, PixelFormat};
-use rre::{
-    Measure, Subrectangle, encode, grammar_reads_data, measure, no_data_begin_others,
-    one_reading_of_data, paint,
-};
+use rre::{Subrectangle, encode, measure};
 use std::alloc::Global;
 use std::test::Fail;
 use terms::NoMemory;
 
 mod shortness;
-
-// The rectangle that the bytes are, in the upper left corner of a white sheet.
-fn painted(format: &PixelFormat, w: u16, h: u16, bytes: &[u8]) -> Result<TestCanvas, Measure>
-    requires columns { w ≤ 320 }
-    requires rows { h ≤ 120 }
-{
-    let length = measure(format, w, h, bytes)?;
-    let mut test_canvas = TestCanvas::new(WHITE);
-    paint(format, 0, 0, w, h, &bytes[..length], &mut test_canvas);
-    Ok(test_canvas)
-}
-
-// 4 by 4: black; red at (0, 0), 3 by 3; green at (2, 2), 2 by 2; blue at (1, 0), of no width.
-const FOUR_BY_FOUR: [u8; 44] = [
-    0, 0, 0, 3, 0, 0, 0, 0, 0, 0, 255, 0, 0, 0, 0, 0, 0, 3, 0, 3, 0, 255, 0, 0, 0, 2, 0, 2, 0, 2,
-    0, 2, 255, 0, 0, 0, 0, 1, 0, 0, 0, 0, 0, 4,
-];
-
-#[test]
-fn four_by_four(rt: HostRuntime) -> Result<(), Fail> {
-    let host = PixelFormat::host();
-    let test_canvas = painted(&host, 4, 4, &FOUR_BY_FOUR)?;
-    assert!(rt; test_canvas.color(1, 1) == RED);
-    assert!(rt; test_canvas.color(2, 2) == GREEN);
-    assert!(rt; test_canvas.color(3, 3) == GREEN);
-    assert!(rt; test_canvas.color(0, 3) == BLACK);
-    assert!(rt; test_canvas.color(4, 3) == WHITE);
-    assert!(rt; test_canvas.color(3, 4) == WHITE);
-    Ok(())
-}
-
-#[test]
-fn whole_at_the_last_byte(rt: HostRuntime) {
-    let host = PixelFormat::host();
-    for n in 0..44 {
-        assert!(rt; measure(&host, 4, 4, &FOUR_BY_FOUR[..n]) == Err(Measure::NeedMore));
-    }
-    assert!(rt; measure(&host, 4, 4, &FOUR_BY_FOUR) == Ok(44));
-    grammar_reads_data();
-    one_reading_of_data();
-    no_data_begin_others();
-}
-
-// The second subrectangle, which ends at byte 32, is the first to leave a rectangle of 3 columns,
-// or of 3 rows.
-#[test]
-fn refused_at_the_last_byte(rt: HostRuntime) {
-    let host = PixelFormat::host();
-    for n in 0..45 {
-        let answer = Err(if n < 32 {
-            Measure::NeedMore
-        } else {
-            Measure::Bad
-        });
-        assert!(rt; measure(&host, 3, 4, &FOUR_BY_FOUR[..n]) == answer);
-        assert!(rt; measure(&host, 4, 3, &FOUR_BY_FOUR[..n]) == answer);
-    }
-}
-
-// A rectangle of no area has a background, and takes subrectangles of no area.
-#[test]
-fn no_area(rt: HostRuntime) {
-    let host = PixelFormat::host();
-    assert!(rt; measure(&host, 0, 0, &[0, 0, 0, 0, 1, 2, 3, 4]) == Ok(8));
-    let mut one = [0; 20];
-    one[3] = 1;
-    assert!(rt; measure(&host, 0, 0, &one) == Ok(20));
-    one[17] = 1;
-    assert!(rt; measure(&host, 0, 0, &one) == Err(Measure::Bad));
-    assert!(rt; measure(&host, 1, 0, &one) == Ok(20));
-}
-
-#[test]
-fn one_place_of_each_width(rt: HostRuntime) -> Result<(), Fail> {
-    let host = PixelFormat::host();
-    let one = painted(&host, 1, 1, &[0, 0, 0, 0, 1, 2, 3, 4])?;
-    assert!(rt; one.color(0, 0) == Color { r: 3, g: 2, b: 1 });
-    let sixteen = PixelFormat::read(&SIXTEEN)?;
-    let one = painted(&sixteen, 1, 1, &[0, 0, 0, 0, 0xfc, 0x01])?;
-    assert!(rt; one.color(0, 0) == Color { r: 31, g: 32, b: 1 });
-    let eight = PixelFormat::read(&EIGHT)?;
-    let covered = [0, 0, 0, 1, 0, 0b10_001_111, 0, 0, 0, 0, 0, 1, 0, 1];
-    let one = painted(&eight, 1, 1, &covered)?;
-    assert!(rt; one.color(0, 0) == Color { r: 7, g: 1, b: 2 });
-    Ok(())
-}
 
 // A subrectangle within 16 by 12 places, in one of a few colours.
 fn any_part(seed: &mut u64) -> Subrectangle {
@@ -156,7 +65,7 @@ fn as_the_plain_way(rt: HostRuntime) -> Result<(), Fail> {
         }
         let bytes = written(rt.alloc(), background, &parts)?;
         assert!(rt; measure(&host, 16, 12, &bytes) == Ok(bytes.len()));
-        let test_canvas = painted(&host, 16, 12, &bytes)?;
+        let test_canvas = Kind::Rre.painted(&host, 16, 12, &bytes)?;
         for row in 0..12 {
             for column in 0..16 {
                 assert!(rt;
@@ -197,7 +106,7 @@ fn comes_through(alloc: Global, format: &PixelFormat, picture: &[Color]) -> Resu
     let Some(data) = bytes.strip_prefix(&[9, 9]) else {
         return Ok(false);
     };
-    let test_canvas = painted(format, 16, 12, data)?;
+    let test_canvas = Kind::Rre.painted(format, 16, 12, data)?;
     Ok(shows(&test_canvas, 16, 12, &colors) && measure(format, 16, 12, data) == Ok(data.len()))
 }
 

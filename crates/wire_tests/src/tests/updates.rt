@@ -1,8 +1,6 @@
 //! What no clause says: updates worked by hand.
 
-ghost use Rattle.std.specs.Prelude.{◌≡◌, ℕ, IfOk, All, ◌/◌, ◌%◌, length, ◌<◌, ◌≤◌, ◌+◌, ◌*◌, slice_index_or, if◌then◌else◌};
-ghost use Rattle.pixel_format.specs.Canvas.{covers};
-ghost use Rattle.pixel_format.specs.Pixel.{IsWithin, IsScreenColor};
+ghost use Rattle.std.specs.Prelude.{◌≡◌, IfOk, length, ◌*◌};
 
 use crate::test_canvas::TestCanvas;
 use crate::tests::samples::{EIGHT, GREEN, RED, SIXTEEN, WHITE, area, below, converted};
@@ -137,34 +135,6 @@ fn no_area(rt: HostRuntime) -> Result<(), Fail> {
     for encoding in ALL {
         let out = update(rt.alloc(), &PixelFormat::host(), place, &[], encoding)?;
         assert!(rt; out.as_slice() == head.as_slice());
-    }
-    Ok(())
-}
-
-// 16 by 16 red places at (5, 7): a background alone.
-#[test]
-fn red_square(rt: HostRuntime) -> Result<(), Fail> {
-    let place = area(5, 7, 16, 16);
-    let host = PixelFormat::host();
-    let rre = [
-        9, 0, 0, 0, 1, 0, 5, 0, 7, 0, 16, 0, 16, 0, 0, 0, 2, 0, 0, 0, 0, 0, 0, 255, 0,
-    ];
-    let hextile = [
-        9, 0, 0, 0, 1, 0, 5, 0, 7, 0, 16, 0, 16, 0, 0, 0, 5, 2, 0, 0, 255, 0,
-    ];
-    let raw = update(rt.alloc(), &host, place, &[RED; 256], Encoding::Raw)?;
-    let short = update(rt.alloc(), &host, place, &[RED; 256], Encoding::Rre)?;
-    let shorter = update(rt.alloc(), &host, place, &[RED; 256], Encoding::Hextile)?;
-    assert!(rt; raw.len() == 1 + 1_040);
-    assert!(rt; short.as_slice() == rre.as_slice());
-    assert!(rt; shorter.as_slice() == hextile.as_slice());
-    for out in [raw, short, shorter] {
-        let test_canvas = painted(&host, &out[1..])?;
-        for k in 0..1024u16 {
-            let (x, y) = (k % 32, k / 32);
-            let inside = 5 <= x && x < 21 && 7 <= y && y < 23;
-            assert!(rt; test_canvas.color(x, y) == (if inside { RED } else { WHITE }));
-        }
     }
     Ok(())
 }

@@ -1,13 +1,7 @@
-//! Key screens: a recording written out by hand from the format, and what a stop leaves of one.
+//! Key screens: a recording written out by hand from the format.
 
-ghost use Rattle.std.specs.Prelude.{◌≤◌, IfOk};
-
-use super::super::adding::{is_ready, stamped_row, steps_passed};
-use super::super::replays::{COLORS, COPY, recording};
-use super::stops::{FILLS, fused};
-use super::{BELL, Told, created_as, disk_of, fault_of, fault_with, opened, shows_blocks, stands};
-use disk::{Disk, Fill, MemoryDisk, Switch};
-use gated_journal::Header;
+use super::{disk_of, fault_of, fault_with, opened, stands};
+use disk::Disk;
 use key_index::{IndexFault, Indexed};
 use std::alloc::{AllocError, Global};
 use std::test::Fail;
@@ -42,13 +36,6 @@ fn a_recording_with_a_key_screen_is_opened(rt: HostRuntime) -> Result<(), Fail> 
     assert!(rt; key_of(alloc, &mut index, 0)?.is_none());
     let key = key_of(alloc, &mut index, 1)?.ok_or("no key")?;
     assert!(rt; key.as_slice() == &KEYED[106..134]);
-    Ok(())
-}
-
-#[test]
-fn key_screens_are_written_byte_for_byte(rt: HostRuntime) -> Result<(), Fail> {
-    let index = recording(rt.alloc())?;
-    assert!(rt; index.close().bytes() == KEYED.as_slice());
     Ok(())
 }
 
@@ -109,94 +96,5 @@ fn key_screens_are_in_raw_or_hextile(rt: HostRuntime) -> Result<(), Fail> {
     assert!(rt; fault_of(alloc, &file)? == differs);
     let file = with_key(alloc, 2, (0x4a, 0x24), rre)?;
     assert!(rt; fault_of(alloc, &file)? == differs);
-    Ok(())
-}
-
-/// Messages of which each paints another screen, but for the last.
-const MESSAGES: [Told; 4] = [
-    Told {
-        time: 1,
-        bytes: &COLORS,
-    },
-    Told {
-        time: 2,
-        bytes: &COPY,
-    },
-    Told {
-        time: 3,
-        bytes: &COPY,
-    },
-    Told {
-        time: 3,
-        bytes: &BELL,
-    },
-];
-
-// Adds a block of one message: how many of its two steps over the disk pass.
-fn one_block<D: Disk>(alloc: Global, index: &mut Indexed<D>, told: &Told) -> Result<usize, Fail>
-    ensures most { IfOk result (λ steps. steps ≤ 2) }
-{
-    let is_short = told.bytes.len() <= 1_000;
-    if !is_short || !is_ready(index, told.time) || index.header().size() != (3, 1) {
-        return Err("no block may follow".into());
-    }
-    let messages = [stamped_row(alloc, told.time, told.bytes)?];
-    steps_passed(alloc, index, &messages)
-}
-
-// A new recording with a key interval of 1, to which a block of each message is added on a disk that
-// stops after so many calls: how many of their eight steps pass, and what the stop leaves.
-fn stopped_after(alloc: Global, calls: u64, fill: Fill) -> Result<(usize, MemoryDisk), Fail> {
-    let switch = Switch::new(alloc)?;
-    let header = Header::new(alloc, 3, 1, 1, b"r")?;
-    let mut index = created_as(alloc, fused(alloc, &switch)?, header)?;
-    switch.stop_after(calls);
-    let mut steps = 0usize;
-    for told in &MESSAGES {
-        let passed = one_block(alloc, &mut index, told)?;
-        steps = steps.saturating_add(passed);
-        if passed < 2 {
-            break;
-        }
-    }
-    Ok((steps, index.close().left(fill)))
-}
-
-// Whether a recording has the first so many of the messages, in blocks of their own, each but the
-// first with a key screen.
-fn begins_as_told<D: Disk>(index: &mut Indexed<D>, count: usize) -> Result<bool, Fail> {
-    let blocks: [&[Told]; 4] = [
-        &MESSAGES[..1],
-        &MESSAGES[1..2],
-        &MESSAGES[2..3],
-        &MESSAGES[3..],
-    ];
-    let last = count.saturating_sub(1) as u64;
-    let shown = shows_blocks(index, &blocks[..count.min(4)])?;
-    Ok(shown && index.key_before(count as u64) == last)
-}
-
-// Three of the four blocks have a key screen. As many calls as all of them make are fewer than 40.
-#[test]
-fn a_stop_between_key_screens_leaves_what_was_committed(rt: HostRuntime) -> Result<(), Fail> {
-    let alloc = rt.alloc();
-    for fill in FILLS {
-        let mut most = 0;
-        for calls in 0..40 {
-            let (steps, left) = stopped_after(alloc, calls, fill)?;
-            let mut index = opened(alloc, left)?;
-            let count = index.committed() as usize;
-            assert!(rt;
-                count == steps / 2 || count == steps.div_ceil(2),
-                "after {calls}"
-            );
-            assert!(rt;
-                begins_as_told(&mut index, count)?,
-                "after {calls}, at {fill:?}"
-            );
-            most = steps;
-        }
-        assert!(rt; most == 8);
-    }
     Ok(())
 }

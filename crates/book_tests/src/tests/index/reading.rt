@@ -1,60 +1,16 @@
-//! Blocks that are read back: which of them are kept, what a damaged byte does, and how many
-//! messages are handed on at a time.
+//! Blocks that are read back: what a damaged byte does, and how many messages are handed on at a
+//! time.
 
 ghost use Rattle.std.specs.Prelude.{◌+◌, ◌<◌, ◌^◌, false, [], length};
 
 use super::damage::TWO_KEYS;
-use super::{BELLS_AND_RED, EMPTY, FIRST, SECOND, are_told, disk_of, opened, shows_blocks};
-use disk::{Disk, DiskFault, FailingDisk, Switch};
+use super::{BELLS_AND_RED, FIRST, SECOND, are_told, disk_of, opened, shows_blocks};
+use disk::{Disk, DiskFault};
 use gated_journal::ReadFault;
 use key_index::Indexed;
-use std::alloc::{AllocError, Global};
 use std::sync::Arc;
 use std::sync::atomic::{AtomicU64, Ordering};
 use std::test::Fail;
-
-// A recording of five blocks of one bell each, at times 0 to 4, without key screens.
-fn five_bells(alloc: Global) -> Result<Vec<u8>, AllocError> {
-    let mut file = Vec::from_slice(alloc, &EMPTY[..17])?;
-    file[13] = 9;
-    for time in 0..5 {
-        file.extend_from_slice(b"O\x00\x00\x00\x0a\x00\x01\x00\x00\x00\x00")?;
-        file.push(time)?;
-        file.extend_from_slice(b"\x00\x00\x00\x01\x02")?;
-    }
-    file.push(b'C')?;
-    Ok(file)
-}
-
-// The time of the first message of block `b`, as it is read.
-fn time_in<D: Disk>(index: &mut Indexed<D>, b: u64) -> Result<Option<u32>, ReadFault> {
-    if index.blocks() <= b {
-        return Ok(None);
-    }
-    Ok(index.read(b)?.first().map(|stamped| stamped.time))
-}
-
-// A call is armed to fail throughout: a block that is read without any is kept. Block 0 is kept no
-// more once all five were read, and block 1 once block 0 is read again.
-#[test]
-fn four_blocks_are_kept(rt: HostRuntime) -> Result<(), Fail> {
-    let alloc = rt.alloc();
-    let switch = Switch::new(alloc)?;
-    let disk = FailingDisk::new(disk_of(alloc, &five_bells(alloc)?)?, switch.clone()?);
-    let mut index = opened(alloc, disk)?;
-    for b in 0..5u32 {
-        assert!(rt; time_in(&mut index, u64::from(b)) == Ok(Some(b)));
-    }
-    for (kept, lost) in [([1, 2, 3, 4], 0u32), ([2, 3, 4, 0], 1)] {
-        switch.fail_after(0);
-        for b in kept {
-            assert!(rt; time_in(&mut index, u64::from(b)) == Ok(Some(b)), "{b}");
-        }
-        assert!(rt; time_in(&mut index, u64::from(lost)) == Err(ReadFault::Device));
-        assert!(rt; time_in(&mut index, u64::from(lost)) == Ok(Some(lost)));
-    }
-    Ok(())
-}
 
 /// No place of a file.
 const NOWHERE: u64 = u64::MAX;

@@ -1,0 +1,63 @@
+//! What no clause says: that the workers run beside each other, and that a call through the lock
+//! answers what a desk's call answers. Updates and colours are worked by hand.
+
+mod parallel;
+mod twins;
+
+ghost use Rattle.std.specs.Prelude.{◌≡◌, [], IfOk};
+
+use crate::desk_of_one_place;
+use broadcast::Desk;
+use disk::Disk;
+use gated_journal::ReadFault;
+use shared_book::{Closed, Mark, Receipt, Ticket};
+use std::alloc::Global;
+use std::process::Abort;
+use std::sync::Wait;
+use std::test::Fail;
+
+/// An update that paints the one place red.
+const UPDATE: [u8; 20] = [
+    0, 0, 0, 1, 0, 0, 0, 0, 0, 1, 0, 1, 0, 0, 0, 0, 0, 0, 0xff, 0,
+];
+
+fn new_desk<D: Disk + Drop>(alloc: Global, disk: D) -> Result<Desk<D>, Fail>
+    ensures width { IfOk result (λ desk. desk.head.width ≡ 1) }
+    ensures height { IfOk result (λ desk. desk.head.height ≡ 1) }
+{
+    Ok(desk_of_one_place(alloc, disk).ok_or("no desk")?)
+}
+
+// Each receipt is confirmed; a reading that meets a fault is made again. How many messages they have.
+fn confirm<D: Disk, M: Mark, R: Wait + Abort>(
+    rt: &R,
+    closed: &mut Closed<D, M>,
+    receipts: &[Receipt<M>],
+) -> Result<u64, ReadFault> {
+    let mut handed = 0u64;
+    for receipt in receipts {
+        let stands = match closed.confirm(rt, receipt) {
+            Err(_) => closed.confirm(rt, receipt)?,
+            Ok(stands) => stands,
+        };
+        assert!(rt; stands);
+        handed = handed.saturating_add(receipt.slice().messages.len() as u64);
+    }
+    Ok(handed)
+}
+
+// Each ticket is found that is below the closed count, and no other.
+fn find<D: Disk, M: Mark, R: Wait + Abort>(
+    rt: &R,
+    closed: &mut Closed<D, M>,
+    tickets: &[Ticket<M>],
+) -> Result<(), ReadFault> {
+    for ticket in tickets {
+        let found = match closed.find(rt, ticket) {
+            Err(_) => closed.find(rt, ticket)?,
+            Ok(found) => found,
+        };
+        assert!(rt; found.is_some() == (ticket.number() < closed.committed()));
+    }
+    Ok(())
+}

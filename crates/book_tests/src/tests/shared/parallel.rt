@@ -1,0 +1,480 @@
+//! Workers in threads of their own.
+
+ghost use Rattle.std.specs.Prelude.{◌≡◌};
+ghost use Rattle.flusher_core.specs.State.{accepted_count};
+
+use super::{UPDATE, confirm, find, new_desk};
+use broadcast::{Desk, Start};
+use disk::{Disk, MemoryDisk};
+use flusher_core::HostRefusal;
+use rfb_wire::HostMessage;
+use shared_book::{
+    Closed, Ending, HostSource, Mark, Point, Receipt, ReceiptSink, Shared, Ticket, Token,
+    Turnstile, ViewerSink, ViewerWish, run_flusher, run_host, run_viewer,
+};
+use std::alloc::Global;
+use std::marker::Brand;
+use std::process::Abort;
+use std::sync::Wait;
+use std::sync::atomic::{AtomicBool, AtomicU64, Ordering};
+use std::test::Fail;
+use std::thread::{self, Threads, join, map_indices};
+use std::time::{Clock, Duration};
+use terms::NoMemory;
+
+/// How the workers come one after another.
+#[derive(Clone, Copy, PartialEq, Eq)]
+enum Order {
+    /// All beside each other.
+    Free,
+    /// A viewer's first sending of a message is held until two messages are accepted, and the
+    /// host's second message until that sending has begun.
+    Meeting,
+    /// The flusher begins once the host has ended and a viewer waits.
+    HostFirst,
+    /// The flusher has ended before the host begins.
+    NoFlusher,
+}
+
+/// Holds workers. Who is held longer than 10,000 turns goes on, and is counted. It is also told
+/// where memory was wanting, so that nobody waits for what won't come.
+#[derive(Drop)]
+struct Gates<'a, R: Clock> {
+    rt: &'a R,
+    order: Order,
+    accepted: AtomicU64,
+    sending: AtomicU64,
+    waiting: AtomicU64,
+    missed: AtomicU64,
+    lacked: AtomicBool,
+}
+
+impl<'a, R: Clock> Gates<'a, R> {
+    fn new(rt: &'a R, order: Order) -> Gates<'a, R> {
+        Gates {
+            rt,
+            order,
+            accepted: AtomicU64::new(0),
+            sending: AtomicU64::new(0),
+            waiting: AtomicU64::new(0),
+            missed: AtomicU64::new(0),
+            lacked: AtomicBool::new(false),
+        }
+    }
+
+    fn lacks(&self) {
+        self.lacked.store(true, Ordering::SeqCst);
+    }
+
+    fn has_lacked(&self) -> bool {
+        self.lacked.load(Ordering::SeqCst)
+    }
+
+    // Whether nobody was held for too long; nor is anybody to blame for it who lacked memory.
+    fn were_passed(&self) -> bool {
+        self.missed.load(Ordering::SeqCst) == 0 || self.has_lacked()
+    }
+
+    fn hold_until(&self, order: Order, count: &AtomicU64, least: u64) {
+        if self.order != order {
+            return;
+        }
+        for _ in 0..10_000 {
+            if count.load(Ordering::SeqCst) >= least || self.has_lacked() {
+                return;
+            }
+            let _ = thread::sleep(self.rt, Duration::from_millis(1));
+        }
+        self.missed.fetch_add(1, Ordering::SeqCst);
+    }
+}
+
+impl<'a, R: Clock> Turnstile for Gates<'a, R> {
+    fn pass(&self, point: Point) {
+        match point {
+            Point::HostAccepted(_) => {
+                self.accepted.fetch_add(1, Ordering::SeqCst);
+            }
+            Point::Sending { count, .. } => {
+                if count > 0 {
+                    self.sending.fetch_add(1, Ordering::SeqCst);
+                    self.hold_until(Order::Meeting, &self.accepted, 2);
+                }
+            }
+            Point::Committed(_) => {}
+        }
+    }
+}
+
+/// So many updates.
+#[derive(Drop)]
+struct Updates<'a, M: Mark, R: Clock> {
+    alloc: Global,
+    gates: &'a Gates<'a, R>,
+    given: u64,
+    count: u64,
+    tickets: &'a mut Vec<Ticket<M>>,
+}
+
+impl<'a, M: Mark, R: Clock> HostSource<Ticket<M>> for Updates<'a, M, R> {
+    ghost width = { λ u. 1 };
+
+    ghost height = { λ u. 1 };
+
+    fn next(&mut self) -> Option<(u32, HostMessage)> {
+        if self.given >= self.count {
+            return None;
+        }
+        if self.given == 1 {
+            let sending = &self.gates.sending;
+            self.gates.hold_until(Order::Meeting, sending, 1);
+        }
+        self.given += 1;
+        match HostMessage::from_bytes(self.alloc, 1, 1, &UPDATE) {
+            Ok(message) => Some((0, message)),
+            Err(_) => {
+                self.gates.lacks();
+                None
+            }
+        }
+    }
+
+    fn accepted(&mut self, ticket: Ticket<M>) {
+        if self.tickets.push(ticket).is_err() {
+            self.gates.lacks();
+        }
+    }
+}
+
+/// Keeps its receipts.
+#[derive(Drop)]
+struct Kept<'a, M: Mark, R: Clock> {
+    gates: &'a Gates<'a, R>,
+    receipts: &'a mut Vec<Receipt<M>>,
+}
+
+impl<'a, M: Mark, R: Clock> ReceiptSink<Receipt<M>> for Kept<'a, M, R> {
+    fn receipt(&mut self, receipt: Receipt<M>) {
+        if self.receipts.push(receipt).is_err() {
+            self.gates.lacks();
+        }
+    }
+}
+
+/// What a viewer was told.
+#[derive(Drop)]
+struct Seen<M: Mark> {
+    receipts: Vec<Receipt<M>>,
+    ending: Option<Ending<M>>,
+}
+
+/// A viewer that waits and takes what there is, until it is told the end.
+#[derive(Drop)]
+struct Viewer<'a, M: Mark, R: Clock> {
+    gates: &'a Gates<'a, R>,
+    position: u64,
+    waits: bool,
+    seen: &'a mut Seen<M>,
+}
+
+impl<'a, M: Mark, R: Clock> ViewerSink<Receipt<M>, Ending<M>> for Viewer<'a, M, R> {
+    ghost width = { λ v. 1 };
+
+    ghost height = { λ v. 1 };
+
+    ghost position = { λ v. v.position };
+
+    ghost slice_of = { λ r. r };
+
+    ghost count_of = { λ e. e.count };
+
+    fn has_left(&self) -> bool {
+        self.gates.waiting.fetch_add(1, Ordering::SeqCst);
+        false
+    }
+
+    fn wish(&mut self) -> ViewerWish {
+        self.waits = !self.waits;
+        if self.seen.ending.is_some() {
+            ViewerWish::Stop
+        } else if self.waits {
+            ViewerWish::Wait
+        } else {
+            ViewerWish::Want(100)
+        }
+    }
+
+    fn slice(&mut self, receipt: Receipt<M>) {
+        self.position = receipt.slice().end();
+        if self.seen.receipts.push(receipt).is_err() {
+            self.gates.lacks();
+        }
+    }
+
+    fn end(&mut self, ending: Ending<M>) {
+        self.seen.ending = Some(ending);
+    }
+}
+
+fn host<D: Disk, M: Mark, R: Wait + Clock>(
+    rt: &R,
+    alloc: Global,
+    shared: &Shared<D, M>,
+    gates: &Gates<R>,
+    count: u64,
+) -> Vec<Ticket<M>>
+    requires { (M.head.width ≡ 1) × (M.head.height ≡ 1) }
+{
+    let mut tickets = Vec::new(alloc);
+    let source = Updates {
+        alloc,
+        gates: &*gates,
+        given: 0,
+        count,
+        tickets: &mut tickets,
+    };
+    match run_host(rt, shared, source, gates) {
+        Ok(()) | Err(HostRefusal::Backlog) => {}
+        Err(_) => gates.lacks(),
+    }
+    tickets
+}
+
+fn flush<D: Disk, M: Mark, R: Wait + Clock>(
+    rt: &R,
+    alloc: Global,
+    shared: &Shared<D, M>,
+    gates: &Gates<R>,
+) -> Vec<Receipt<M>> {
+    let mut receipts = Vec::new(alloc);
+    let kept = Kept {
+        gates: &*gates,
+        receipts: &mut receipts,
+    };
+    if run_flusher(rt, shared, kept, gates).is_err() {
+        gates.lacks();
+    }
+    receipts
+}
+
+fn view<D: Disk, M: Mark, R: Wait + Clock>(
+    rt: &R,
+    alloc: Global,
+    shared: &Shared<D, M>,
+    gates: &Gates<R>,
+) -> Seen<M>
+    requires { (M.head.width ≡ 1) × (M.head.height ≡ 1) }
+{
+    let mut seen = Seen {
+        receipts: Vec::new(alloc),
+        ending: None,
+    };
+    let viewer = Viewer {
+        gates: &*gates,
+        position: 0,
+        waits: false,
+        seen: &mut seen,
+    };
+    if run_viewer(rt, shared, Start::At(0), viewer, gates).is_err() {
+        gates.lacks();
+    }
+    seen
+}
+
+/// What the workers were told.
+#[derive(Drop)]
+struct Told<M: Mark> {
+    tickets: Vec<Ticket<M>>,
+    committed: Vec<Receipt<M>>,
+    seen: Vec<Seen<M>>,
+}
+
+fn view_all<D: Disk + Send, M: Mark + Send + Sync, R: Threads + Wait + Clock + Sync>(
+    rt: &R,
+    alloc: Global,
+    shared: &Shared<D, M>,
+    gates: &Gates<R>,
+    viewers: usize,
+) -> Result<Vec<Seen<M>>, NoMemory>
+    requires { (M.head.width ≡ 1) × (M.head.height ≡ 1) }
+{
+    map_indices(
+        rt,
+        alloc,
+        viewers,
+        &|_| -> Seen<M>
+            requires { (M.head.width ≡ 1) × (M.head.height ≡ 1) }
+        { view(rt, alloc, shared, gates) },
+    )
+}
+
+// A host of so many updates and a flusher, each in a thread of its own where the order allows.
+fn record<D: Disk + Send, M: Mark + Send + Sync, R: Threads + Wait + Clock + Sync>(
+    rt: &R,
+    alloc: Global,
+    shared: &Shared<D, M>,
+    gates: &Gates<R>,
+    count: u64,
+) -> (Vec<Ticket<M>>, Vec<Receipt<M>>)
+    requires { (M.head.width ≡ 1) × (M.head.height ≡ 1) }
+{
+    match gates.order {
+        Order::Free | Order::Meeting => join(
+            rt,
+            move || -> Vec<Ticket<M>>
+                requires { (M.head.width ≡ 1) × (M.head.height ≡ 1) }
+            { host(rt, alloc, shared, gates, count) },
+            move || flush(rt, alloc, shared, gates),
+        ),
+        Order::HostFirst => {
+            let tickets = host(rt, alloc, shared, gates, count);
+            gates.waiting.store(0, Ordering::SeqCst);
+            shared.wake(rt);
+            gates.hold_until(Order::HostFirst, &gates.waiting, 1);
+            (tickets, flush(rt, alloc, shared, gates))
+        }
+        Order::NoFlusher => {
+            shared.end_flusher(rt);
+            (host(rt, alloc, shared, gates, count), Vec::new(alloc))
+        }
+    }
+}
+
+// Both, and so many viewers.
+fn work<D: Disk + Send, M: Mark + Send + Sync, R: Threads + Wait + Clock + Sync>(
+    rt: &R,
+    alloc: Global,
+    shared: &Shared<D, M>,
+    gates: &Gates<R>,
+    count: u64,
+    viewers: usize,
+) -> Result<Told<M>, NoMemory>
+    requires { (M.head.width ≡ 1) × (M.head.height ≡ 1) }
+{
+    let ((tickets, committed), seen) = join(
+        rt,
+        move || -> (Vec<Ticket<M>>, Vec<Receipt<M>>)
+            requires { (M.head.width ≡ 1) × (M.head.height ≡ 1) }
+        { record(rt, alloc, shared, gates, count) },
+        move || -> Result<Vec<Seen<M>>, NoMemory>
+            requires { (M.head.width ≡ 1) × (M.head.height ≡ 1) }
+        { view_all(rt, alloc, shared, gates, viewers) },
+    );
+    Ok(Told {
+        tickets,
+        committed,
+        seen: seen?,
+    })
+}
+
+// The last two tickets have different numbers.
+fn are_apart<D: Disk, M: Mark, R: Wait + Abort>(
+    rt: &R,
+    closed: &mut Closed<D, M>,
+    tickets: Vec<Ticket<M>>,
+) {
+    let mut tickets = tickets;
+    if let (Some(mut one), Some(mut other)) = (tickets.pop(), tickets.pop()) {
+        closed.apart(rt, &mut one, &mut other);
+        assert!(rt; one.number() != other.number());
+    }
+}
+
+// All receipts are confirmed, all tickets found, and the recording ended where viewers were told the
+// end. Where memory was ample, so many messages are committed, and handed to each viewer.
+fn settle<D: Disk + Drop, M: Mark, R: Wait + Abort>(
+    rt: &R,
+    closed: Closed<D, M>,
+    told: Told<M>,
+    due: Option<u64>,
+) -> Result<(), Fail> {
+    let mut closed = closed;
+    find(rt, &mut closed, &told.tickets)?;
+    confirm(rt, &mut closed, &told.committed)?;
+    assert!(rt; due.unwrap_or(closed.committed()) == closed.committed());
+    for seen in &told.seen {
+        let handed = confirm(rt, &mut closed, &seen.receipts)?;
+        assert!(rt; due.unwrap_or(handed) == handed);
+        match &seen.ending {
+            Some(ending) => {
+                closed.ended(rt, ending);
+                assert!(rt; ending.count() == closed.committed());
+            }
+            None => assert!(rt; due.is_none()),
+        }
+    }
+    are_apart(rt, &mut closed, told.tickets);
+    Ok(())
+}
+
+// The workers share a desk. All receipts are then confirmed, and all tickets found; where memory is
+// ample, each message is committed and handed to each viewer.
+fn share<D: Disk + Send + Drop, M: Mark + Send + Sync, R: Threads + Wait + Clock + Abort + Sync>(
+    rt: &R,
+    alloc: Global,
+    token: Token,
+    desk: Desk<D>,
+    gates: &Gates<R>,
+    count: u64,
+    viewers: usize,
+) -> Result<(), Fail>
+    requires head { desk.head ≡ M.head }
+    requires modelled { (D.is_modelled → M.is_modelled) × (M.is_modelled → D.is_modelled) }
+    requires first { accepted_count desk.state.book ≡ M.first }
+    requires names { token ≡ M.names }
+    requires sized { (M.head.width ≡ 1) × (M.head.height ≡ 1) }
+{
+    let shared = Shared::<D, M>::new(rt, token, desk);
+    let told = work(rt, alloc, &shared, gates, count, viewers)?;
+    let due = match gates.order {
+        _ if gates.has_lacked() => None,
+        Order::NoFlusher => Some(0),
+        Order::Free | Order::Meeting | Order::HostFirst => Some(count),
+    };
+    settle(rt, shared.finish(), told, due)
+}
+
+// Workers that come in this order. How many messages were accepted; none where memory was wanting.
+fn shared_by_workers<R: Threads + Wait + Clock + Abort + Sync>(
+    rt: &R,
+    alloc: Global,
+    order: Order,
+    count: u64,
+    viewers: usize,
+) -> Result<Option<u64>, Fail> {
+    let gates = Gates::new(rt, order);
+    let desk = new_desk(alloc, MemoryDisk::new(alloc))?;
+    let token = Token::new(alloc)?;
+    share::<MemoryDisk, Brand, R>(rt, alloc, token, desk, &gates, count, viewers)?;
+    assert!(rt; gates.were_passed());
+    if gates.has_lacked() {
+        return Ok(None);
+    }
+    Ok(Some(gates.accepted.load(Ordering::SeqCst)))
+}
+
+#[test]
+fn the_host_goes_on_while_a_viewer_is_served(rt: HostRuntime) -> Result<(), Fail> {
+    let accepted = shared_by_workers(&rt, rt.alloc(), Order::Meeting, 2, 1)?;
+    assert!(&rt; accepted.unwrap_or(2) == 2);
+    Ok(())
+}
+
+#[test]
+fn eight_viewers_are_handed_ten_thousand_messages(rt: HostRuntime) -> Result<(), Fail> {
+    shared_by_workers(&rt, rt.alloc(), Order::Free, 10_000, 8)?;
+    Ok(())
+}
+
+#[test]
+fn a_viewer_is_told_the_end_behind_the_last_commit(rt: HostRuntime) -> Result<(), Fail> {
+    shared_by_workers(&rt, rt.alloc(), Order::HostFirst, 300, 2)?;
+    Ok(())
+}
+
+#[test]
+fn a_backlog_that_stays_ends_the_host(rt: HostRuntime) -> Result<(), Fail> {
+    let accepted = shared_by_workers(&rt, rt.alloc(), Order::NoFlusher, 1_030, 1)?;
+    assert!(&rt; accepted.unwrap_or(1_024) == 1_024);
+    Ok(())
+}

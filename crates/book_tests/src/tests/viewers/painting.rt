@@ -1,0 +1,372 @@
+//! A viewer of the test, which paints what it is answered (RFC 6143, sections 7.6.1 and 7.7), beside
+//! a session that is lent slices and asked at random.
+
+ghost use Rattle.std.specs.Prelude.{◌≡◌, ◌<◌, IfOk, OnOk};
+
+use super::{HANDSHAKE, answered};
+use client_wire::{write_request, write_set_encodings, write_set_pixel_format};
+use key_index::Stamped;
+use painter::Screen;
+use pixel_format::{Color, PixelFormat};
+use replay::Slice;
+use rfb_wire::HostMessage;
+use std::alloc::Global;
+use std::test::Fail;
+use terms::Area;
+use viewer_session::Session;
+
+// The screen's size: of four tiles, three of which aren't whole.
+const WIDTH: u16 = 20;
+
+const HEIGHT: u16 = 18;
+
+const BLACK: Color = Color { r: 0, g: 0, b: 0 };
+
+// Formats that viewers send.
+const FORMATS: [[u8; 16]; 6] = [
+    *b"\x20\x18\0\x01\0\xff\0\xff\0\xff\x10\x08\0\0\0\0",
+    *b"\x20\x18\x01\x01\0\xff\0\xff\0\xff\x10\x08\0\0\0\0",
+    *b"\x10\x10\x01\x01\0\x1f\0\x3f\0\x1f\x0b\x05\0\0\0\0",
+    *b"\x10\x10\0\x01\0\x1f\0\x3f\0\x1f\x0b\x05\0\0\0\0",
+    *b"\x08\x08\0\x01\0\x07\0\x07\0\x03\0\x03\x06\0\0\0",
+    *b"\x08\x06\0\x01\0\x01\0\x03\0\x07\x05\x03\0\0\0\0",
+];
+
+// A number below a limit.
+fn below(seed: &mut u64, limit: u16) -> u16
+    requires { 0 < limit }
+    ensures { result < limit }
+{
+    *seed = seed
+        .wrapping_mul(6_364_136_223_846_793_005)
+        .wrapping_add(1_442_695_040_888_963_407);
+    (*seed >> 48) as u16 % limit
+}
+
+// Bytes that are read from their front, with pixels in this format.
+#[derive(Drop)]
+struct Cursor<'a> {
+    bytes: &'a [u8],
+    at: usize,
+    format: &'a PixelFormat,
+}
+
+fn byte(cursor: &mut Cursor) -> Option<u8> {
+    let byte = *cursor.bytes.get(cursor.at)?;
+    cursor.at += 1;
+    Some(byte)
+}
+
+fn number(cursor: &mut Cursor) -> Option<u16> {
+    let high = byte(cursor)?;
+    let low = byte(cursor)?;
+    Some(u16::from_be_bytes([high, low]))
+}
+
+fn color(cursor: &mut Cursor) -> Option<Color> {
+    let end = cursor.at.checked_add(cursor.format.bytes())?;
+    if end > cursor.bytes.len() {
+        return None;
+    }
+    let color = cursor.format.pixel(&cursor.bytes[cursor.at..end]);
+    cursor.at = end;
+    Some(color)
+}
+
+// A part of an area.
+fn part(area: Area, x: u16, y: u16, w: u16, h: u16) -> Area {
+    Area {
+        x: area.x.wrapping_add(x),
+        y: area.y.wrapping_add(y),
+        w,
+        h,
+    }
+}
+
+fn place(x: u16, y: u16) -> usize {
+    usize::from(y) * usize::from(WIDTH) + usize::from(x)
+}
+
+fn fill(pixels: &mut [Color], area: Area, color: Color) {
+    for y in 0..area.h {
+        for x in 0..area.w {
+            let place = place(area.x.wrapping_add(x), area.y.wrapping_add(y));
+            if place < pixels.len() {
+                pixels[place] = color;
+            }
+        }
+    }
+}
+
+fn paint_raw(cursor: &mut Cursor, area: Area, pixels: &mut [Color]) -> Option<()> {
+    for y in 0..area.h {
+        for x in 0..area.w {
+            let color = color(cursor)?;
+            fill(pixels, part(area, x, y, 1, 1), color);
+        }
+    }
+    Some(())
+}
+
+fn paint_rre(cursor: &mut Cursor, area: Area, pixels: &mut [Color]) -> Option<()> {
+    let _high = number(cursor)?;
+    let count = number(cursor)?;
+    let background = color(cursor)?;
+    fill(pixels, area, background);
+    for _ in 0..count {
+        let color = color(cursor)?;
+        let x = number(cursor)?;
+        let y = number(cursor)?;
+        let w = number(cursor)?;
+        let h = number(cursor)?;
+        fill(pixels, part(area, x, y, w, h), color);
+    }
+    Some(())
+}
+
+// The background and the foreground that were named last.
+#[derive(Clone, Copy)]
+struct Named {
+    background: Color,
+    foreground: Color,
+}
+
+fn paint_tile(
+    cursor: &mut Cursor,
+    tile: Area,
+    before: Named,
+    pixels: &mut [Color],
+) -> Option<Named> {
+    let mut named = before;
+    let mask = byte(cursor)?;
+    if mask & 1 != 0 {
+        paint_raw(cursor, tile, pixels)?;
+        return Some(named);
+    }
+    if mask & 2 != 0 {
+        named.background = color(cursor)?;
+    }
+    fill(pixels, tile, named.background);
+    if mask & 4 != 0 {
+        named.foreground = color(cursor)?;
+    }
+    let count = if mask & 8 != 0 { byte(cursor)? } else { 0 };
+    for _ in 0..count {
+        let color = if mask & 16 != 0 {
+            color(cursor)?
+        } else {
+            named.foreground
+        };
+        let corner = u16::from(byte(cursor)?);
+        let size = u16::from(byte(cursor)?);
+        let area = part(tile, corner / 16, corner % 16, size / 16 + 1, size % 16 + 1);
+        fill(pixels, area, color);
+    }
+    Some(named)
+}
+
+fn paint_hextile(cursor: &mut Cursor, area: Area, pixels: &mut [Color]) -> Option<()> {
+    let mut named = Named {
+        background: BLACK,
+        foreground: BLACK,
+    };
+    for row in 0..area.h.div_ceil(16) {
+        for column in 0..area.w.div_ceil(16) {
+            let (x, y) = (column.wrapping_mul(16), row.wrapping_mul(16));
+            let (w, h) = (area.w.wrapping_sub(x), area.h.wrapping_sub(y));
+            let tile = part(area, x, y, w.min(16), h.min(16));
+            named = paint_tile(cursor, tile, named, pixels)?;
+        }
+    }
+    Some(())
+}
+
+fn paint_rectangle(cursor: &mut Cursor, pixels: &mut [Color]) -> Option<()> {
+    let area = Area {
+        x: number(cursor)?,
+        y: number(cursor)?,
+        w: number(cursor)?,
+        h: number(cursor)?,
+    };
+    let _high = number(cursor)?;
+    match number(cursor)? {
+        0 => paint_raw(cursor, area, pixels),
+        2 => paint_rre(cursor, area, pixels),
+        5 => paint_hextile(cursor, area, pixels),
+        _ => None,
+    }
+}
+
+// Paints an update; nothing where it isn't one, or bytes are left.
+fn paint(update: &[u8], format: &PixelFormat, pixels: &mut [Color]) -> Option<()> {
+    let mut cursor = Cursor {
+        bytes: update,
+        at: 0,
+        format,
+    };
+    if number(&mut cursor)? != 0 {
+        return None;
+    }
+    for _ in 0..number(&mut cursor)? {
+        paint_rectangle(&mut cursor, pixels)?;
+    }
+    if cursor.at < update.len() {
+        return None;
+    }
+    Some(())
+}
+
+// An update of one Raw rectangle in three colours.
+fn any_update(alloc: Global, seed: &mut u64) -> Result<Vec<u8>, Fail> {
+    let x = below(seed, WIDTH);
+    let y = below(seed, HEIGHT);
+    let w = below(seed, WIDTH - x) + 1;
+    let h = below(seed, HEIGHT - y) + 1;
+    let mut update = Vec::from_slice(alloc, &[0, 0, 0, 1, 0])?;
+    update.extend_from_slice(&[x as u8, 0, y as u8, 0, w as u8, 0, h as u8, 0, 0, 0, 0])?;
+    for _ in 0..w * h {
+        let color = below(seed, 3) as u8;
+        update.extend_from_slice(&[color * 90, 255 - color * 60, color * 20, 0])?;
+    }
+    Ok(update)
+}
+
+// Paints an update on the screen, and lends it to the session: as a message, or as a start.
+fn go_on(
+    alloc: Global,
+    seed: &mut u64,
+    session: &mut Session,
+    screen: &mut Screen,
+) -> Result<(), Fail>
+    requires width { session.old.view.screen.width ≡ WIDTH }
+    requires height { session.old.view.screen.height ≡ HEIGHT }
+    requires across { screen.old.width ≡ WIDTH }
+    requires down { screen.old.height ≡ HEIGHT }
+    ensures width { OnOk result (session.new.view.screen.width ≡ WIDTH) }
+    ensures height { OnOk result (session.new.view.screen.height ≡ HEIGHT) }
+    ensures across { OnOk result (screen.new.width ≡ WIDTH) }
+    ensures down { OnOk result (screen.new.height ≡ HEIGHT) }
+{
+    let update = any_update(alloc, seed)?;
+    let message = HostMessage::from_bytes(alloc, WIDTH, HEIGHT, &update)?;
+    screen.paint(&message);
+    if below(seed, 8) == 0 {
+        let mut start = Screen::black(alloc, WIDTH, HEIGHT)?;
+        start.set(screen);
+        session.advance(&Slice {
+            first: 7,
+            start: Some(start),
+            messages: Vec::new(alloc),
+        });
+        return Ok(());
+    }
+    let first = session.position();
+    let messages = Vec::from_array(alloc, [Stamped { time: 0, message }])?;
+    if first < 1_000_000 {
+        session.advance(&Slice {
+            first,
+            start: None,
+            messages,
+        });
+    }
+    Ok(())
+}
+
+// A request for an area that may leave the screen, and perhaps a format or encodings before it.
+fn ask(
+    alloc: Global,
+    seed: &mut u64,
+    format: &mut PixelFormat,
+    asked: Area,
+) -> Result<Vec<u8>, Fail> {
+    let mut piece = Vec::new(alloc);
+    if below(seed, 6) == 0 {
+        *format = PixelFormat::read(&FORMATS[usize::from(below(seed, 6))])?;
+        write_set_pixel_format(format, &mut piece)?;
+    }
+    let encoding = [0, 2, 5][usize::from(below(seed, 3))];
+    write_set_encodings(&[-239, encoding], &mut piece)?;
+    write_request(below(seed, 4) > 0, asked, &mut piece)?;
+    Ok(piece)
+}
+
+// Whether the viewer shows the screen, in its format, in an area.
+fn shows(screen: &Screen, format: &PixelFormat, pixels: &[Color], area: Area) -> bool
+    requires across { screen.now.width ≡ WIDTH }
+    requires down { screen.now.height ≡ HEIGHT }
+{
+    for y in 0..HEIGHT {
+        for x in 0..WIDTH {
+            let inside = x >= area.x && x - area.x < area.w && y >= area.y && y - area.y < area.h;
+            let place = place(x, y);
+            let shown = place < pixels.len() && pixels[place] == format.convert(screen.color(x, y));
+            if inside && !shown {
+                return false;
+            }
+        }
+    }
+    true
+}
+
+// What a viewer shows, and whether it was answered yet.
+#[derive(Drop)]
+struct Viewer {
+    pixels: Vec<Color>,
+    format: PixelFormat,
+    answered: bool,
+}
+
+// Asks for an area, and paints what is answered: the area, or nothing where that isn't an update.
+fn look(
+    alloc: Global,
+    seed: &mut u64,
+    session: &mut Session,
+    viewer: &mut Viewer,
+) -> Result<Option<Area>, Fail>
+    ensures { session.new.view.screen ≡ session.old.view.screen }
+{
+    let asked = Area {
+        x: below(seed, 25),
+        y: below(seed, 25),
+        w: below(seed, 25),
+        h: below(seed, 25),
+    };
+    let piece = ask(alloc, seed, &mut viewer.format, asked)?;
+    let out = answered(alloc, session, &piece)?;
+    viewer.answered |= !out.is_empty();
+    if out.is_empty() || paint(&out, &viewer.format, &mut viewer.pixels).is_some() {
+        Ok(Some(asked))
+    } else {
+        Ok(None)
+    }
+}
+
+fn begun(alloc: Global) -> Result<Session, Fail>
+    ensures width { IfOk result (λ s. s.view.screen.width ≡ WIDTH) }
+    ensures height { IfOk result (λ s. s.view.screen.height ≡ HEIGHT) }
+{
+    let mut session = Session::new(alloc, WIDTH, HEIGHT, b"painted")?;
+    answered(alloc, &mut session, &HANDSHAKE)?;
+    Ok(session)
+}
+
+// After each answer the viewer shows the converted screen in the area that it asked for.
+#[test]
+fn painted(rt: HostRuntime) -> Result<(), Fail> {
+    let alloc = rt.alloc();
+    let mut seed = 1;
+    let mut session = begun(alloc)?;
+    let mut screen = Screen::black(alloc, WIDTH, HEIGHT)?;
+    let mut viewer = Viewer {
+        pixels: vec![in alloc; BLACK; 360]?,
+        format: PixelFormat::host(),
+        answered: false,
+    };
+    for _ in 0..400 {
+        go_on(alloc, &mut seed, &mut session, &mut screen)?;
+        let asked = look(alloc, &mut seed, &mut session, &mut viewer)?.ok_or("no update")?;
+        let right = shows(&screen, &viewer.format, &viewer.pixels, asked);
+        assert!(rt; right || !viewer.answered);
+    }
+    Ok(())
+}

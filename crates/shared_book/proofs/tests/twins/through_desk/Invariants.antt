@@ -1,5 +1,0 @@
-use Rattle.std.proofs.Common.{◌≡◌}
-use Rattle.shared_book.proofs.tests.twins.through_desk.Given as goal
-
-abbrev pub invariant-loop-line : goal.invariant-loop-line
-invariant-loop-line g l = (l.desk.head.width ≡ 1) × (l.desk.head.height ≡ 1)

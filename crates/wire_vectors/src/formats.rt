@@ -1,0 +1,53 @@
+//! Pixel formats, pixels in them, and screen colours.
+
+ghost use Rattle.std.specs.Prelude.{◌≡◌, ◌<◌, length};
+
+use crate::words::{bad, spelled};
+use pixel_format::{Color, PixelFormat};
+use std::alloc::Global;
+use std::io;
+
+/// Formats by the number of their bits.
+pub(crate) fn of_bits(bits: u16) -> io::Result<PixelFormat> {
+    let bytes = match bits {
+        32 => return Ok(PixelFormat::host()),
+        // The highest byte first: 5 bits of red, 6 of green, 5 of blue.
+        16 => [16, 16, 1, 1, 0, 31, 0, 63, 0, 31, 11, 5, 0, 0, 0, 0],
+        // 3 bits of green, 3 of red, 2 of blue.
+        _ => [8, 8, 0, 1, 0, 7, 0, 7, 0, 3, 0, 3, 6, 0, 0, 0],
+    };
+    PixelFormat::read(&bytes).map_err(|_| bad())
+}
+
+// A pixel's colour, and the pixel that is put from it; then the screen colour (255, 128, 0) as the
+// format has it.
+fn told(alloc: Global, format: &PixelFormat, pixel: &[u8]) -> io::Result<String> {
+    let size = format.bytes();
+    if pixel.len() != size {
+        return Ok(format!(in alloc; "{size} bytes")?);
+    }
+    let Color { r, g, b } = format.pixel(pixel);
+    let orange = format.convert(Color {
+        r: 255,
+        g: 128,
+        b: 0,
+    });
+    let mut put = vec![in alloc; 0; size]?;
+    format.put(orange, &mut put);
+    let put = spelled(alloc, &put)?;
+    Ok(format!(in alloc; "{size} bytes; {r} {g} {b}; orange {put}")?)
+}
+
+/// What a format of 16 bytes makes of the pixel behind it, or the number of its fault.
+pub(crate) fn outcome(alloc: Global, bytes: &[u8]) -> io::Result<String> {
+    let Some((first, pixel)) = bytes.split_first_chunk::<16>() else {
+        return Err(bad());
+    };
+    match PixelFormat::read(first) {
+        Ok(format) => told(alloc, &format, pixel),
+        Err(fault) => {
+            let number = fault.number();
+            Ok(format!(in alloc; "refused {number}")?)
+        }
+    }
+}

@@ -1,0 +1,128 @@
+//! Data of rectangles.
+
+use crate::formats;
+use crate::picture::{Places, rows};
+use crate::words::bad;
+use pixel_format::{Color, PixelFormat};
+use rect_data::{Encoding, Judging, measure};
+use std::alloc::Global;
+use std::io;
+use terms::{Area, WireFault};
+use wire_tests::{HEIGHT, Kind, Short, TestCanvas, WIDTH, hextile_in_pieces};
+
+impl Places for TestCanvas {
+    fn color_at(&self, x: u16, y: u16) -> Option<Color> {
+        if x < WIDTH && y < HEIGHT {
+            Some(self.color(x, y))
+        } else {
+            None
+        }
+    }
+}
+
+/// At which byte data are whole, with one column and one row more than they paint, or refused. Of
+/// Hextile, also field by field.
+pub(crate) fn painted(
+    alloc: Global,
+    kind: &str,
+    bits: u16,
+    size: (u16, u16),
+    bytes: &[u8],
+) -> io::Result<String> {
+    let format = formats::of_bits(bits)?;
+    let (w, h) = size;
+    let kind = match kind {
+        "rre" => Kind::Rre,
+        "hextile" => Kind::Hextile,
+        _ => return Err(bad()),
+    };
+    for count in 0..=bytes.len() {
+        let data = bytes.get(..count).unwrap_or(bytes);
+        let answer = kind.measure(&format, w, h, data);
+        let pieces = hextile_in_pieces(&format, w, h, data).map_err(Short::from);
+        if kind == Kind::Hextile && pieces != answer {
+            return Ok(format!(in alloc; "{count} otherwise in pieces")?);
+        }
+        match answer {
+            Err(Short::NeedMore) => {}
+            Err(Short::Bad) => return Ok(format!(in alloc; "{count} bad")?),
+            Ok(length) => {
+                let picture = picture(alloc, kind, &format, size, data)?;
+                return Ok(format!(in alloc; "{count} whole {length}{picture}")?);
+            }
+        }
+    }
+    Ok("needs more".to_string(alloc)?)
+}
+
+// The rows that whole data paint, where they have an area and fit on the canvas.
+fn picture(
+    alloc: Global,
+    kind: Kind,
+    format: &PixelFormat,
+    size: (u16, u16),
+    data: &[u8],
+) -> io::Result<String> {
+    let (w, h) = size;
+    if w == 0 || h == 0 || w >= WIDTH || h >= HEIGHT {
+        return Ok(String::new(alloc));
+    }
+    match kind.painted(format, w, h, data) {
+        Ok(canvas) => rows(alloc, &canvas, (w + 1, h + 1)),
+        Err(_) => Err(bad()),
+    }
+}
+
+// How many bytes data have that are judged field by field; none where they need more.
+fn in_pieces(
+    size: (u16, u16),
+    encoding: Encoding,
+    area: Area,
+    bytes: &[u8],
+) -> Result<Option<usize>, WireFault> {
+    let host = PixelFormat::host();
+    let mut rest = bytes;
+    let mut next = Judging::start(&host, encoding, area);
+    for _ in 0..=bytes.len() {
+        let Some(stage) = next else {
+            return Ok(Some(bytes.len() - rest.len().min(bytes.len())));
+        };
+        let wants = stage.wants(&host);
+        if rest.len() < wants {
+            return Ok(None);
+        }
+        next = stage.step(&host, size.0, size.1, &rest[..wants])?;
+        rest = &rest[wants..];
+    }
+    Ok(None)
+}
+
+/// At which byte the data of a rectangle of a screen of this size are whole or refused.
+pub(crate) fn measured(
+    alloc: Global,
+    number: u16,
+    size: (u16, u16),
+    area: Area,
+    bytes: &[u8],
+) -> io::Result<String> {
+    let Some(encoding) = Encoding::from_number(u32::from(number)) else {
+        return Ok("no encoding".to_string(alloc)?);
+    };
+    let host = PixelFormat::host();
+    for count in 0..=bytes.len() {
+        let data = bytes.get(..count).unwrap_or(bytes);
+        let answer = measure(&host, size.0, size.1, encoding, area, data);
+        if in_pieces(size, encoding, area, data) != answer {
+            return Ok(format!(in alloc; "{count} otherwise in pieces")?);
+        }
+        match answer {
+            Ok(None) => {}
+            Ok(Some(length)) => return Ok(format!(in alloc; "{count} whole {length}")?),
+            Err(fault) => {
+                let number = fault.number();
+                return Ok(format!(in alloc; "{count} fault {number}")?);
+            }
+        }
+    }
+    Ok("needs more".to_string(alloc)?)
+}

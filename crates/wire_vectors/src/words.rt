@@ -1,0 +1,95 @@
+//! The words of a vector.
+
+use std::alloc::Global;
+use std::io;
+
+/// What is answered to words that are no vector.
+pub(crate) fn bad() -> io::Error {
+    io::ErrorKind::InvalidData.into()
+}
+
+/// The lines of a part of a file that aren't comments, one behind the other.
+pub(crate) fn without_comments(alloc: Global, part: &str) -> io::Result<String> {
+    let mut kept = String::new(alloc);
+    for line in part.lines() {
+        if !line.starts_with("#") {
+            kept.push_str(line)?;
+            kept.push_str(" ")?;
+        }
+    }
+    Ok(kept)
+}
+
+/// Whether two texts have the same words.
+pub(crate) fn are_same(first: &str, second: &str) -> bool {
+    let mut others = second.split_whitespace();
+    for word in first.split_whitespace() {
+        if others.next() != Some(word) {
+            return false;
+        }
+    }
+    others.next().is_none()
+}
+
+/// The numbers behind the first word.
+pub(crate) fn numbers(alloc: Global, head: &str) -> io::Result<Vec<u16>> {
+    let mut numbers = Vec::new(alloc);
+    for word in head.split_whitespace().skip(1) {
+        let Ok(number) = word.parse::<u16>() else {
+            return Err(bad());
+        };
+        numbers.push(number)?;
+    }
+    Ok(numbers)
+}
+
+// A word without the count behind its `*`, and that count: 1 where there is none.
+fn repeated(word: &str) -> (&str, usize) {
+    match word.split_once("*") {
+        Some((digits, count)) => (digits, count.parse::<usize>().unwrap_or(0)),
+        None => (word, 1),
+    }
+}
+
+/// The bytes that words spell: hexadecimal digits, and `*` with a count where they are repeated.
+pub(crate) fn bytes(alloc: Global, text: &str) -> io::Result<Vec<u8>> {
+    let mut bytes = Vec::new(alloc);
+    for word in text.split_whitespace() {
+        let (digits, count) = repeated(word);
+        let Ok(part) = hex::decode(alloc, digits) else {
+            return Err(bad());
+        };
+        for _ in 0..count {
+            bytes.extend_from_slice(&part)?;
+        }
+    }
+    Ok(bytes)
+}
+
+/// Bytes as they are told: in words of hexadecimal digits, 20 bytes each, or one byte and a count
+/// where all are the same.
+pub(crate) fn spelled(alloc: Global, bytes: &[u8]) -> io::Result<String> {
+    if let Some(first) = bytes.first() {
+        if bytes.len() > 16 && bytes.iter().all(|byte| byte == first) {
+            let (byte, count) = (*first, bytes.len());
+            return Ok(format!(in alloc; "{byte:02x}*{count}")?);
+        }
+    }
+    let mut text = String::new(alloc);
+    for part in bytes.chunks(20) {
+        if !text.is_empty() {
+            text.push_str(" ")?;
+        }
+        text.push_str(&hex::encode(alloc, part)?)?;
+    }
+    Ok(text)
+}
+
+/// Adds what happened to an account of it.
+pub(crate) fn tell(account: &mut String, told: &str) -> io::Result<()> {
+    if !account.is_empty() {
+        account.push_str("; ")?;
+    }
+    account.push_str(told)?;
+    Ok(())
+}
