@@ -1,31 +1,101 @@
-//! What the commands on files have in common.
+//! The commands on files, and how one is run.
 
+use crate::checking::{write_size, write_summary};
+use crate::exporting::{Extract, write_extract};
+use crate::framing::{Filming, write_filming};
+use crate::listing::write_list;
+use crate::picturing::{Scene, write_scene};
+use crate::recording::open_path;
 use crate::refusal::{Ended, answer};
+use crate::timing::{Timing, write_times};
 use file_disk::Progress;
 use std::fs::File;
 use std::io;
 use std::io::Write;
 use std::rt::Files;
 
-/// A command on files.
-pub trait FileCommand {
-    /// Its word on the command line.
-    fn word(&self) -> &'static str;
+/// A command on files. A recording is opened for reading alone.
+#[derive(Clone, Copy)]
+pub enum FileCommand<'a> {
+    /// `list` prints a line for each block of the recording at a path that counts.
+    List(&'a str),
+    /// `check` prints the size of the recording at a path, and how many messages and blocks count.
+    Check(&'a str),
+    /// `times` prints a line for each stretch of a recording's time in which a message came: the
+    /// time, number and block of its first message, and how many updates and bytes it has. The
+    /// recording is read twice.
+    Times(Timing<'a>),
+    /// `picture` writes the screen at a moment of a recording as a picture. A file is created, or
+    /// emptied where it is there, only once there is such a screen; one that can't be written, and the
+    /// recording itself, are refused as a file.
+    Picture(Scene<'a>),
+    /// `frames` writes the screens of a recording as PPM pictures one behind the other, so many a
+    /// second of the recording.
+    Frames(Filming<'a>),
+    /// `export` writes a part of a recording as an FBS file, and prints how many messages it has.
+    /// That file is created, or emptied where it is there, only once it is known that there are such
+    /// a block and such an end; one that can't be, and the recording itself, are refused as a file.
+    Export(Extract<'a>),
+    /// `fbs-check` prints the size of the FBS file at a path, how many messages it has, and how many
+    /// bytes of an unfinished last one.
+    FbsCheck(&'a str),
+}
 
-    /// Does it: what it prints is written to `out`, and long work told of to a person.
+impl FileCommand<'_> {
+    // Its word on the command line.
+    fn word(&self) -> &'static str {
+        match self {
+            FileCommand::List(_) => "list",
+            FileCommand::Check(_) => "check",
+            FileCommand::Times(_) => "times",
+            FileCommand::Picture(_) => "picture",
+            FileCommand::Frames(_) => "frames",
+            FileCommand::Export(_) => "export",
+            FileCommand::FbsCheck(_) => "fbs-check",
+        }
+    }
+
+    // Does it.
     fn work<R: Files<File = File> + AllocGlobal, O: Write>(
         &self,
         rt: &R,
         progress: Progress,
         out: &mut O,
-    ) -> Result<(), Ended>;
+    ) -> Result<(), Ended> {
+        let alloc = rt.alloc();
+        match self {
+            FileCommand::List(path) => {
+                let index = open_path(rt, path, progress)?;
+                Ok(write_list(alloc, &index, out)?)
+            }
+            FileCommand::Check(path) => {
+                let index = open_path(rt, path, progress)?;
+                Ok(write_size(&index, out)?)
+            }
+            FileCommand::Times(what) => {
+                let mut index = open_path(rt, what.recording, progress)?;
+                write_times(alloc, &mut index, what, out)
+            }
+            FileCommand::Picture(what) => write_scene(rt, what, progress, out),
+            FileCommand::Frames(what) => {
+                let mut index = open_path(rt, what.recording, progress)?;
+                write_filming(alloc, &mut index, what, progress, out)
+            }
+            FileCommand::Export(what) => {
+                let count = write_extract(rt, what, progress)?;
+                Ok(writeln!(out, "exported {count}")?)
+            }
+            FileCommand::FbsCheck(path) => write_summary(rt, path, progress, out),
+        }
+    }
 }
 
-/// Runs a command. Answers whether it is done; else a line on `err` says why it is refused. An error
-/// is of the two writers, or of memory.
-pub fn run<C: FileCommand, R: Files<File = File> + AllocGlobal, O: Write, E: Write>(
+/// Runs a command: what it prints is written to `out`, and long work told of to a person. Answers
+/// whether it is done; else a line on `err` says why it is refused. An error is of the two writers, or
+/// of memory.
+pub fn run<R: Files<File = File> + AllocGlobal, O: Write, E: Write>(
     rt: &R,
-    command: &C,
+    command: &FileCommand<'_>,
     progress: Progress,
     out: &mut O,
     err: &mut E,

@@ -1,6 +1,5 @@
 //! The command `export`.
 
-use crate::command::FileCommand;
 use crate::recording::{open_file, open_recording};
 use crate::refusal::{Ended, Refusal};
 use fbs_export::{ExportFault, first_exported};
@@ -37,10 +36,7 @@ pub fn open_out<R: Files<File = File>>(
     Ok(file)
 }
 
-/// `export`: writes a part of a recording, which is opened for reading alone, as an FBS file, and
-/// prints how many messages it has. That file is created, or emptied where it is there, only once it
-/// is known that there are such a block and such an end; one that can't be, and the recording itself,
-/// are refused as a file.
+/// What is exported of which recording, and where to.
 #[derive(Clone, Copy)]
 pub struct Extract<'a> {
     /// The recording's file.
@@ -53,9 +49,10 @@ pub struct Extract<'a> {
     pub out: &'a str,
 }
 
-fn write_export<R: Files<File = File> + AllocGlobal>(
+/// Writes a part of a recording as an FBS file: how many messages it has.
+pub fn write_extract<R: Files<File = File> + AllocGlobal>(
     rt: &R,
-    what: Extract<'_>,
+    what: &Extract<'_>,
     progress: Progress,
 ) -> Result<u64, Ended> {
     let alloc = rt.alloc();
@@ -82,22 +79,5 @@ fn write_export<R: Files<File = File> + AllocGlobal>(
     match writer.flush() {
         Ok(()) => Ok(count),
         Err(_) => Err(Ended::Refused(Refusal::Export(ExportFault::Write))),
-    }
-}
-
-impl FileCommand for Extract<'_> {
-    fn word(&self) -> &'static str {
-        "export"
-    }
-
-    fn work<R: Files<File = File> + AllocGlobal, O: Write>(
-        &self,
-        rt: &R,
-        progress: Progress,
-        out: &mut O,
-    ) -> Result<(), Ended> {
-        let count = write_export(rt, *self, progress)?;
-        writeln!(out, "exported {count}")?;
-        Ok(())
     }
 }

@@ -2,17 +2,14 @@
 
 ghost use Rattle.std.specs.Prelude.{◌<◌};
 
-use crate::command::FileCommand;
-use crate::recording::open_path;
 use crate::refusal::{Ended, Refusal};
-use file_disk::{Progress, Watched};
+use file_disk::{FileDisk, Progress, Watched};
+use key_index::Indexed;
 use pictures::{Film, FilmFault, write_frames};
-use std::fs::File;
+use std::alloc::Global;
 use std::io::{BufWriter, Write};
-use std::rt::Files;
 
-/// `frames`: writes the screens of a recording, which is opened for reading alone, as PPM pictures one
-/// behind the other, so many a second of the recording.
+/// Which frames of which recording are written.
 #[derive(Clone, Copy)]
 pub struct Filming<'a> {
     /// The recording's file.
@@ -40,29 +37,23 @@ impl Filming<'_> {
     }
 }
 
-impl FileCommand for Filming<'_> {
-    fn word(&self) -> &'static str {
-        "frames"
-    }
-
-    fn work<R: Files<File = File> + AllocGlobal, O: Write>(
-        &self,
-        rt: &R,
-        progress: Progress,
-        out: &mut O,
-    ) -> Result<(), Ended> {
-        let alloc = rt.alloc();
-        let mut index = open_path(rt, self.recording, progress)?;
-        let film = self.film(index.last_time());
-        let watched = Watched {
-            inner: out,
-            progress,
-        };
-        let mut frames = BufWriter::new(alloc, watched)?;
-        match write_frames(alloc, &mut index, &film, &mut frames) {
-            Ok(()) => Ok(frames.flush()?),
-            Err(FilmFault::Read(fault)) => Err(Ended::Refused(Refusal::Screen(fault))),
-            Err(FilmFault::Write(error)) => Err(Ended::Failed(error)),
-        }
+/// Writes the frames of a recording as PPM pictures, one behind the other.
+pub fn write_filming<O: Write>(
+    alloc: Global,
+    index: &mut Indexed<FileDisk>,
+    what: &Filming<'_>,
+    progress: Progress,
+    out: &mut O,
+) -> Result<(), Ended> {
+    let film = what.film(index.last_time());
+    let watched = Watched {
+        inner: out,
+        progress,
+    };
+    let mut frames = BufWriter::new(alloc, watched)?;
+    match write_frames(alloc, index, &film, &mut frames) {
+        Ok(()) => Ok(frames.flush()?),
+        Err(FilmFault::Read(fault)) => Err(Ended::Refused(Refusal::Screen(fault))),
+        Err(FilmFault::Write(error)) => Err(Ended::Failed(error)),
     }
 }

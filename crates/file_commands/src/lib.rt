@@ -13,12 +13,10 @@ mod refusal;
 mod surveying;
 mod timing;
 
-pub use checking::{Check, FbsCheck};
 pub use command::{FileCommand, run};
 pub use exporting::Extract;
 pub use framing::Filming;
 pub use keeping::{create_new, keep};
-pub use listing::List;
 pub use pictures::PictureFormat;
 pub use picturing::{Moment, Scene, screen_of};
 pub use recording::open_path;

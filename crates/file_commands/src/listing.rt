@@ -1,14 +1,10 @@
 //! The command `list`.
 
-use crate::command::FileCommand;
-use crate::recording::open_path;
-use crate::refusal::Ended;
-use file_disk::{FileDisk, Progress};
+use file_disk::FileDisk;
 use key_index::Indexed;
-use std::fs::File;
+use std::alloc::Global;
 use std::io;
 use std::io::{BufWriter, Write};
-use std::rt::Files;
 
 // A line a block: its number, its first message, how many it has, whether it has a key screen, and
 // the time of its first message.
@@ -26,25 +22,13 @@ fn write_blocks<O: Write>(index: &Indexed<FileDisk>, out: &mut O) -> io::Result<
     Ok(())
 }
 
-/// `list`: opens the recording at a path, and prints a line for each block that counts.
-#[derive(Clone, Copy, Debug)]
-pub struct List<'a>(pub &'a str);
-
-impl FileCommand for List<'_> {
-    fn word(&self) -> &'static str {
-        "list"
-    }
-
-    fn work<R: Files<File = File> + AllocGlobal, O: Write>(
-        &self,
-        rt: &R,
-        progress: Progress,
-        out: &mut O,
-    ) -> Result<(), Ended> {
-        let index = open_path(rt, self.0, progress)?;
-        let mut lines = BufWriter::new(rt.alloc(), out)?;
-        write_blocks(&index, &mut lines)?;
-        lines.flush()?;
-        Ok(())
-    }
+/// Writes a line for each block of a recording that counts.
+pub fn write_list<O: Write>(
+    alloc: Global,
+    index: &Indexed<FileDisk>,
+    out: &mut O,
+) -> io::Result<()> {
+    let mut lines = BufWriter::new(alloc, out)?;
+    write_blocks(index, &mut lines)?;
+    lines.flush()
 }

@@ -1,6 +1,5 @@
 //! The command `picture`.
 
-use crate::command::FileCommand;
 use crate::exporting::open_out;
 use crate::recording::{open_file, open_recording};
 use crate::refusal::{Ended, Refusal};
@@ -24,9 +23,7 @@ pub enum Moment {
     Time(u32),
 }
 
-/// `picture`: writes the screen at a moment of a recording, which is opened for reading alone, as a
-/// picture. A file is created, or emptied where it is there, only once there is such a screen; one
-/// that can't be written, and the recording itself, are refused as a file.
+/// Which screen of which recording is shown, and where to.
 #[derive(Clone, Copy)]
 pub struct Scene<'a> {
     /// The recording's file.
@@ -84,25 +81,20 @@ fn write_file<R: Files<File = File> + AllocGlobal>(
     }
 }
 
-impl FileCommand for Scene<'_> {
-    fn word(&self) -> &'static str {
-        "picture"
-    }
-
-    fn work<R: Files<File = File> + AllocGlobal, O: Write>(
-        &self,
-        rt: &R,
-        progress: Progress,
-        out: &mut O,
-    ) -> Result<(), Ended> {
-        let alloc = rt.alloc();
-        let file = open_file(rt, self.recording)?;
-        let metadata = file.metadata()?;
-        let mut index = open_recording(alloc, file, progress)?;
-        let screen = screen_of(alloc, &mut index, self.moment)?;
-        match self.out {
-            Some(path) => write_file(rt, path, &metadata, &screen, *self, progress),
-            None => Ok(write_picture(alloc, &screen, self.format, out)?),
-        }
+/// Writes the screen at a moment of a recording as a picture.
+pub fn write_scene<R: Files<File = File> + AllocGlobal, O: Write>(
+    rt: &R,
+    what: &Scene<'_>,
+    progress: Progress,
+    out: &mut O,
+) -> Result<(), Ended> {
+    let alloc = rt.alloc();
+    let file = open_file(rt, what.recording)?;
+    let metadata = file.metadata()?;
+    let mut index = open_recording(alloc, file, progress)?;
+    let screen = screen_of(alloc, &mut index, what.moment)?;
+    match what.out {
+        Some(path) => write_file(rt, path, &metadata, &screen, *what, progress),
+        None => Ok(write_picture(alloc, &screen, what.format, out)?),
     }
 }

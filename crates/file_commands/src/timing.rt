@@ -2,19 +2,15 @@
 
 ghost use Rattle.std.specs.Prelude.{◌<◌};
 
-use crate::command::FileCommand;
-use crate::recording::open_path;
 use crate::refusal::Ended;
 use crate::surveying::{Stretch, StretchSink, survey};
-use file_disk::Progress;
-use std::fs::File;
+use file_disk::FileDisk;
+use key_index::Indexed;
+use std::alloc::Global;
 use std::io;
 use std::io::{BufWriter, Write};
-use std::rt::Files;
 
-/// `times`: prints a line for each stretch of a recording's time in which a message came: the time,
-/// number and block of its first message, and how many updates and bytes it has. The recording is
-/// opened for reading alone, and read twice.
+/// Which stretches of which recording are listed.
 #[derive(Clone, Copy)]
 pub struct Timing<'a> {
     /// The recording's file.
@@ -40,20 +36,14 @@ impl<O: Write> StretchSink for Lines<'_, O> {
     }
 }
 
-impl FileCommand for Timing<'_> {
-    fn word(&self) -> &'static str {
-        "times"
-    }
-
-    fn work<R: Files<File = File> + AllocGlobal, O: Write>(
-        &self,
-        rt: &R,
-        progress: Progress,
-        out: &mut O,
-    ) -> Result<(), Ended> {
-        let mut index = open_path(rt, self.recording, progress)?;
-        let mut writer = BufWriter::new(rt.alloc(), out)?;
-        survey(&mut index, self.every, &mut Lines { out: &mut writer })?;
-        Ok(writer.flush()?)
-    }
+/// Writes a line for each stretch of a recording's time in which a message came.
+pub fn write_times<O: Write>(
+    alloc: Global,
+    index: &mut Indexed<FileDisk>,
+    what: &Timing<'_>,
+    out: &mut O,
+) -> Result<(), Ended> {
+    let mut writer = BufWriter::new(alloc, out)?;
+    survey(index, what.every, &mut Lines { out: &mut writer })?;
+    Ok(writer.flush()?)
 }

@@ -3,7 +3,7 @@
 ghost use Rattle.std.specs.Prelude.{◌≤◌};
 
 use crate::words::{Chosen, read_words};
-use file_commands::{Check, FbsCheck, List, create_new, keep, refuse, run};
+use file_commands::{create_new, keep, refuse, run};
 use file_disk::Progress;
 use std::fs::File;
 use std::io;
@@ -102,14 +102,8 @@ where
     let done = match chosen {
         Chosen::Drill { keep: None } => drill::run(alloc, input, out),
         Chosen::Drill { keep: Some(path) } => drill_to_file(rt, path, input, out, err),
-        Chosen::List(path) => run(rt, &List(path), progress, out, err),
-        Chosen::Check(path) => run(rt, &Check(path), progress, out, err),
-        Chosen::Export(what) => run(rt, &what, progress, out, err),
-        Chosen::Picture(what) => run(rt, &what, progress, out, err),
-        Chosen::Frames(what) => run(rt, &what, progress, out, err),
-        Chosen::Times(what) => run(rt, &what, progress, out, err),
+        Chosen::OnFiles(what) => run(rt, &what, progress, out, err),
         Chosen::Browse(what) => browse::browse(rt, what, progress, out, err),
-        Chosen::FbsCheck(path) => run(rt, &FbsCheck(path), progress, out, err),
         Chosen::Serve(plan) => serve::serve(rt, &plan, out, err),
         Chosen::Text(text) => print(out, &text),
         Chosen::Explain(area, number) => match explanations::explain(area, number) {

@@ -3,7 +3,7 @@
 use browse::Browsing;
 use clap::error::ErrorKind;
 use clap::{Arg, ArgAction, ArgMatches, Command};
-use file_commands::{Extract, Filming, Moment, PictureFormat, Scene, Timing};
+use file_commands::{Extract, FileCommand, Filming, Moment, PictureFormat, Scene, Timing};
 use serve::{Audience, Origin, Pace, Plan, Playing, Stop};
 use std::alloc::{AllocError, Global};
 use std::io;
@@ -12,14 +12,8 @@ use std::io;
 #[derive(Drop)]
 pub enum Chosen<'a> {
     Drill { keep: Option<&'a str> },
-    List(&'a str),
-    Check(&'a str),
-    Export(Extract<'a>),
-    Picture(Scene<'a>),
-    Frames(Filming<'a>),
-    Times(Timing<'a>),
+    OnFiles(FileCommand<'a>),
     Browse(Browsing<'a>),
-    FbsCheck(&'a str),
     Serve(Plan<'a>),
     /// What a refusal of this area and number means.
     Explain(&'a str, u64),
@@ -460,6 +454,21 @@ fn plan<'a>(matches: &ArgMatches<'a>) -> Option<Plan<'a>> {
     })
 }
 
+// The command on files that the words name; none where there is no such command, or a number isn't
+// one.
+fn on_files<'a>(name: &str, matches: &ArgMatches<'a>) -> Option<FileCommand<'a>> {
+    match name {
+        "list" => matches.get_str("PATH").map(FileCommand::List),
+        "check" => matches.get_str("PATH").map(FileCommand::Check),
+        "times" => timed(matches).map(FileCommand::Times),
+        "picture" => shown(matches).map(FileCommand::Picture),
+        "frames" => filmed(matches).map(FileCommand::Frames),
+        "export" => extract(matches).map(FileCommand::Export),
+        "fbs-check" => matches.get_str("PATH").map(FileCommand::FbsCheck),
+        _ => None,
+    }
+}
+
 // The command that the words name; none where a number isn't one.
 fn choose<'a>(matches: &ArgMatches<'a>) -> Option<Chosen<'a>> {
     let (name, matches) = matches.subcommand()?;
@@ -467,20 +476,13 @@ fn choose<'a>(matches: &ArgMatches<'a>) -> Option<Chosen<'a>> {
         "drill" => Some(Chosen::Drill {
             keep: matches.get_str("FILE"),
         }),
-        "list" => Some(Chosen::List(matches.get_str("PATH")?)),
-        "check" => Some(Chosen::Check(matches.get_str("PATH")?)),
-        "export" => Some(Chosen::Export(extract(matches)?)),
-        "picture" => Some(Chosen::Picture(shown(matches)?)),
-        "frames" => filmed(matches).map(Chosen::Frames),
-        "times" => timed(matches).map(Chosen::Times),
         "browse" => Some(Chosen::Browse(looked_at(matches)?)),
         "serve" => plan(matches).map(Chosen::Serve),
         "explain" => {
             let number = number(matches.get_str("NUMBER")?)?;
             Some(Chosen::Explain(matches.get_str("AREA")?, number))
         }
-        "fbs-check" => Some(Chosen::FbsCheck(matches.get_str("PATH")?)),
-        _ => None,
+        _ => on_files(name, matches).map(Chosen::OnFiles),
     }
 }
 

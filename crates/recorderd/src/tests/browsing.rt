@@ -29,8 +29,8 @@ const RED: [u8; 58] =
     *b"BM\x3a\0\0\0\0\0\0\0\x36\0\0\0\x28\0\0\0\x01\0\0\0\x01\0\0\0\x01\0\x20\0\0\0\0\0\x04\0\0\0\0\0\0\0\0\0\0\0\0\0\0\0\0\0\0\0\0\0\xff\0";
 
 // Asks a server for something: whether it answers with this status and body.
-fn is_answered<R: Net<Stream = TcpStream> + AllocGlobal>(
-    rt: &R,
+fn is_answered(
+    rt: &HostRuntime,
     place: SocketAddr,
     request: &[u8],
     status: &str,
@@ -45,10 +45,7 @@ fn is_answered<R: Net<Stream = TcpStream> + AllocGlobal>(
 }
 
 // What is asked for, and what is answered.
-fn all_is_answered<R: Net<Stream = TcpStream> + AllocGlobal>(
-    rt: &R,
-    place: SocketAddr,
-) -> Result<(), Fail> {
+fn all_is_answered(rt: &HostRuntime, place: SocketAddr) -> Result<(), Fail> {
     let answers: [(&[u8], &str, &[u8]); 13] = [
         (
             b"GET / HTTP/1.1\r\nHost: localhost:80\r\n\r\n",
@@ -116,15 +113,11 @@ fn all_is_answered<R: Net<Stream = TcpStream> + AllocGlobal>(
 }
 
 // Serves for two seconds: whether that is done, and what is printed.
-fn print<
-    R: Files<File = File>
-        + Net<Stream = TcpStream, Listener = TcpListener>
-        + Threads
-        + Wait
-        + Clock
-        + Sync
-        + AllocGlobal,
->(rt: &R, file: &str, listener: TcpListener) -> io::Result<String> {
+fn print<R>(rt: &R, file: &str, listener: TcpListener) -> io::Result<String>
+where
+    R: AllocGlobal + Clock + Files<File = File> + Sync + Threads + Wait,
+    R: Net<Stream = TcpStream, Listener = TcpListener>,
+{
     let alloc = rt.alloc();
     let mut out = Vec::new(alloc);
     let mut err = Vec::new(alloc);

@@ -382,7 +382,7 @@ const FRAME: &[u8] = b"P6\n3 1\n255\n\xff\0\0\0\xff\0\0\0\xff";
 fn frames_are_written(rt: HostRuntime) -> Result<(), Fail> {
     let rt = &rt;
     fs::write(rt, "filmed", KEYED.as_slice())?;
-    for (options, frames) in [("", FRAMES), (" --from 5 --to 21", FRAME)] {
+    for (options, frames) in [("", FRAMES), (" --from 5 --to 20", FRAME)] {
         let line = format!(in rt.alloc(); "recorderd frames filmed --rate 60{options}")?;
         let (status, out, err) = written(rt, &line, "")?;
         assert!(rt;

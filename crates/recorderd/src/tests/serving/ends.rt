@@ -1,9 +1,9 @@
 //! What viewers are shown of a host's end, and who is taken.
 
+use super::checked;
 use super::peers::{
     ALL, BLACK, CHANGES, GREEN, Peer, Place, RED, silent_viewer, small_host, viewer,
 };
-use super::{checked, recorded};
 use serve::{Audience, Origin};
 use std::alloc::Global;
 use std::fs;
@@ -29,8 +29,8 @@ fn burst(alloc: Global, host: &Peer) -> Result<(), Fail> {
 
 // One viewer comes and goes, a second is there, a third finds no seat, and one says nothing; then
 // the host ends, and the second is shown the end.
-fn the_end_is_shown<R: Net<Stream = TcpStream, Listener = TcpListener> + AllocGlobal>(
-    rt: &R,
+fn the_end_is_shown(
+    rt: &HostRuntime,
     hosts: TcpListener,
     place: Place,
     stays: bool,
@@ -67,13 +67,7 @@ fn a_viewer_is_shown_the_end(rt: HostRuntime) -> Result<(), Fail> {
     let file = "shown";
     for audience in [Audience::Any, Audience::Count(1)] {
         let stays = audience == Audience::Count(1);
-        let said = recorded(
-            rt,
-            file,
-            audience,
-            Origin::Live,
-            |hosts, place| the_end_is_shown(rt, hosts, place, stays),
-        )?;
+        let said = recorded!(rt, file, audience, Origin::Live, the_end_is_shown, stays)?;
         assert!(rt; said.as_str() == "true serving\ncommitted 301\n", "{said}");
     }
     fs::remove_file(rt, file)?;
@@ -81,11 +75,7 @@ fn a_viewer_is_shown_the_end(rt: HostRuntime) -> Result<(), Fail> {
 }
 
 // Two updates come in one piece, and then one with a fault behind it.
-fn pieces_come<R: Net<Stream = TcpStream, Listener = TcpListener> + AllocGlobal>(
-    rt: &R,
-    hosts: TcpListener,
-    place: Place,
-) -> Result<(), Fail> {
+fn pieces_come(rt: &HostRuntime, hosts: TcpListener, place: Place) -> Result<(), Fail> {
     let alloc = rt.alloc();
     let host = small_host(alloc, &hosts)?;
     let mut piece = Vec::from_slice(alloc, &RED)?;
@@ -107,13 +97,7 @@ fn pieces_come<R: Net<Stream = TcpStream, Listener = TcpListener> + AllocGlobal>
 fn messages_in_one_piece_keep_their_order(rt: HostRuntime) -> Result<(), Fail> {
     let rt = &rt;
     let file = "pieces";
-    let said = recorded(
-        rt,
-        file,
-        Audience::Count(1),
-        Origin::Count(0),
-        |hosts, place| pieces_come(rt, hosts, place),
-    )?;
+    let said = recorded!(rt, file, Audience::Count(1), Origin::Count(0), pieces_come)?;
     let refused = "false serving\nrecorderd: serve refused host 1\n";
     assert!(rt; said.as_str() == refused, "{said}");
     let said = checked(rt, file)?;

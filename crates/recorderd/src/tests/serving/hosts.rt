@@ -3,7 +3,7 @@
 use super::peers::{
     ALL, BLACK, CHANGES, GREEN, Peer, Place, RED, deaf_host, listener, small_host, viewer,
 };
-use super::{checked, plan_of, recorded, serve_while};
+use super::{checked, plan_of};
 use serve::{Audience, Origin};
 use std::fs;
 use std::net::{Net, TcpListener, TcpStream};
@@ -21,8 +21,8 @@ enum Ending {
 }
 
 // A viewer is shown an update, and the host ends.
-fn host_ends<R: Net<Stream = TcpStream, Listener = TcpListener> + AllocGlobal>(
-    rt: &R,
+fn host_ends(
+    rt: &HostRuntime,
     hosts: TcpListener,
     place: Place,
     ending: Ending,
@@ -66,12 +66,13 @@ fn a_host_ends(rt: HostRuntime) -> Result<(), Fail> {
             "false serving\nrecorderd: serve refused host 1\n",
         ),
     ] {
-        let said = recorded(
+        let said = recorded!(
             rt,
             file,
             Audience::Count(1),
             Origin::Live,
-            |hosts, place| host_ends(rt, hosts, place, ending),
+            host_ends,
+            ending
         )?;
         assert!(rt; said.as_str() == line, "{said}");
         assert!(rt; checked(rt, file)?.as_str() == "recording 1 1 messages 1 blocks 1\n");
@@ -84,11 +85,7 @@ const RECORDING: [u8; 54] =
     *b"ORFBREC1\0\x01\0\x01\0\x04\0\x01xO\0\0\0\x1d\0\x01\0\0\0\0\0\0\0\0\x14\0\0\0\x01\0\0\0\0\0\x01\0\x01\0\0\0\0\0\0\xff\0C";
 
 // What a viewer sees first of a recording that is served alone.
-fn alone<R: Net<Stream = TcpStream, Listener = TcpListener> + AllocGlobal>(
-    rt: &R,
-    place: Place,
-    first: &[u8],
-) -> Result<(), Fail> {
+fn alone(rt: &HostRuntime, place: Place, first: &[u8]) -> Result<(), Fail> {
     let alloc = rt.alloc();
     viewer(rt, place)?.talk(alloc, &ALL, first)
 }
@@ -105,7 +102,7 @@ fn a_recording_is_served_alone(rt: HostRuntime) -> Result<(), Fail> {
     ] {
         let (viewers, place) = listener(rt)?;
         let plan = plan_of(file, None, Audience::Count(1), from);
-        let said = serve_while(rt, &plan, viewers, move || alone(rt, place, first))?;
+        let said = serve_while!(rt, &plan, viewers, move || alone(rt, place, first))?;
         assert!(rt; said.as_str() == "true serving\ncommitted 1\n", "{said}");
     }
     assert!(rt; checked(rt, file)?.as_str() == "recording 1 1 messages 1 blocks 1\n");
@@ -128,13 +125,13 @@ fn what_can_t_be_served_makes_no_file(rt: HostRuntime) -> Result<(), Fail> {
         Origin::Live,
     );
     let alone = plan_of(file, None, Audience::Count(1), Origin::Live);
-    let said = serve_while(rt, &plan, viewers, move || Ok(()))?;
+    let said = serve_while!(rt, &plan, viewers, move || Ok(()))?;
     assert!(rt;
         said.as_str() == "false recorderd: serve refused net 1\n",
         "{said}"
     );
     let (viewers, _) = listener(rt)?;
-    let said = serve_while(rt, &alone, viewers, move || Ok(()))?;
+    let said = serve_while!(rt, &alone, viewers, move || Ok(()))?;
     assert!(rt;
         said.as_str() == "false recorderd: serve refused file 1\n",
         "{said}"
@@ -142,7 +139,7 @@ fn what_can_t_be_served_makes_no_file(rt: HostRuntime) -> Result<(), Fail> {
     assert!(rt; fs::metadata(rt, file).is_err());
     fs::write(rt, file, b"".as_slice())?;
     let (viewers, _) = listener(rt)?;
-    let said = serve_while(rt, &alone, viewers, move || Ok(()))?;
+    let said = serve_while!(rt, &alone, viewers, move || Ok(()))?;
     assert!(rt;
         said.as_str() == "false recorderd: serve refused journal 1\n",
         "{said}"

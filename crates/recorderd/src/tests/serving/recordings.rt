@@ -1,7 +1,7 @@
 //! Recordings that are shown from their start.
 
 use super::peers::{ALL, BLACK, CHANGES, GREEN, Peer, Place, RED, listener, viewer};
-use super::{checked, plan_of, serve_while};
+use super::{checked, plan_of};
 use serve::{Audience, Origin, Pace, Plan, Playing};
 use std::fs;
 use std::net::{Net, TcpListener, TcpStream};
@@ -13,10 +13,7 @@ const RECORDING: [u8; 83] =
     *b"ORFBREC1\0\x01\0\x01\0\x04\0\x01xO\0\0\0\x3a\0\x02\0\0\0\x0b\xb8\0\0\0\x14\0\0\0\x01\0\0\0\0\0\x01\0\x01\0\0\0\0\0\0\xff\0\0\0\x16\xe3\x60\0\0\0\x14\0\0\0\x01\0\0\0\0\0\x01\0\x01\0\0\0\0\0\xff\0\0C";
 
 // What a viewer sees that asks again and again.
-fn sees_each<R: Net<Stream = TcpStream, Listener = TcpListener> + AllocGlobal>(
-    rt: &R,
-    place: Place,
-) -> Result<(), Fail> {
+fn sees_each(rt: &HostRuntime, place: Place) -> Result<(), Fail> {
     let alloc = rt.alloc();
     let viewer = viewer(rt, place)?;
     viewer.talk(alloc, &ALL, &BLACK)?;
@@ -25,8 +22,8 @@ fn sees_each<R: Net<Stream = TcpStream, Listener = TcpListener> + AllocGlobal>(
 }
 
 // Asks, and is shown this update no sooner than so many milliseconds from a moment on.
-fn comes_after<R: Clock + AllocGlobal>(
-    rt: &R,
+fn comes_after(
+    rt: &HostRuntime,
     viewer: &Peer,
     update: &[u8],
     started: Instant,
@@ -40,10 +37,7 @@ fn comes_after<R: Clock + AllocGlobal>(
 }
 
 // What it sees of a recording that is played again and again, with pauses of two seconds at most.
-fn sees_each_in_time<R: Net<Stream = TcpStream, Listener = TcpListener> + Clock + AllocGlobal>(
-    rt: &R,
-    place: Place,
-) -> Result<(), Fail> {
+fn sees_each_in_time(rt: &HostRuntime, place: Place) -> Result<(), Fail> {
     let started = Instant::now(rt)?;
     let viewer = viewer(rt, place)?;
     viewer.talk(rt.alloc(), &ALL, &BLACK)?;
@@ -59,7 +53,7 @@ fn each_message_is_shown(rt: HostRuntime) -> Result<(), Fail> {
     fs::write(rt, file, RECORDING.as_slice())?;
     let plan = plan_of(file, None, Audience::Count(1), Origin::Count(0));
     let (viewers, place) = listener(rt)?;
-    let said = serve_while(rt, &plan, viewers, move || sees_each(rt, place))?;
+    let said = serve_while!(rt, &plan, viewers, move || sees_each(rt, place))?;
     assert!(rt; said.as_str() == "true serving\ncommitted 2\n", "{said}");
     let plan = Plan {
         playing: Some(Playing {
@@ -70,7 +64,7 @@ fn each_message_is_shown(rt: HostRuntime) -> Result<(), Fail> {
         ..plan
     };
     let (viewers, place) = listener(rt)?;
-    let said = serve_while(rt, &plan, viewers, move || sees_each_in_time(rt, place))?;
+    let said = serve_while!(rt, &plan, viewers, move || sees_each_in_time(rt, place))?;
     assert!(rt; said.as_str() == "true serving\ncommitted 2\n", "{said}");
     assert!(rt; checked(rt, file)?.as_str() == "recording 1 1 messages 2 blocks 1\n");
     Ok(())

@@ -1,19 +1,15 @@
 //! Viewers of a host.
 
+use super::checked;
 use super::peers::{
     ALL, BLACK, CHANGES, GREEN, Place, RED, large_host, silent_viewer, small_host, viewer,
 };
-use super::{checked, recorded};
 use serve::{Audience, Origin};
 use std::net::{Net, TcpListener, TcpStream};
 use std::test::Fail;
 
 // Two viewers, who see the black screen, and then the host's update.
-fn two_watch<R: Net<Stream = TcpStream, Listener = TcpListener> + AllocGlobal>(
-    rt: &R,
-    hosts: TcpListener,
-    place: Place,
-) -> Result<(), Fail> {
+fn two_watch(rt: &HostRuntime, hosts: TcpListener, place: Place) -> Result<(), Fail> {
     let alloc = rt.alloc();
     let host = small_host(alloc, &hosts)?;
     let one = viewer(rt, place)?;
@@ -30,13 +26,7 @@ fn two_watch<R: Net<Stream = TcpStream, Listener = TcpListener> + AllocGlobal>(
 #[test]
 fn two_viewers_get_a_host_s_update(rt: HostRuntime) -> Result<(), Fail> {
     let rt = &rt;
-    let said = recorded(
-        rt,
-        "watched",
-        Audience::Count(2),
-        Origin::Live,
-        |hosts, place| two_watch(rt, hosts, place),
-    )?;
+    let said = recorded!(rt, "watched", Audience::Count(2), Origin::Live, two_watch)?;
     assert!(rt; said.as_str() == "true serving\ncommitted 1\n", "{said}");
     assert!(rt; checked(rt, "watched")?.as_str() == "recording 1 1 messages 1 blocks 1\n");
     Ok(())
@@ -44,11 +34,7 @@ fn two_viewers_get_a_host_s_update(rt: HostRuntime) -> Result<(), Fail> {
 
 // One viewer says nothing, one is of another version, one leaves within a message, and one begins
 // behind what there is; the last one sees all.
-fn strangers_come<R: Net<Stream = TcpStream, Listener = TcpListener> + AllocGlobal>(
-    rt: &R,
-    hosts: TcpListener,
-    place: Place,
-) -> Result<(), Fail> {
+fn strangers_come(rt: &HostRuntime, hosts: TcpListener, place: Place) -> Result<(), Fail> {
     let alloc = rt.alloc();
     let host = small_host(alloc, &hosts)?;
     let silent = silent_viewer(rt, place)?;
@@ -75,12 +61,12 @@ fn strangers_come<R: Net<Stream = TcpStream, Listener = TcpListener> + AllocGlob
 #[test]
 fn a_viewer_s_fault_ends_it_alone(rt: HostRuntime) -> Result<(), Fail> {
     let rt = &rt;
-    let said = recorded(
+    let said = recorded!(
         rt,
         "strangers",
         Audience::Count(3),
         Origin::Count(0),
-        |hosts, place| strangers_come(rt, hosts, place),
+        strangers_come
     )?;
     assert!(rt; said.as_str() == "true serving\ncommitted 2\n", "{said}");
     assert!(rt; checked(rt, "strangers")?.as_str() == "recording 1 1 messages 2 blocks 2\n");
@@ -98,11 +84,7 @@ const MORE: [u8; 10] = *b"\x03\x01\0\0\0\0\x08\0\x04\0";
 
 // A viewer doesn't read its answer while the other is shown two updates. Then it reads the answer,
 // and is shown the newest place at last.
-fn one_sleeps<R: Net<Stream = TcpStream, Listener = TcpListener> + AllocGlobal>(
-    rt: &R,
-    hosts: TcpListener,
-    place: Place,
-) -> Result<(), Fail> {
+fn one_sleeps(rt: &HostRuntime, hosts: TcpListener, place: Place) -> Result<(), Fail> {
     let alloc = rt.alloc();
     let host = large_host(alloc, &hosts)?;
     let asleep = viewer(rt, place)?;
@@ -122,13 +104,7 @@ fn one_sleeps<R: Net<Stream = TcpStream, Listener = TcpListener> + AllocGlobal>(
 #[test]
 fn a_viewer_that_sleeps_holds_up_nobody(rt: HostRuntime) -> Result<(), Fail> {
     let rt = &rt;
-    let said = recorded(
-        rt,
-        "asleep",
-        Audience::Count(2),
-        Origin::Live,
-        |hosts, place| one_sleeps(rt, hosts, place),
-    )?;
+    let said = recorded!(rt, "asleep", Audience::Count(2), Origin::Live, one_sleeps)?;
     assert!(rt; said.as_str() == "true serving\ncommitted 2\n", "{said}");
     assert!(rt; checked(rt, "asleep")?.as_str() == "recording 2048 1024 messages 2 blocks 2\n");
     Ok(())
