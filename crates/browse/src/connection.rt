@@ -4,7 +4,7 @@ ghost use Rattle.std.specs.Prelude.{◌≤◌, IfOk, length};
 
 use crate::request::{Judged, judge};
 use crate::site::Site;
-use sockets::{Connection, Woken, time_left, watch_over, write_within};
+use sockets::{Connection, Woken, time_left, watch_over};
 use std::io;
 use std::io::{BufWriter, Write};
 use std::net::{Shutdown, TcpStream};
@@ -14,8 +14,8 @@ use std::time::{Clock, Instant};
 /// Within how many seconds a request has to come.
 const REQUEST: u64 = 10;
 
-/// Within how many seconds the next part of an answer has to be taken.
-const ANSWER: u64 = 30;
+/// Within how many seconds an answer has to be taken.
+const ANSWER: u64 = 60;
 
 /// For how many seconds at most the other side's end is waited for.
 const END: u64 = 2;
@@ -23,17 +23,19 @@ const END: u64 = 2;
 /// How many bytes are read at a time.
 const PIECE: usize = 2048;
 
-/// Writes to a socket whose other side may be slow, but not for ever.
+/// Writes an answer to a socket whose other side may be slow, but not slower than that.
 #[derive(Drop)]
 struct Outlet<'a, R: Clock> {
     rt: &'a R,
     stream: &'a TcpStream,
+    started: Instant,
 }
 
 impl<R: Clock> Write for Outlet<'_, R> {
     fn write(&mut self, bytes: &[u8]) -> io::Result<usize> {
-        write_within(self.rt, self.stream, bytes, ANSWER)?;
-        Ok(bytes.len())
+        let left = time_left(self.rt, self.started, ANSWER)?;
+        self.stream.set_write_timeout(Some(left))?;
+        (&mut &*self.stream).write(bytes)
     }
 
     fn flush(&mut self) -> io::Result<()> {
@@ -97,7 +99,12 @@ fn wait_for_end<R: Clock>(rt: &R, site: &Site, stream: &TcpStream) -> io::Result
 fn converse<R: Clock + Wait>(rt: &R, site: &Site, stream: &TcpStream) -> io::Result<()> {
     watch_over(stream)?;
     let judged = hear(rt, site, stream)?;
-    let mut out = BufWriter::new(site.alloc, Outlet { rt, stream })?;
+    let outlet = Outlet {
+        rt,
+        stream,
+        started: Instant::now(rt)?,
+    };
+    let mut out = BufWriter::new(site.alloc, outlet)?;
     site.answer(rt, judged, &mut out)?;
     out.flush()?;
     wait_for_end(rt, site, stream)
