@@ -3,13 +3,14 @@
 
 // Serves what a plan says while a test plays: what is printed, once both are done.
 macro_rules! serve_while {
-    ($rt:ident, $plan:expr, $viewers:ident, $play:expr) => {
+    ($rt:ident, $plan:expr, $viewers:ident, $play:expr) => {{
+        let plan = $plan;
         super::told(std::thread::join(
             $rt,
-            move || super::print($rt, $plan, $viewers),
+            move || super::print($rt, plan, $viewers),
             $play,
         ))
-    };
+    }};
 }
 
 // Records a host of a test into a new file, and serves that: what is printed. The test is called with
@@ -21,8 +22,7 @@ macro_rules! recorded {
         let (viewers, place) = super::peers::listener($rt)?;
         let address = host.address($rt.alloc())?;
         let plan = super::plan_of($file, Some(address.as_str()), $audience, $from);
-        let plan = &plan;
-        serve_while!($rt, plan, viewers, move || $play($rt, hosts, place $(, $more)*))
+        serve_while!($rt, &plan, viewers, move || $play($rt, hosts, place $(, $more)*))
     }};
 }
 
