@@ -12,7 +12,7 @@ use Rattle.client_wire.specs.declared.progress.Position.TheVariants as positions
 use Rattle.client_wire.specs.declared.progress.AfterField.{AfterField}
 use Rattle.client_wire.specs.declared.progress.AfterField.TheVariants as steps
 use Rattle.client_wire.specs.declared.progress.PartialMessage.{PartialMessage}
-use Rattle.client_wire.specs.Reader.{kept_limit}
+use Rattle.client_wire.specs.Reader.{kept_limit, head_limit}
 use Rattle.client_wire.specs.Grammar.{set_pixel_format_at, encodings_at, set_encodings_at, request_at, input_at, cut_text_at, message_at}
 
 -- how many bytes the field has
@@ -53,7 +53,7 @@ follow (steps.Whole m) bytes = Got m bytes
 -- message
 abbrev pub BeginsAt : ℕ → Position → Type 0
 BeginsAt at (positions.Field stage) = (start_of stage ≡ at) × (0 < wants_of stage) × (at + wants_of stage ≤ kept_limit)
-BeginsAt at (positions.ReadOver o) = (o.passed ≡ 0) × (0 < o.left) × (o.left < 2 ^ 32) × (at ≤ 8)
+BeginsAt at (positions.ReadOver o) = (o.passed ≡ 0) × (0 < o.left) × (o.left < 2 ^ 32) × (at ≤ head_limit)
 
 abbrev pub StepBeginsAt : ℕ → AfterField → Type 0
 StepBeginsAt at (steps.Goes p) = BeginsAt at p
@@ -78,7 +78,7 @@ pub record IsOver (bytes : List ℕ) (o : Over) : Type 0 where
       → message_at ((bytes ++ skipped) ++ more) ≡ input_at o.kind o.left more
   pub some : 0 < o.left
   pub bound : o.passed + o.left < 2 ^ 32
-  pub short : length bytes ≤ 8
+  pub short : length bytes ≤ head_limit
 
 -- where the reader stands
 abbrev pub IsAtPosition : List ℕ → Position → Type 0

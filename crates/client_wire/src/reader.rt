@@ -3,7 +3,7 @@
 ghost use Rattle.std.specs.Prelude.{◌≡◌, ℕ, List, [], ◌++◌, ◌<◌, length, Option, Some, None, Ok, Err, OnOk, IfErr, OnErr};
 ghost use Rattle.terms.specs.declared.wire_fault.WireFault.{WireFault};
 ghost use Rattle.client_wire.specs.Grammar.{message_at};
-ghost use Rattle.client_wire.specs.Reader.{kept_limit};
+ghost use Rattle.client_wire.specs.Reader.{kept_limit, IsHeadAlone};
 ghost use Rattle.client_wire.specs.Stream.{Goes, Stops, FaultOf, StandsFor, Grows, itself};
 
 use crate::message::ClientMessage;
@@ -74,8 +74,9 @@ impl ClientReader {
             → (result ≡ Err f) × (self.new ≡ self.old) × (out.new.items ≡ out.old.items) }
         ensures emptied { OnErr result (self.old.fault ≡ None
             → (self.new.kept ≡ []) × (self.new.passed ≡ 0)) }
-        // The bytes of an input message are counted, and those of any other are few.
+        // Few bytes are kept, whatever comes, and of an input message its head alone.
         ensures short { length self.new.kept < kept_limit }
+        ensures head { IsHeadAlone self.new.kept }
     {
         if let Some(fault) = self.fault {
             return Err(fault);
