@@ -15,7 +15,7 @@ use Rattle.client_wire.specs.declared.progress.PartialMessage.{PartialMessage}
 use Rattle.terms.specs.Fault.{UnlessMemory}
 use Rattle.client_wire.specs.Reader.{kept_limit, IsHeadAlone}
 use Rattle.client_wire.specs.Grammar.{input_at, message_at}
-use Rattle.client_wire.specs.PartialMessage.{wants_of, start_of, resume, position_at, BeginsAt, IsLinked, IsInField, IsOver, IsAtPosition, IsAt, passed_in}
+use Rattle.client_wire.specs.PartialMessage.{wants_of, start_of, resume, position_at, BeginsAt, IsLinked, IsInField, IsOver, IsAtPosition, IsAt, passed_in, TakesFor}
 use Rattle.client_wire.specs.Stream.{StandsFor, Moves, itself}
 use Rattle.client_wire.proofs.Fronts.{unless_memory_map}
 use Rattle.client_wire.proofs.Fronts.{pixel_format_never, encodings_never, request_never}
@@ -166,3 +166,10 @@ head_there bytes (positions.ReadOver o) at = λ more rest kind e. at.short
 
 pub at_head : (p : PartialMessage) → IsAt p → IsHeadAlone p.bytes.items
 at_head p at = head_there p.bytes.items p.position at
+
+-- bytes are taken behind others
+pub takes_both : (a b : ℕ) (old between new : PartialMessage) (n : ℕ) → n ≡ a + b → TakesFor a old between → TakesFor b between new → TakesFor n old new
+takes_both a b old between new n is first second = record {
+  kept = omega (arith, first.kept, second.kept);
+  room = omega (arith, first.kept, first.room, second.room);
+}

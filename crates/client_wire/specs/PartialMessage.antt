@@ -1,6 +1,7 @@
 -- Where a reader stands in a message: what comes next, and what the bytes from there on say, by the
 -- grammar.
-use Rattle.std.specs.Prelude.{◌≡◌, ℕ, ◌+◌, ◌*◌, ◌<◌, ◌≤◌, ◌^◌, List, ◌++◌, length, drop}
+use Rattle.std.specs.Prelude.{◌≡◌, ℕ, ◌+◌, ◌*◌, ◌<◌, ◌≤◌, ◌^◌, List, ◌++◌, length, drop, max, vec_capacity}
+use Rattle.terms.specs.Appending.{room_for}
 use Rattle.terms.specs.Reading.{Reading, Got}
 use Rattle.client_wire.specs.declared.message.ClientMessage.{ClientMessage}
 use Rattle.terms.specs.declared.wire_fault.WireFault.{WireFault}
@@ -92,3 +93,8 @@ IsAt p = IsAtPosition p.bytes.items p.position
 abbrev pub passed_in : Position → ℕ
 passed_in (positions.Field stage) = 0
 passed_in (positions.ReadOver o) = o.passed
+
+-- With so many bytes more, no others are kept, and room was taken for no others.
+pub record TakesFor (n : ℕ) (old new : PartialMessage) : Type 0 where
+  pub kept : length new.bytes.items ≤ length old.bytes.items + n
+  pub room : vec_capacity new.bytes ≤ max (vec_capacity old.bytes) (room_for (length old.bytes.items + n))

@@ -19,9 +19,10 @@ head_limit = 8
 abbrev pub IsHeadAlone : List ℕ → Type 0
 IsHeadAlone kept = (more rest : List ℕ) → (kind : ℕ) → message_at (kept ++ more) ≡ Got (messages.Input kind) rest → length kept ≤ head_limit
 
--- Of an unfinished message the bytes that are kept and the number of those that are read over, and
--- the fault that was met, if one was.
+-- Of an unfinished message the bytes that are kept and the number of those that are read over; for
+-- how many bytes there is room; and the fault that was met, if one was.
 pub record Reader : Type 0 where
   pub kept : List ℕ
   pub passed : ℕ
+  pub room : ℕ
   pub fault : Option WireFault
