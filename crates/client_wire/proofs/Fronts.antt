@@ -1,5 +1,9 @@
 -- What the grammar says of bytes whose first field is known.
 use Rattle.std.proofs.Common.{◌≡◌, ℕ, ◌*◌, List, nat_eq, false, drop, refl, slice_index}
+use Rattle.std.specs.Prelude.{Result, Ok, Err}
+use Rattle.terms.proofs.Readings.{bind_got}
+use Rattle.terms.specs.declared.format_fault.FormatFault.{FormatFault}
+use Rattle.pixel_format.specs.Format.{Format}
 use Rattle.terms.specs.Reading.{Got, More, Bad, field}
 use Rattle.pixel_format.specs.Written.{format_at, is_flag}
 use Rattle.terms.specs.Number.{u16_at, u32_at}
@@ -119,3 +123,27 @@ unless_memory_map faults.BadHextile P Q m p = m p
 unless_memory_map faults.SourceOutside P Q m p = m p
 unless_memory_map (faults.BadFormat e) P Q m p = m p
 unless_memory_map faults.NoMemory P Q m p = tt
+
+-- no input message is a format, a list of encodings or a request
+judged_never : (r : Result Format FormatFault) (after : List ℕ) (kind : ℕ) (rest : List ℕ) → judged r after ≡ Got (messages.Input kind) rest → ⊥
+judged_never (Ok f) after kind rest e = absurd (cc)
+judged_never (Err g) after kind rest e = absurd (cc)
+
+pub pixel_format_never : (bytes : List ℕ) (kind : ℕ) (rest : List ℕ) → set_pixel_format_at bytes ≡ Got (messages.Input kind) rest → ⊥
+unfolding set_pixel_format_at
+pixel_format_never bytes kind rest e =
+    let b = bind_got (field {E = WireFault} 19 bytes) (λ f after. judged (format_at (drop 3 f)) after) (messages.Input kind) rest e in
+    judged_never (format_at (drop 3 b.value)) b.rest kind rest b.then
+
+pub encodings_never : (count : ℕ) (bytes : List ℕ) (kind : ℕ) (rest : List ℕ) → encodings_at count bytes ≡ Got (messages.Input kind) rest → ⊥
+unfolding encodings_at
+encodings_never count bytes kind rest e =
+    let b = bind_got (field {E = WireFault} (4 * count) bytes) (λ f after. Got (messages.SetEncodings (numbers_of f)) after) (messages.Input kind) rest e in
+    let then = b.then in absurd (cc)
+
+pub request_never : (bytes : List ℕ) (kind : ℕ) (rest : List ℕ) → request_at bytes ≡ Got (messages.Input kind) rest → ⊥
+unfolding request_at
+request_never bytes kind rest e =
+    let b = bind_got (field {E = WireFault} 9 bytes)
+    (λ f after. Got (messages.Request (is_flag (slice_index f 0)) (u16_at f 1) (u16_at f 3) (u16_at f 5) (u16_at f 7)) after) (messages.Input kind) rest e in
+    let then = b.then in absurd (cc)

@@ -13,11 +13,12 @@ use Rattle.client_wire.specs.declared.progress.Position.{Position}
 use Rattle.client_wire.specs.declared.progress.Position.TheVariants as positions
 use Rattle.client_wire.specs.declared.progress.PartialMessage.{PartialMessage}
 use Rattle.terms.specs.Fault.{UnlessMemory}
-use Rattle.client_wire.specs.Reader.{kept_limit}
+use Rattle.client_wire.specs.Reader.{kept_limit, IsHeadAlone}
 use Rattle.client_wire.specs.Grammar.{input_at, message_at}
-use Rattle.client_wire.specs.PartialMessage.{wants_of, start_of, resume, position_at, BeginsAt, IsLinked, IsInField, IsOver, IsAtPosition, IsAt, passed_in}
+use Rattle.client_wire.specs.PartialMessage.{wants_of, start_of, resume, position_at, BeginsAt, IsLinked, IsInField, IsOver, IsAtPosition, IsAt, passed_in, TakesFor}
 use Rattle.client_wire.specs.Stream.{StandsFor, Moves, itself}
 use Rattle.client_wire.proofs.Fronts.{unless_memory_map}
+use Rattle.client_wire.proofs.Fronts.{pixel_format_never, encodings_never, request_never}
 use Rattle.client_wire.proofs.Resume.{resume-short}
 use Rattle.client_wire.proofs.Streams.{gives_none, gives_one, empty_list, stands_kept, stands_whole, over_more}
 
@@ -148,3 +149,27 @@ short_there bytes (positions.ReadOver o) at = omega (arith, at.short)
 
 pub at_short : (p : PartialMessage) → IsAt p → length p.bytes.items < kept_limit
 at_short p at = short_there p.bytes.items p.position at
+
+-- what is kept of an input message is its head: the bytes of another field are of no such message
+in_field_head : (bytes : List ℕ) (stage : Stage) → IsInField bytes stage → IsHeadAlone bytes
+unfolding resume
+in_field_head bytes stages.Type at more rest kind e = omega (arith, at.unfinished)
+in_field_head bytes stages.PixelFormat at more rest kind e = absurd (pixel_format_never (drop 1 bytes ++ more) kind rest (sym (at.linked.link more) ∙ e))
+in_field_head bytes stages.EncodingsHead at more rest kind e = omega (arith, at.unfinished)
+in_field_head bytes (stages.Encodings count) at more rest kind e = absurd (encodings_never count (drop 4 bytes ++ more) kind rest (sym (at.linked.link more) ∙ e))
+in_field_head bytes stages.Request at more rest kind e = absurd (request_never (drop 1 bytes ++ more) kind rest (sym (at.linked.link more) ∙ e))
+in_field_head bytes stages.TextHead at more rest kind e = omega (arith, at.unfinished)
+
+head_there : (bytes : List ℕ) (p : Position) → IsAtPosition bytes p → IsHeadAlone bytes
+head_there bytes (positions.Field stage) at = in_field_head bytes stage at
+head_there bytes (positions.ReadOver o) at = λ more rest kind e. at.short
+
+pub at_head : (p : PartialMessage) → IsAt p → IsHeadAlone p.bytes.items
+at_head p at = head_there p.bytes.items p.position at
+
+-- bytes are taken behind others
+pub takes_both : (a b : ℕ) (old between new : PartialMessage) (n : ℕ) → n ≡ a + b → TakesFor a old between → TakesFor b between new → TakesFor n old new
+takes_both a b old between new n is first second = record {
+  kept = omega (arith, first.kept, second.kept);
+  room = omega (arith, first.kept, first.room, second.room);
+}

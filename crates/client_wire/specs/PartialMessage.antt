@@ -1,6 +1,7 @@
 -- Where a reader stands in a message: what comes next, and what the bytes from there on say, by the
 -- grammar.
-use Rattle.std.specs.Prelude.{◌≡◌, ℕ, ◌+◌, ◌*◌, ◌<◌, ◌≤◌, ◌^◌, List, ◌++◌, length, drop}
+use Rattle.std.specs.Prelude.{◌≡◌, ℕ, ◌+◌, ◌*◌, ◌<◌, ◌≤◌, ◌^◌, List, ◌++◌, length, drop, max, vec_capacity}
+use Rattle.terms.specs.Appending.{room_for}
 use Rattle.terms.specs.Reading.{Reading, Got}
 use Rattle.client_wire.specs.declared.message.ClientMessage.{ClientMessage}
 use Rattle.terms.specs.declared.wire_fault.WireFault.{WireFault}
@@ -12,7 +13,7 @@ use Rattle.client_wire.specs.declared.progress.Position.TheVariants as positions
 use Rattle.client_wire.specs.declared.progress.AfterField.{AfterField}
 use Rattle.client_wire.specs.declared.progress.AfterField.TheVariants as steps
 use Rattle.client_wire.specs.declared.progress.PartialMessage.{PartialMessage}
-use Rattle.client_wire.specs.Reader.{kept_limit}
+use Rattle.client_wire.specs.Reader.{kept_limit, head_limit}
 use Rattle.client_wire.specs.Grammar.{set_pixel_format_at, encodings_at, set_encodings_at, request_at, input_at, cut_text_at, message_at}
 
 -- how many bytes the field has
@@ -53,7 +54,7 @@ follow (steps.Whole m) bytes = Got m bytes
 -- message
 abbrev pub BeginsAt : ℕ → Position → Type 0
 BeginsAt at (positions.Field stage) = (start_of stage ≡ at) × (0 < wants_of stage) × (at + wants_of stage ≤ kept_limit)
-BeginsAt at (positions.ReadOver o) = (o.passed ≡ 0) × (0 < o.left) × (o.left < 2 ^ 32) × (at ≤ 8)
+BeginsAt at (positions.ReadOver o) = (o.passed ≡ 0) × (0 < o.left) × (o.left < 2 ^ 32) × (at ≤ head_limit)
 
 abbrev pub StepBeginsAt : ℕ → AfterField → Type 0
 StepBeginsAt at (steps.Goes p) = BeginsAt at p
@@ -78,7 +79,7 @@ pub record IsOver (bytes : List ℕ) (o : Over) : Type 0 where
       → message_at ((bytes ++ skipped) ++ more) ≡ input_at o.kind o.left more
   pub some : 0 < o.left
   pub bound : o.passed + o.left < 2 ^ 32
-  pub short : length bytes ≤ 8
+  pub short : length bytes ≤ head_limit
 
 -- where the reader stands
 abbrev pub IsAtPosition : List ℕ → Position → Type 0
@@ -92,3 +93,8 @@ IsAt p = IsAtPosition p.bytes.items p.position
 abbrev pub passed_in : Position → ℕ
 passed_in (positions.Field stage) = 0
 passed_in (positions.ReadOver o) = o.passed
+
+-- With so many bytes more, no others are kept, and room was taken for no others.
+pub record TakesFor (n : ℕ) (old new : PartialMessage) : Type 0 where
+  pub kept : length new.bytes.items ≤ length old.bytes.items + n
+  pub room : vec_capacity new.bytes ≤ max (vec_capacity old.bytes) (room_for (length old.bytes.items + n))

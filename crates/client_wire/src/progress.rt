@@ -1,6 +1,6 @@
 //! Where a reader stands in a message.
 
-ghost use Rattle.std.specs.Prelude.{◌≡◌, ℕ, ◌<◌, ◌≤◌, ◌^◌, ◌+◌, ◌++◌, [], ◌∷◌, List, length, take, IfOk, OnOk, IfErr, OnErr, Ok, Err};
+ghost use Rattle.std.specs.Prelude.{◌≡◌, ℕ, ◌<◌, ◌≤◌, ◌^◌, ◌+◌, ◌++◌, [], ◌∷◌, List, length, take, IfOk, OnOk, IfErr, OnErr, Ok, Err, vec_capacity};
 ghost use Rattle.terms.specs.Reading.{Bad};
 ghost use Rattle.terms.specs.Fault.{UnlessMemory};
 ghost use Rattle.client_wire.specs.Grammar.{message_at};
@@ -9,7 +9,7 @@ ghost use Rattle.client_wire.specs.Stream.{Moves, Stops, StandsFor, itself};
 use crate::message::ClientMessage;
 use crate::step::step;
 use std::alloc::Global;
-use terms::WireFault;
+use terms::{WireFault, append_come};
 
 /// The field of a message that comes next.
 #[derive(Clone, Copy)]
@@ -107,13 +107,14 @@ impl Over {
 }
 
 impl PartialMessage {
-    ghost use Rattle.client_wire.specs.PartialMessage.{wants_of, start_of, passed_in, IsLinked, IsInField, IsOver, IsAt};
+    ghost use Rattle.client_wire.specs.PartialMessage.{wants_of, start_of, passed_in, IsLinked, IsInField, IsOver, IsAt, TakesFor};
 
     /// A reader at the start of a message.
     pub fn new(alloc: Global) -> PartialMessage
         ensures at { IsAt result }
         ensures none { result.bytes.items ≡ [] }
         ensures passed { passed_in result.position ≡ 0 }
+        ensures room { vec_capacity result.bytes ≡ 0 }
     {
         PartialMessage {
             bytes: Vec::new(alloc),
@@ -130,6 +131,7 @@ impl PartialMessage {
         ensures at { OnOk result (IsAt self.new) }
         ensures none { OnOk result (self.new.bytes.items ≡ []) }
         ensures passed { OnOk result (passed_in self.new.position ≡ 0) }
+        ensures room { OnOk result (vec_capacity self.new.bytes ≡ vec_capacity self.old.bytes) }
         ensures ok { OnOk result (out.new.items ≡ out.old.items ++ message ∷ []) }
         ensures err { OnErr result (out.new.items ≡ out.old.items) }
         ensures only { IfErr result (λ f. f ≡ WireFault.NoMemory) }
@@ -152,6 +154,7 @@ impl PartialMessage {
         ensures at { OnOk result (IsAt self.new) }
         ensures moves { OnOk result (Moves message_at itself self.new.bytes.items
             (passed_in self.new.position) out.old.items out.new.items self.old.bytes.items) }
+        ensures takes { OnOk result (TakesFor 0 self.old self.new) }
         ensures faults { IfErr result (λ f. UnlessMemory f
             ((more : List ℕ) → message_at (self.old.bytes.items ++ more) ≡ Bad f)) }
         ensures err { OnErr result (out.new.items ≡ out.old.items) }
@@ -180,6 +183,7 @@ impl PartialMessage {
             → StandsFor self.old.bytes.items over.passed rest → length taken ≡ n
             → Moves message_at itself self.new.bytes.items (passed_in self.new.position)
             out.old.items out.new.items (rest ++ taken)) }
+        ensures takes { OnOk result (TakesFor 0 self.old self.new) }
         ensures err { OnErr result (out.new.items ≡ out.old.items) }
         ensures only { IfErr result (λ f. f ≡ WireFault.NoMemory) }
     {
@@ -212,13 +216,14 @@ impl PartialMessage {
         ensures moves { IfOk result (λ n. Moves message_at itself self.new.bytes.items
             (passed_in self.new.position) out.old.items out.new.items
             (self.old.bytes.items ++ take n piece.now)) }
+        ensures takes { IfOk result (λ n. TakesFor n self.old self.new) }
         ensures faults { IfErr result (λ f. UnlessMemory f
             (message_at (self.old.bytes.items ++ piece.now) ≡ Bad f)) }
         ensures err { OnErr result (out.new.items ≡ out.old.items) }
     {
         let end = stage.start() + stage.wants();
         let taken = piece.len().min(end - self.bytes.len());
-        self.bytes.extend_from_slice(&piece[..taken])?;
+        append_come(&mut self.bytes, &piece[..taken])?;
         if self.bytes.len() == end {
             self.advance(alloc, stage, out)?;
         }
@@ -241,6 +246,7 @@ impl PartialMessage {
             → StandsFor self.old.bytes.items (passed_in self.old.position) rest
             → Moves message_at itself self.new.bytes.items (passed_in self.new.position)
             out.old.items out.new.items (rest ++ take n piece.now)) }
+        ensures takes { IfOk result (λ n. TakesFor n self.old self.new) }
         ensures faults { IfErr result (λ f. (rest : List ℕ)
             → StandsFor self.old.bytes.items (passed_in self.old.position) rest
             → UnlessMemory f (message_at (rest ++ piece.now) ≡ Bad f)) }
@@ -265,6 +271,7 @@ impl PartialMessage {
             → StandsFor self.old.bytes.items (passed_in self.old.position) rest
             → Moves message_at itself self.new.bytes.items (passed_in self.new.position)
             out.old.items out.new.items (rest ++ piece.now)) }
+        ensures takes { OnOk result (TakesFor (length piece.now) self.old self.new) }
         ensures faults { IfErr result (λ f. (rest : List ℕ)
             → StandsFor self.old.bytes.items (passed_in self.old.position) rest
             → Stops message_at itself f out.old.items out.new.items (rest ++ piece.now)) }

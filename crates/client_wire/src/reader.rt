@@ -1,9 +1,10 @@
 //! The reader of a viewer's stream.
 
-ghost use Rattle.std.specs.Prelude.{◌≡◌, ℕ, List, [], ◌++◌, ◌<◌, length, Option, Some, None, Ok, Err, OnOk, IfErr, OnErr};
+ghost use Rattle.std.specs.Prelude.{◌≡◌, ℕ, List, [], ◌+◌, ◌++◌, ◌<◌, ◌≤◌, length, max, Option, Some, None, Ok, Err, OnOk, IfErr, OnErr};
 ghost use Rattle.terms.specs.declared.wire_fault.WireFault.{WireFault};
+ghost use Rattle.terms.specs.Appending.{room_for};
 ghost use Rattle.client_wire.specs.Grammar.{message_at};
-ghost use Rattle.client_wire.specs.Reader.{kept_limit};
+ghost use Rattle.client_wire.specs.Reader.{kept_limit, IsHeadAlone};
 ghost use Rattle.client_wire.specs.Stream.{Goes, Stops, FaultOf, StandsFor, Grows, itself};
 
 use crate::message::ClientMessage;
@@ -23,6 +24,7 @@ pub struct ClientReader {
 }
 
 impl Model for ClientReader {
+    ghost use Rattle.std.specs.Prelude.{vec_capacity};
     ghost use Rattle.client_wire.specs.Reader.{Reader};
     ghost use Rattle.client_wire.specs.PartialMessage.{IsAt, passed_in};
 
@@ -31,6 +33,7 @@ impl Model for ClientReader {
     ghost view = { λ r. record {
       kept = r.progress.bytes.items;
       passed = passed_in r.progress.position;
+      room = vec_capacity r.progress.bytes;
       fault = r.fault;
     } };
 
@@ -40,7 +43,7 @@ impl Model for ClientReader {
 impl ClientReader {
     /// A reader at the start of a stream.
     pub fn new(alloc: Global) -> ClientReader
-        ensures { result ≡ record { kept = []; passed = 0; fault = None } }
+        ensures { result ≡ record { kept = []; passed = 0; room = 0; fault = None } }
     {
         ClientReader {
             alloc,
@@ -74,8 +77,12 @@ impl ClientReader {
             → (result ≡ Err f) × (self.new ≡ self.old) × (out.new.items ≡ out.old.items) }
         ensures emptied { OnErr result (self.old.fault ≡ None
             → (self.new.kept ≡ []) × (self.new.passed ≡ 0)) }
-        // The bytes of an input message are counted, and those of any other are few.
+        // Few bytes are kept, whatever comes, and of an input message its head alone.
         ensures short { length self.new.kept < kept_limit }
+        ensures head { IsHeadAlone self.new.kept }
+        // Room is taken for bytes that have come.
+        ensures room { self.new.room
+            ≤ max self.old.room (room_for (length self.old.kept + length piece.now)) }
     {
         if let Some(fault) = self.fault {
             return Err(fault);

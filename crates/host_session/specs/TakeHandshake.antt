@@ -18,7 +18,7 @@ pub record IsWhole (expected : Option (ℕ × ℕ)) (old new : Exchange) (n : �
   pub some : n ≤ length piece
   pub reader : Reader
   pub is : new.reader ≡ Some reader
-  pub begins : reader ≡ record { width = reader.width; height = reader.height; kept = []; passed = 0; fault = None }
+  pub begins : reader ≡ record { width = reader.width; height = reader.height; kept = []; passed = 0; room = 0; places = 0; fault = None }
   pub ends : Says (λ said. Ends expected old.handshake.position old.handshake.kept.items (take n piece) said (told_at reader.width reader.height new.handshake.kept.items)) due later
 
 abbrev pub IsHandshakeTaken : Option (ℕ × ℕ) → Exchange → Exchange → List ℕ → List ℕ → List ℕ → Option ℕ → Type 0

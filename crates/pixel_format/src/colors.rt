@@ -36,6 +36,7 @@ pub fn end_of_color(colors: &[Color], start: usize, color: Color) -> usize
     ensures reached { start ≤ result }
     ensures within { result ≤ length colors.now }
     ensures same { (k : ℕ) → start ≤ k → k < result → nth colors.now k ≡ color }
+    ensures another { result < length colors.now → nth colors.now result ≡ color → ⊥ }
 {
     let mut end = start;
     'many: while colors.len() - end >= AT_ONCE && are_all(&colors[end..end + AT_ONCE], color) {

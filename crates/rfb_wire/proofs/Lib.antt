@@ -12,3 +12,4 @@ pub mod FrontMessage
 pub mod FrontOthers
 pub mod UpdatesTold
 pub mod Short
+pub mod Taken

@@ -2,7 +2,7 @@
 use Rattle.std.specs.Prelude.{◌≡◌, ℕ, ◌<◌, ◌≤◌, List, ◌++◌, length, take}
 use Rattle.rfb_wire.specs.declared.progress.Ending.{Ending}
 use Rattle.rfb_wire.specs.declared.progress.PartialMessage.{PartialMessage}
-use Rattle.rfb_wire.specs.PartialMessage.{After}
+use Rattle.rfb_wire.specs.PartialMessage.{After, TakesFor}
 
 -- So many bytes of the piece were taken, one at least, and it stands behind the fields that they
 -- end.
@@ -12,4 +12,5 @@ pub record Judged (limit width height : ℕ) (old new : PartialMessage) (piece :
   pub bytes : new.bytes.items ≡ old.bytes.items ++ take taken piece
   pub short : length new.bytes.items ≤ limit
   pub over : new.over ≡ old.over
+  pub takes : TakesFor taken old new
   pub goes : After limit width height new.bytes.items new ending

@@ -1,8 +1,9 @@
 -- Where a reader stands in a message: which field comes next, and what the bytes from that field on
 -- say, by the grammar.
-use Rattle.std.specs.Prelude.{◌≡◌, ℕ, suc, ◌+◌, ◌-◌, ◌<◌, ◌≤◌, List, [], ◌∷◌, ◌++◌, length, drop, ◌^◌, MatchOption, slice_index, Option, Some, None, nat_eq, if◌then◌else◌}
+use Rattle.std.specs.Prelude.{◌≡◌, ℕ, suc, ◌+◌, ◌-◌, ◌<◌, ◌≤◌, List, [], ◌∷◌, ◌++◌, length, drop, ◌^◌, MatchOption, slice_index, max, vec_capacity, Option, Some, None, nat_eq, if◌then◌else◌}
 use Rattle.std.specs.Option.{option_to_list}
 use Rattle.pixel_format.specs.Format.{host_format}
+use Rattle.terms.specs.Appending.{room_for}
 use Rattle.terms.specs.Reading.{Reading, Got, ◌>>=◌, field}
 use Rattle.terms.specs.Number.{u16_at}
 use Rattle.rect_data.specs.Judging as judging
@@ -164,3 +165,10 @@ pub record Follows (limit width height : ℕ) (bytes : List ℕ) (rectangles : L
   pub begins : NextBegins (length bytes) whole.next
   pub kind : NextIsOfKind whole.next bytes
   pub short : length bytes ≤ limit
+
+-- With so many bytes more, no others are kept, and room was taken for no others, nor for more
+-- rectangles.
+pub record TakesFor (n : ℕ) (old new : PartialMessage) : Type 0 where
+  pub kept : length new.bytes.items ≤ length old.bytes.items + n
+  pub room : vec_capacity new.bytes ≤ max (vec_capacity old.bytes) (room_for (length old.bytes.items + n))
+  pub places : vec_capacity new.rectangles ≤ max (vec_capacity old.rectangles) (room_for (length old.bytes.items + n))

@@ -6,12 +6,15 @@ use Rattle.rfb_wire.specs.Grammar.{ReadOver, message_at}
 use Rattle.rfb_wire.specs.Host.{is_update}
 
 -- The screen's size; of an unfinished message the bytes that are kept and the number of those that
--- are read over; and the fault that was met, if one was.
+-- are read over; for how many bytes, and for how many of their rectangles, there is room; and the
+-- fault that was met, if one was.
 pub record Reader : Type 0 where
   pub width : ℕ
   pub height : ℕ
   pub kept : List ℕ
   pub passed : ℕ
+  pub room : ℕ
+  pub places : ℕ
   pub fault : Option WireFault
 
 -- the greatest number of bytes before those of a message that are read over: type, padding, and how

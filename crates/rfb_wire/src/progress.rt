@@ -1,6 +1,7 @@
 //! Where a reader stands in a message.
 
-ghost use Rattle.std.specs.Prelude.{◌≡◌, ℕ, ◌<◌, ◌≤◌, ◌^◌, ◌+◌, ◌++◌, ◌⊎◌, [], ◌∷◌, List, length, take, IfOk, OnOk, IfErr, OnErr, Ok, Err, None};
+ghost use Rattle.std.specs.Prelude.{◌≡◌, ℕ, ◌<◌, ◌≤◌, ◌^◌, ◌+◌, ◌++◌, ◌⊎◌, [], ◌∷◌, List, length, take, max, vec_capacity, IfOk, OnOk, IfErr, OnErr, Ok, Err, None};
+ghost use Rattle.terms.specs.Appending.{room_for};
 ghost use Rattle.std.specs.Option.{option_to_list};
 ghost use Rattle.terms.specs.Reading.{Got, Bad};
 ghost use Rattle.rfb_wire.specs.Grammar.{message_at, Recorded, message_limit};
@@ -15,7 +16,7 @@ use crate::step::{run, step};
 use pixel_format::PixelFormat;
 use rect_data::{Encoding, Judging};
 use std::alloc::Global;
-use terms::{Area, WireFault};
+use terms::{Area, WireFault, append_come};
 
 /// The greatest number of bytes of an update.
 pub const MESSAGE_LIMIT: usize = 67_108_864;
@@ -138,7 +139,7 @@ impl Stage {
 }
 
 impl PartialMessage {
-    ghost use Rattle.rfb_wire.specs.PartialMessage.{unlimited_at, Follows, IsAt, IsInField, IsOver, After, passed_in};
+    ghost use Rattle.rfb_wire.specs.PartialMessage.{unlimited_at, Follows, IsAt, IsInField, IsOver, After, TakesFor, passed_in};
     ghost use Rattle.rfb_wire.specs.Judged.{Judged};
     ghost use Rattle.rfb_wire.specs.Grammar.{read_over};
 
@@ -147,6 +148,7 @@ impl PartialMessage {
         ensures at { (width height : ℕ) → IsAt message_limit width height result }
         ensures none { result.bytes.items ≡ [] }
         ensures over { result.over ≡ None }
+        ensures room { (vec_capacity result.bytes ≡ 0) × (vec_capacity result.rectangles ≡ 0) }
     {
         PartialMessage {
             bytes: Vec::new(alloc),
@@ -163,9 +165,11 @@ impl PartialMessage {
         ensures goes { IfOk result (λ e. After message_limit width height self.old.bytes.items self.new e) }
         ensures bytes { self.new.bytes ≡ self.old.bytes }
         ensures over { self.new.over ≡ self.old.over }
+        ensures places { OnOk result (vec_capacity self.new.rectangles
+            ≤ max (vec_capacity self.old.rectangles) (room_for (length self.old.bytes.items))) }
         ensures only { IfErr result (λ f. f ≡ WireFault.NoMemory) }
     {
-        append(&mut self.rectangles, whole.rectangle)?;
+        append(&mut self.rectangles, whole.rectangle, self.bytes.len())?;
         match whole.next {
             Next::Field(stage) => {
                 self.end = stage.start() + stage.wants();
@@ -221,7 +225,7 @@ impl PartialMessage {
             let front = &piece[..piece.len().min(MESSAGE_LIMIT - at)];
             let (taken, whole) = run(width, height, at, begun, next, others, front)?;
             if taken > 0 {
-                self.bytes.extend_from_slice(&front[..taken])?;
+                append_come(&mut self.bytes, &front[..taken])?;
                 let ending = self.advance(width, height, whole)?;
                 return Ok((taken, ending));
             }
@@ -237,6 +241,7 @@ impl PartialMessage {
         requires link { (more : List ℕ) → unlimited_at width height (self.old.bytes.items ++ more) ≡ read_over left more }
         ensures at { IsAt message_limit width height self.new }
         ensures moves { (old : List Host) → Moves (message_at message_limit width height) (given width height) self.new.bytes.items (passed_in self.new.over) old old self.old.bytes.items }
+        ensures takes { TakesFor 0 self.old self.new }
     {
         if left == 0 {
             *self = PartialMessage::new(alloc);
@@ -260,6 +265,7 @@ impl PartialMessage {
         ensures at { IsAt message_limit width height self.new }
         ensures moves { (old : List Host) → (rest taken : List ℕ) → StandsFor self.old.bytes.items over.passed rest → length taken ≡ result
             → Moves (message_at message_limit width height) (given width height) self.new.bytes.items (passed_in self.new.over) old old (rest ++ taken) }
+        ensures takes { TakesFor 0 self.old self.new }
     {
         let taken = over.left.min(available as u64);
         if taken == over.left {
@@ -287,6 +293,7 @@ impl PartialMessage {
         ensures at { IsAt message_limit width height self.new }
         ensures none { self.new.bytes.items ≡ [] }
         ensures over { self.new.over ≡ None }
+        ensures takes { TakesFor 0 self.old self.new }
         ensures err { OnErr result (out.new.items ≡ out.old.items) }
         ensures only { IfErr result (λ f. f ≡ WireFault.NoMemory) }
     {
@@ -318,6 +325,7 @@ impl PartialMessage {
         ensures at { OnOk result (IsAt message_limit width height self.new) }
         ensures moves { IfOk result (λ n. (rest : List ℕ) → StandsFor self.old.bytes.items (passed_in self.old.over) rest
             → Moves (message_at message_limit width height) (given width height) self.new.bytes.items (passed_in self.new.over) out.old.items out.new.items (rest ++ take n piece.now)) }
+        ensures takes { IfOk result (λ n. TakesFor n self.old self.new) }
         ensures faults { IfErr result (λ f. (rest : List ℕ) → StandsFor self.old.bytes.items (passed_in self.old.over) rest
             → UnlessMemory f (message_at message_limit width height (rest ++ piece.now) ≡ Bad f)) }
         ensures err { OnErr result (out.new.items ≡ out.old.items) }
@@ -351,6 +359,7 @@ impl PartialMessage {
         ensures at { OnOk result (IsAt message_limit width height self.new) }
         ensures moves { OnOk result ((rest : List ℕ) → StandsFor self.old.bytes.items (passed_in self.old.over) rest
             → Moves (message_at message_limit width height) (given width height) self.new.bytes.items (passed_in self.new.over) out.old.items out.new.items (rest ++ piece.now)) }
+        ensures takes { OnOk result (TakesFor (length piece.now) self.old self.new) }
         ensures faults { IfErr result (λ f. (rest : List ℕ) → StandsFor self.old.bytes.items (passed_in self.old.over) rest
             → Stops (message_at message_limit width height) (given width height) f out.old.items out.new.items (rest ++ piece.now)) }
     {
@@ -363,13 +372,26 @@ impl PartialMessage {
     }
 }
 
-// Appends the rectangle that a field ends, if it ends one.
-fn append(rectangles: &mut Vec<Rectangle>, last: Option<Rectangle>) -> Result<(), WireFault>
+// Appends the rectangle that a field ends, if it ends one, once so many bytes of the message have
+// come.
+fn append(
+    rectangles: &mut Vec<Rectangle>,
+    last: Option<Rectangle>,
+    come: usize,
+) -> Result<(), WireFault>
+    ensures room { OnOk result (vec_capacity rectangles.new
+        ≤ max (vec_capacity rectangles.old) (room_for come)) }
     ensures ok { OnOk result (rectangles.new.items ≡ rectangles.old.items ++ option_to_list last) }
     ensures only { IfErr result (λ f. f ≡ WireFault.NoMemory) }
 {
     if let Some(rectangle) = last {
+        let twice = come.saturating_mul(2).saturating_add(8);
+        let most = rectangles.capacity().max(twice);
         rectangles.push(rectangle)?;
+        // Each has many bytes. The library doubles the room, but doesn't promise to take no more.
+        if rectangles.capacity() > most {
+            return Err(WireFault::NoMemory);
+        }
     }
     Ok(())
 }
@@ -383,6 +405,8 @@ fn take(bytes: &mut Vec<u8>, end: usize, piece: &[u8]) -> Result<usize, WireFaul
     ensures taken { IfOk result (λ n. (0 < n) × (n ≤ length piece.now)) }
     ensures bytes { IfOk result (λ n. bytes.new.items ≡ bytes.old.items ++ take n piece.now) }
     ensures ends { OnOk result (length bytes.new.items ≤ end) }
+    ensures room { IfOk result (λ n. vec_capacity bytes.new
+        ≤ max (vec_capacity bytes.old) (room_for (length bytes.old.items + n))) }
     ensures short { OnOk result (length bytes.new.items ≤ message_limit) }
     ensures long { IfErr result (λ f. (f ≡ WireFault.NoMemory)
         ⊎ ((f ≡ WireFault.TooLong) × (length bytes.old.items ≡ message_limit))) }
@@ -392,6 +416,6 @@ fn take(bytes: &mut Vec<u8>, end: usize, piece: &[u8]) -> Result<usize, WireFaul
         return Err(WireFault::TooLong);
     }
     let taken = room.min(piece.len());
-    bytes.extend_from_slice(&piece[..taken])?;
+    append_come(bytes, &piece[..taken])?;
     Ok(taken)
 }

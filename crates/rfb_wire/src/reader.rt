@@ -1,6 +1,7 @@
 //! The reader of a host's stream.
 
-ghost use Rattle.std.specs.Prelude.{◌≡◌, ◌+◌, ℕ, List, [], ◌++◌, length, Option, Some, None, Ok, Err, OnOk, IfErr, OnErr};
+ghost use Rattle.std.specs.Prelude.{◌≡◌, ◌+◌, ◌≤◌, ℕ, List, [], ◌++◌, length, max, Option, Some, None, Ok, Err, OnOk, IfErr, OnErr};
+ghost use Rattle.terms.specs.Appending.{room_for};
 ghost use Rattle.rfb_wire.specs.Reader.{IsShort};
 ghost use Rattle.terms.specs.declared.wire_fault.WireFault.{WireFault};
 ghost use Rattle.client_wire.specs.Stream.{StandsFor, Goes, Stops, FaultOf, Grows};
@@ -27,6 +28,7 @@ pub struct ServerReader {
 
 impl Model for ServerReader {
     ghost use Rattle.rfb_wire.specs.Grammar.{message_limit};
+    ghost use Rattle.std.specs.Prelude.{vec_capacity};
     ghost use Rattle.rfb_wire.specs.Reader.{Reader};
     ghost use Rattle.rfb_wire.specs.PartialMessage.{IsAt, passed_in};
 
@@ -37,6 +39,8 @@ impl Model for ServerReader {
       height = r.height;
       kept = r.progress.bytes.items;
       passed = passed_in r.progress.over;
+      room = vec_capacity r.progress.bytes;
+      places = vec_capacity r.progress.rectangles;
       fault = r.fault;
     } };
 
@@ -47,7 +51,7 @@ impl ServerReader {
     /// A reader at the start of a stream, for a screen of this size.
     pub fn new(alloc: Global, width: u16, height: u16) -> ServerReader
         ensures { result
-            ≡ record { width = width; height = height; kept = []; passed = 0; fault = None } }
+            ≡ record { width = width; height = height; kept = []; passed = 0; room = 0; places = 0; fault = None } }
     {
         ServerReader {
             width,
@@ -67,7 +71,7 @@ impl ServerReader {
 
     // Takes room for so many bytes of the message that comes, or as many as a message may have.
     pub(crate) fn reserve(&mut self, room: usize) -> Result<(), NoMemory>
-        ensures { self.new ≡ self.old }
+        ensures { self.new ≡ record self.old { room = self.new.room } }
     {
         self.progress.bytes.reserve_exact(room.min(MESSAGE_LIMIT))?;
         Ok(())
@@ -111,6 +115,9 @@ impl ServerReader {
         ensures emptied { OnErr result (self.old.fault ≡ None → self.new.kept ≡ []) }
         // What is read over is counted and not kept.
         ensures short { IsShort message_limit self.new.width self.new.height self.new.kept }
+        // Room is taken for bytes that have come, and for rectangles in them.
+        ensures room { let most = room_for (length self.old.kept + length piece.now)
+            in (self.new.room ≤ max self.old.room most) × (self.new.places ≤ max self.old.places most) }
         ensures size { (self.new.width ≡ self.old.width) × (self.new.height ≡ self.old.height) }
     {
         if let Some(fault) = self.fault {

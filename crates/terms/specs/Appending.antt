@@ -1,5 +1,5 @@
 -- What is appended to a list of bytes.
-use Rattle.std.specs.Prelude.{◌≡◌, ℕ, List, [], ◌∷◌, ◌++◌}
+use Rattle.std.specs.Prelude.{◌≡◌, ℕ, ◌+◌, ◌*◌, List, [], ◌∷◌, ◌++◌}
 
 -- bytes of which this holds stand behind the old ones
 pub record Appends (P : List ℕ → Type 0) (old new : List ℕ) : Type 0 where
@@ -15,3 +15,8 @@ Grows = Appends (λ _. Unit {0})
 abbrev pub AreEach : {A : Type 0} → (A → List ℕ → Type 0) → List A → List ℕ → Type 0
 AreEach Is [] bytes = bytes ≡ []
 AreEach Is (a ∷ others) bytes = (first : List ℕ) × (rest : List ℕ) × (bytes ≡ first ++ rest) × Is a first × AreEach Is others rest
+
+-- The room that may be taken for so many bytes once they have come: for twice as many, so that bytes
+-- that come one by one are seldom moved, and 8.
+abbrev pub room_for : ℕ → ℕ
+room_for n = 2 * n + 8

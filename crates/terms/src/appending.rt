@@ -1,8 +1,10 @@
 //! What is appended whole or not at all.
 
-ghost use Rattle.std.specs.Prelude.{◌≡◌, OnOk, OnErr, take};
+ghost use Rattle.std.specs.Prelude.{◌≡◌, ◌+◌, ◌++◌, ◌≤◌, OnOk, OnErr, length, max, take, vec_capacity};
+ghost use Rattle.terms.specs.Appending.{room_for};
 
 use crate::NoMemory;
+use std::alloc::AllocError;
 
 /// Takes back what was appended behind the first so many bytes, unless all of it was. Answers what
 /// the appending answered.
@@ -19,4 +21,24 @@ pub fn whole_or_none(
         bytes.truncate(start);
     }
     appended
+}
+
+/// Appends bytes that came. Where they need more room, it takes room for no more than twice as many
+/// bytes as there are then, and 8. For want of memory `bytes` stays as it was, but for its room.
+pub fn append_come(bytes: &mut Vec<u8>, come: &[u8]) -> Result<(), NoMemory>
+    ensures ok { OnOk result (bytes.new.items ≡ bytes.old.items ++ come.now) }
+    ensures err { OnErr result (bytes.new.items ≡ bytes.old.items) }
+    ensures room { OnOk result (vec_capacity bytes.new
+        ≤ max (vec_capacity bytes.old) (room_for (length bytes.old.items + length come.now))) }
+{
+    let start = bytes.len();
+    let twice = start.saturating_add(come.len()).saturating_mul(2);
+    let most = bytes.capacity().max(twice.saturating_add(8));
+    bytes.extend_from_slice(come)?;
+    // The library doubles the room, but doesn't promise to take no more.
+    if bytes.capacity() > most {
+        bytes.truncate(start);
+        return Err(AllocError);
+    }
+    Ok(())
 }

@@ -10,7 +10,7 @@ mod front;
 mod screen_size;
 mod wire_fault;
 
-pub use appending::whole_or_none;
+pub use appending::{append_come, whole_or_none};
 pub use area::Area;
 pub use format_fault::FormatFault;
 pub use front::field;

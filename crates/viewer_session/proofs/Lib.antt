@@ -7,3 +7,5 @@ pub mod Handshakes
 pub mod Streams
 pub mod Pieces
 pub mod Same
+pub mod Conversations
+pub mod Refused

@@ -45,7 +45,7 @@ fed_more a b c stream front part told messages f goes =
     }
 
 -- a fault stays where it is, whatever follows
-ends_more : (w h : ℕ) (name : List ℕ) (reader : Option Reader) (stream more : List ℕ) (messages : List ClientMessage) (said : List ℕ) (f : SessionFault)
+pub ends_more : (w h : ℕ) (name : List ℕ) (reader : Option Reader) (stream more : List ℕ) (messages : List ClientMessage) (said : List ℕ) (f : SessionFault)
     → Ends w h name reader stream messages said f → Ends w h name reader (stream ++ more) messages said f
 ends_more w h name None stream more messages said f e = record { reads = bad_more w h name stream more said f e.reads; none = e.none }
 ends_more w h name (Some r) stream more messages said (faults.Wire f) e = record {

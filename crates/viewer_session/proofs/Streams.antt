@@ -123,7 +123,7 @@ none_waits = refl
 pub greeting_whole : (w h : ℕ) (name old new stream piece told : List ℕ) (messages : List ClientMessage) (sent n : ℕ)
     → IsGreeting w h name old stream messages (told ++ drop sent (handshake_at w h name old).said)
     → sent ≤ length (handshake_at w h name old).said → new ≡ old ++ take n piece → (handshake_at w h name new).heard ≡ Got tt []
-    → IsListening w h name (record { kept = []; passed = 0; fault = None }) (stream ++ take n piece) messages (told ++ drop sent (handshake_at w h name new).said)
+    → IsListening w h name (record { kept = []; passed = 0; room = 0; fault = None }) (stream ++ take n piece) messages (told ++ drop sent (handshake_at w h name new).said)
 greeting_whole w h name old new stream piece told messages sent n is le new_is reads = record {
   tail = [];
   gets = record {
@@ -177,12 +177,12 @@ fed_ends old new before after stream piece told messages out f none still empty 
     (in_greeting old before stream told messages none is) sound.sent refuses.hears.heard (reads_so old new (Bad f) kept refuses.hears.reads))))
 
 pub fed_whole : (old new : Greeting) (before : Option Reader) (r : Reader) (stream piece told : List ℕ) (messages : List ClientMessage) (n : ℕ)
-    → before ≡ None → r ≡ record { kept = []; passed = 0; fault = None } → new ≡ heard_more old new → IsSoundGreeting old → HearsSo old new piece n (Got tt [])
+    → before ≡ None → r ≡ record { kept = []; passed = 0; room = 0; fault = None } → new ≡ heard_more old new → IsSoundGreeting old → HearsSo old new piece n (Got tt [])
     → Stands old.width old.height old.name.items old.heard.items before stream messages (told ++ due_by old)
     → IsListening new.width new.height new.name.items r (stream ++ take n piece) messages (told ++ due_by new)
 fed_whole old new before r stream piece told messages n none fresh kept sound hears is =
     subst (λ (x : Reader). IsListening new.width new.height new.name.items x (stream ++ take n piece) messages (told ++ due_by new)) (sym fresh)
-    (subst (λ (g : Greeting). IsListening g.width g.height g.name.items (record { kept = []; passed = 0; fault = None }) (stream ++ take n piece) messages (told ++ due_by g)) (sym kept)
+    (subst (λ (g : Greeting). IsListening g.width g.height g.name.items (record { kept = []; passed = 0; room = 0; fault = None }) (stream ++ take n piece) messages (told ++ due_by g)) (sym kept)
     (greeting_whole old.width old.height old.name.items old.heard.items new.heard.items stream piece told messages old.sent n
     (in_greeting old before stream told messages none is) sound.sent hears.heard (reads_so old new (Got tt []) kept hears.reads)))
 

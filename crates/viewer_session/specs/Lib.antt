@@ -12,3 +12,4 @@ pub mod Stream
 pub mod Progress
 pub mod Session
 pub mod Feeding
+pub mod Conversation

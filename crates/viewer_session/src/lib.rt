@@ -14,5 +14,7 @@ mod view;
 
 pub use fault::SessionFault;
 pub use handshake::is_whole;
-pub use laws::{a_refused_stream_is_not_followed, any_cut_gives_the_same};
+pub use laws::{
+    a_refused_stream_is_not_followed, a_viewer_is_served, any_cut_gives_the_same, one_refusal,
+};
 pub use session::Session;

@@ -1,4 +1,4 @@
-use Rattle.std.proofs.Common.{◌≡◌, ◌<◌, true, false, inl, inr, refl, sym, ◌∙◌, ap, Some, None}
+use Rattle.std.proofs.Common.{◌≡◌, ◌<◌, true, false, inl, inr, refl, sym, ◌∙◌, ap, None}
 use Rattle.std.proofs.lemmas.Int.{of_z-to_z}
 use Rattle.terms.specs.Number.{signed}
 use Rattle.terms.specs.declared.wire_fault.WireFault.TheVariants as faults

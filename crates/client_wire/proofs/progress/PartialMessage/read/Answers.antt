@@ -1,10 +1,11 @@
-use Rattle.std.proofs.Common.{◌≡◌, ◌++◌, ◌∙◌, sym, ap, refl, take, drop, append_assoc, subst}
-use Rattle.std.proofs.lemmas.List.{take_rest, take-append-drop}
+use Rattle.std.proofs.Common.{◌≡◌, ◌++◌, ◌∙◌, sym, ap, refl, take, drop, append_assoc, subst, length, length-append}
+use Rattle.std.proofs.lemmas.List.{take_rest, take-append-drop, length-take-le}
 use Rattle.std.proofs.lemmas.Result.{err_from_is_err_and}
 use Rattle.client_wire.specs.Grammar.{message_at}
 use Rattle.client_wire.specs.PartialMessage.{passed_in}
 use Rattle.client_wire.specs.Stream.{Stops, itself}
 use Rattle.client_wire.proofs.Streams.{moves_more, moves_stops}
+use Rattle.client_wire.proofs.Turns.{takes_both}
 use Rattle.client_wire.proofs.progress.PartialMessage.read.Goals as goal
 
 pub returns-in_err-taken-clause-faults : goal.returns-in_err-taken-clause-faults
@@ -29,6 +30,8 @@ loop-rest-preserved c =
     record {
       at = c.in_ok-taken.ensures.at;
       front = i.front ++ take n left;
+      takes = takes_both (length i.front) n c.args.self.now c.loop-rest.self c.take_some.new.self (length (i.front ++ take n left))
+          (rw (length-append, length-take-le n left c.in_ok-taken.ensures.taken.1) refl) i.takes c.in_ok-taken.ensures.takes;
       piece = piece ∙ ap (λ z. (i.front ++ take n left) ++ z) (sym (take_rest left n));
       moves = λ rest stands.
           let m = i.moves rest stands in

@@ -5,7 +5,7 @@ use Rattle.client_wire.specs.PartialMessage.{passed_in}
 use Rattle.client_wire.specs.Stream.{StandsFor, itself}
 use Rattle.client_wire.proofs.Local.{message_local}
 use Rattle.client_wire.proofs.Streams.{no_fault, given_grows, some_rest}
-use Rattle.client_wire.proofs.Turns.{at_waits}
+use Rattle.client_wire.proofs.Turns.{at_waits, at_head}
 use Rattle.client_wire.proofs.reader.ClientReader.feed.Goals as goal
 
 pub returns-clause-goes : goal.returns-clause-goes
@@ -41,3 +41,10 @@ returns-clause-grows c =
     let rest = p.bytes.items ++ replicate (passed_in p.position) 0 in
     let m = c.in_default-read.ensures.moves rest (some_rest p.bytes.items (passed_in p.position)) in
     given_grows message_at itself c.args.out.now.items c.read-read.new.out.items (rest ++ c.args.piece.now) m.rest m.gives
+
+pub returns-in-Some-clause-head : goal.returns-in-Some-clause-head
+returns-in-Some-clause-head c =
+    rw (← c.self.view_is) (at_head c.self.inside.progress c.self.invariant)
+
+pub returns-clause-head : goal.returns-clause-head
+returns-clause-head c = at_head c.read-read.new.self c.in_default-read.ensures.at

@@ -1,9 +1,10 @@
 use Rattle.std.proofs.Common.{◌≡◌, [], ◌++◌, length, eqb-true, ◌∙◌, sym, ap, refl, take, drop, subst, append_assoc}
-use Rattle.std.proofs.lemmas.List.{append-nil, take_rest, take-append-drop}
+use Rattle.std.proofs.lemmas.List.{append-nil, take_rest, take-append-drop, length-append, length-take-le}
 use Rattle.std.proofs.lemmas.Result.{err_from_is_err_and}
 use Rattle.client_wire.specs.Stream.{Moves, Stops}
 use Rattle.client_wire.proofs.Streams.{empty_list, moves_more, moves_stops}
 use Rattle.rfb_wire.specs.Grammar.{message_at, message_limit}
+use Rattle.rfb_wire.proofs.Taken.{takes_both}
 use Rattle.rfb_wire.specs.PartialMessage.{passed_in}
 use Rattle.rfb_wire.specs.Stream.{given}
 use Rattle.rfb_wire.proofs.progress.PartialMessage.read.Goals as goal
@@ -34,6 +35,8 @@ loop-rest-preserved c =
     record {
       at = c.in_ok-taken.ensures.at;
       front = i.front ++ take n left;
+      takes = takes_both (length i.front) n c.args.self.now s t (length (i.front ++ take n left))
+          (rw (length-append, length-take-le n left c.in_ok-taken.ensures.taken.1) refl) i.takes c.in_ok-taken.ensures.takes;
       piece = piece ∙ ap (λ z. (i.front ++ take n left) ++ z) (sym (take_rest left n));
       moves = λ rest stands.
           let m = i.moves rest stands in

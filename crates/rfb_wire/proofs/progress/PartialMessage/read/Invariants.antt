@@ -1,5 +1,5 @@
 use Rattle.std.proofs.Common.{◌≡◌, ℕ, List, ◌++◌, length}
-use Rattle.rfb_wire.specs.PartialMessage.{IsAt, passed_in}
+use Rattle.rfb_wire.specs.PartialMessage.{IsAt, passed_in, TakesFor}
 use Rattle.client_wire.specs.Stream.{StandsFor}
 use Rattle.client_wire.specs.Stream.{Moves}
 use Rattle.rfb_wire.specs.Stream.{given}
@@ -11,6 +11,7 @@ abbrev pub invariant-loop-rest : goal.invariant-loop-rest
 invariant-loop-rest l = record {
   at : IsAt message_limit l.width l.height l.self;
   front : List ℕ;
+  takes : TakesFor (length front) l.initial.self l.self;
   piece : l.initial.rest ≡ front ++ l.rest;
   moves : (rest : List ℕ) → StandsFor l.initial.self.bytes.items (passed_in l.initial.self.over) rest
       → Moves (message_at message_limit l.width l.height) (given l.width l.height) l.self.bytes.items (passed_in l.self.over) l.initial.out.items l.out.items (rest ++ front);
