@@ -3,6 +3,7 @@ pub mod ContentsLaws
 pub mod Crash
 pub mod CrashLaws
 pub mod Failures
+pub mod FailuresLaws
 pub mod History
 pub mod HistoryLaws
 pub mod Memory

@@ -1,12 +1,10 @@
 -- Messages that are written one by one.
-use Rattle.std.proofs.Common.{inl, inr, ◌≡◌, ◌<◌, ◌≤◌, ◌-◌, ◌^◌, ℕ, suc, zero, List, [], ◌∷◌, ◌++◌, take, drop, sym, ap, ◌∙◌, subst, arith, append-nil, append_assoc}
+use Rattle.std.proofs.Common.{◌≡◌, ◌<◌, ◌≤◌, ◌-◌, ℕ, suc, zero, List, [], ◌∷◌, ◌++◌, take, drop, sym, ap, ◌∙◌, subst, arith, append-nil, append_assoc}
 use Rattle.std.specs.Prelude.{Option, Some, None, MatchOption}
-use Rattle.std.proofs.lemmas.Bool.{cases_lt}
 use Rattle.std.specs.List.{slice_get}
 use Rattle.std.specs.Option.{unwrap_or}
 use Rattle.std.specs.Io.KnownBytes.{Appends}
 use Rattle.std.proofs.lemmas.List.{length-take, drop_all}
-use Rattle.disk.specs.Failures.{HasCause}
 use Rattle.keyed_entries.specs.declared.entry.Stamped.{Stamped}
 use Rattle.fbs_export.specs.Export.{block_text, messages_text, messages_from, first_time, between}
 use Rattle.fbs_export.specs.Written.{WroteFront}
@@ -77,13 +75,3 @@ one_more_so_far all from n to a b c s time bytes far left is same w =
           ∙ ap (λ z. far.done ++ (z ++ messages_text t (drop (suc n) (take to all)))) text
           ∙ ap (λ z. far.done ++ messages_text t z) (sym left) ∙ far.whole;
     }
-
--- a call behind others that didn't fail
-pub cause_then : (first middle last : ℕ) (P : Type 0) → first ≤ middle → HasCause middle last P → HasCause first last P
-cause_then first middle last P later c = record {
-  later = omega (arith, c.later);
-  rose = λ p below. elim (cases_lt middle (2 ^ 64 - 1)) [
-    | inl less ↦ omega (arith, later, c.rose p less)
-    | inr more ↦ omega (arith, c.later)
-  ];
-}

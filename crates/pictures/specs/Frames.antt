@@ -28,6 +28,12 @@ AreFrames h messages from rate zero text = text ≡ []
 AreFrames h messages from rate (suc k) text = (front : List ℕ) × (last : List ℕ)
     × (AreFrames h messages from rate k front) × (IsFrame h messages (frame_moment from rate k) last) × (text ≡ front ++ last)
 
+-- The first frames of a video, so many a second from a moment on: none of them is later than `to`.
+pub record AreFirstFrames (h : Head) (messages : List Stamped) (from to rate : ℕ) (text : List ℕ) : Type 0 where
+  pub count : ℕ
+  pub within : (k : ℕ) → k < count → frame_moment from rate k ≤ to
+  pub frames : AreFrames h messages from rate count text
+
 -- All frames from a moment to another, so many a second: those that aren't later than the second.
 pub record IsVideo (h : Head) (messages : List Stamped) (from to rate : ℕ) (text : List ℕ) : Type 0 where
   pub count : ℕ

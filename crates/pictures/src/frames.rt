@@ -1,13 +1,15 @@
 //! The frames of a video: when they are, and the pictures that they show.
 
-ghost use Rattle.std.specs.Prelude.{◌≡◌, ◌↔◌, ◌<◌, ◌≤◌, ◌⊎◌, ◌++◌, ℕ, List, [], OnOk};
+ghost use Rattle.std.specs.Prelude.{◌≡◌, ◌↔◌, ◌<◌, ◌≤◌, ◌⊎◌, ◌++◌, ℕ, List, [], OnOk, IsErrOf};
 ghost use Rattle.std.specs.Io.KnownBytes.{Appends};
 ghost use Rattle.disk.specs.Failures.{HasCause};
 ghost use Rattle.keyed_entries.specs.Entry.{messages_in};
 ghost use Rattle.key_index.specs.Indexed.{OnlyReads};
 ghost use Rattle.painter.specs.Framebuffer.{color_at};
-ghost use Rattle.pictures.specs.Frames.{frame_moment, IsVideo};
+ghost use Rattle.pictures.specs.Frames.{frame_moment, AreFirstFrames, IsVideo};
 ghost use Rattle.pictures.specs.Pictures.{picture_text};
+ghost use Rattle.pictures.specs.declared.frames.FilmFault.TheVariants.{Read as FilmRead, Write as FilmWrite};
+ghost use Rattle.replay.specs.Faults.{fault_of_read};
 ghost use Rattle.replay.specs.Screens.{IsScreenAt};
 
 use crate::moment::count_at;
@@ -60,15 +62,33 @@ impl Film {
 pub enum FilmFault {
     /// The recording isn't read.
     #[error("the recording isn't read: {0}")]
-    Read(#[from] ReplayFault),
+    Read(#[source] ReplayFault),
     /// They can't be written, or memory for a picture is wanting.
     #[error("the frames can't be written: {0}")]
-    Write(#[from] io::Error),
+    Write(#[source] io::Error),
+}
+
+impl From<ReplayFault> for FilmFault {
+    ghost from_gives = { λ read fault. fault ≡ FilmRead read };
+
+    fn from(fault: ReplayFault) -> FilmFault {
+        FilmFault::Read(fault)
+    }
 }
 
 impl From<ReadFault> for FilmFault {
+    ghost from_gives = { λ read fault. fault ≡ FilmRead (fault_of_read read) };
+
     fn from(fault: ReadFault) -> FilmFault {
         FilmFault::Read(fault.into())
+    }
+}
+
+impl From<io::Error> for FilmFault {
+    ghost from_gives = { λ error fault. fault ≡ FilmWrite error };
+
+    fn from(error: io::Error) -> FilmFault {
+        FilmFault::Write(error)
     }
 }
 
@@ -88,6 +108,7 @@ fn play_to<D: Disk>(
     ensures width { replay.new.screen.width ≡ replay.old.screen.width }
     ensures height { replay.new.screen.height ≡ replay.old.screen.height }
     ensures only { OnlyReads D.is_modelled D.history index.old index.new }
+    ensures cause { D.is_modelled → HasCause (D.failures index.old.disk) (D.failures index.new.disk) (IsErrOf result ReplayFault.Device) }
 {
     while replay.position() < count {
         replay.next(index)?;
@@ -115,6 +136,7 @@ fn show<D: Disk>(
     ensures height { replay.new.screen.height ≡ replay.old.screen.height }
     ensures picture { OnOk result (picture.new.items ≡ picture_text PictureFormat.Ppm replay.new.screen.width replay.new.screen.height (color_at replay.new.screen)) }
     ensures only { OnlyReads D.is_modelled D.history index.old index.new }
+    ensures cause { D.is_modelled → HasCause (D.failures index.old.disk) (D.failures index.new.disk) (IsErrOf result (FilmFault.Read ReplayFault.Device)) }
 {
     if !picture.is_empty() && replay.position() >= count {
         return Ok(());
@@ -126,9 +148,9 @@ fn show<D: Disk>(
 }
 
 /// Writes the frames of a video as PPM pictures, one behind the other: all of them where the answer
-/// is `Ok`. Each message is painted once, and a screen that didn't change is made into a picture
-/// once. It takes the memory of a screen and of a picture. Nothing else is written; what an error
-/// leaves of the frames is a beginning, perhaps with a part of one.
+/// is `Ok`, and the first ones, each whole, where the recording isn't read. Each message is painted
+/// once, and a screen that didn't change is made into a picture once. It takes the memory of a
+/// screen and of a picture. `Read(Device)` is answered exactly where the device failed in this call.
 pub fn write_frames<D: Disk, W: Write>(
     alloc: Global,
     index: &mut Indexed<D>,
@@ -138,7 +160,11 @@ pub fn write_frames<D: Disk, W: Write>(
     ensures video { D.is_modelled → OnOk result ((text : List ℕ)
         × IsVideo index.old.head (messages_in index.old.blocks) film.now.from film.now.to film.now.rate text
         × Appends (W.contents out.old) (W.contents out.new) text) }
+    ensures left { D.is_modelled → (fault : ReplayFault) → IsErrOf result (FilmFault.Read fault) → (text : List ℕ)
+        × AreFirstFrames index.old.head (messages_in index.old.blocks) film.now.from film.now.to film.now.rate text
+        × Appends (W.contents out.old) (W.contents out.new) text }
     ensures only { OnlyReads D.is_modelled D.history index.old index.new }
+    ensures cause { D.is_modelled → HasCause (D.failures index.old.disk) (D.failures index.new.disk) (IsErrOf result (FilmFault.Read ReplayFault.Device)) }
 {
     let first = count_at(index, film.from)?;
     let mut replay = from_count(alloc, index, first)?;

@@ -1,6 +1,7 @@
 use Rattle.std.proofs.Common.{◌≡◌, ◌<◌, ◌+◌, ◌-◌, ℕ, suc, List, ◌∷◌, take, drop, sym, ap, ◌∙◌, subst, arith, Some}
 use Rattle.std.specs.List.{slice_get}
 use Rattle.std.proofs.KnownBytes.{Appends-trans}
+use Rattle.disk.specs.FailuresLaws.{unfailed}
 use Rattle.keyed_entries.specs.Entry.{messages_in}
 use Rattle.keyed_entries.specs.declared.entry.Stamped.{Stamped}
 use Rattle.fbs_export.specs.Export.{first_time, between}
@@ -43,7 +44,7 @@ loop-number-preserved g c =
       head = c.in_ok-stamped.ensures.only.2 ∙ inv.head;
       blocks = λ m. c.in_ok-stamped.ensures.only.3 m ∙ inv.blocks m;
       history = λ m. c.in_ok-stamped.ensures.only.0 m ∙ inv.history m;
-      later = λ m. let after = (c.in_ok-stamped.ensures.cause m).later in omega (arith, inv.later m, after);
+      unfailed = λ m. unfailed (c.in_ok-stamped.ensures.cause m) (λ failed. cc) ∙ inv.unfailed m;
       base = base;
       wrote = λ m. subst (λ z. SoFar all from z to (g.W.Write.contents c.args.out.now) (g.W.Write.contents c.write_block.new.out)) (sym next)
           (one_more_so_far all from n to (g.W.Write.contents c.args.out.now) (g.W.Write.contents c.loop-number.out) (g.W.Write.contents c.write_block.new.out) s c.saturating_sub-time.result c.bytes.result.now

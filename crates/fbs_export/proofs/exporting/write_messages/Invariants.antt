@@ -1,4 +1,4 @@
-use Rattle.std.proofs.Common.{◌≡◌, ◌≤◌}
+use Rattle.std.proofs.Common.{◌≡◌}
 use Rattle.keyed_entries.specs.Entry.{messages_in}
 use Rattle.fbs_export.proofs.Left.{SoFar, IsBase}
 use Rattle.fbs_export.proofs.exporting.write_messages.Given as goal
@@ -10,7 +10,7 @@ invariant-loop-number g l = record {
   head : l.index.head ≡ l.fn.index.head;
   blocks : g.D.Disk.is_modelled → l.index.blocks ≡ l.fn.index.blocks;
   history : g.D.Disk.is_modelled → g.D.Disk.history l.index.disk ≡ g.D.Disk.history l.fn.index.disk;
-  later : g.D.Disk.is_modelled → g.D.Disk.failures l.fn.index.disk ≤ g.D.Disk.failures l.index.disk;
+  unfailed : g.D.Disk.is_modelled → g.D.Disk.failures l.index.disk ≡ g.D.Disk.failures l.fn.index.disk;
   base : g.D.Disk.is_modelled → IsBase (messages_in l.fn.index.blocks) l.from l.number l.to l.first;
   wrote : g.D.Disk.is_modelled → SoFar (messages_in l.fn.index.blocks) l.from l.number l.to (g.W.Write.contents l.fn.out) (g.W.Write.contents l.out);
 }

@@ -15,6 +15,7 @@ invariant-loop-replay g l =
       head : l.index.head ≡ first.head;
       blocks : D.is_modelled → l.index.blocks ≡ first.blocks;
       history : D.is_modelled → D.history l.index.disk ≡ D.history first.disk;
+      unfailed : D.is_modelled → D.failures l.index.disk ≡ D.failures first.disk;
     }
 
 abbrev pub decreases-loop-replay : goal.decreases-loop-replay

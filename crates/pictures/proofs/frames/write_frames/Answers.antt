@@ -1,6 +1,7 @@
 use Rattle.std.proofs.Common.{◌≡◌, ◌≤◌, ◌+◌, [], ◌++◌, inl, inr, refl, ap, subst, ◌∙◌, arith}
 use Rattle.std.specs.Io.KnownBytes.{Appends}
 use Rattle.std.proofs.KnownBytes.{Appends-nil, Appends-trans}
+use Rattle.disk.specs.FailuresLaws.{unfailed}
 use Rattle.gated_journal.specs.Recording.{Head}
 use Rattle.keyed_entries.specs.Entry.{messages_in}
 use Rattle.replay.specs.Screens.{IsScreenAt}
@@ -24,6 +25,7 @@ loop-frame-init g c =
       head = replay.only.2 ∙ first.only.2;
       blocks = λ modelled. replay.only.3 modelled ∙ first.only.3 modelled;
       history = λ modelled. replay.only.0 modelled ∙ first.only.0 modelled;
+      unfailed = λ modelled. unfailed (replay.cause modelled) (λ failed. cc) ∙ unfailed (first.cause modelled) (λ failed. cc);
       picture = inl c.new-picture.ensures.items;
       behind = λ modelled n later.
           let sooner : film.from ≤ frame_moment film.from film.rate 0 = omega arith in
@@ -56,6 +58,7 @@ loop-frame-preserved g c =
       head = show.only.2 ∙ head;
       blocks = λ modelled. show.only.3 modelled ∙ blocks modelled;
       history = λ modelled. show.only.0 modelled ∙ count.only.0 modelled ∙ loop.history modelled;
+      unfailed = λ modelled. unfailed (show.cause modelled) (λ failed. cc) ∙ unfailed (count.cause modelled) (λ failed. cc) ∙ loop.unfailed modelled;
       picture = inr show.picture;
       behind = λ modelled n later.
           let grows = frames_grow film.from film.rate frame film.rated in
