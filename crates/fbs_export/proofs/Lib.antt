@@ -8,6 +8,7 @@ mod Laying
 mod Left
 mod Naming
 mod Numbers
+mod Once
 mod Openings
 mod Parts
 mod Pieces

@@ -15,5 +15,5 @@ mod writing;
 pub use checking::{check, count};
 pub use exporting::{export, first_exported};
 pub use fault::{ExportFault, FbsFault};
-pub use laws::exported_is_read;
+pub use laws::{exported_is_read, no_fault_beside_a_summary, one_summary_of_a_file};
 pub use summary::{Counted, Summary};
