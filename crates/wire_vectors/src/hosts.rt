@@ -1,6 +1,6 @@
 //! A host's stream, and single messages of one.
 
-use crate::readings::{Given, Message, Reader, finest, longest, read};
+use crate::readings::{Given, Message, Reader, finest, longest, read, read_cut};
 use crate::words::tell;
 use rfb_wire::{Front, HostMessage, Rectangle, ServerReader, read_message};
 use std::alloc::Global;
@@ -95,6 +95,38 @@ pub(crate) fn outcome(alloc: Global, size: (u16, u16), bytes: &[u8]) -> io::Resu
         return Ok("otherwise by the plain function".to_string(alloc)?);
     }
     given.told(alloc, bytes)
+}
+
+// Whether a stream gives the same however it is cut in two.
+fn is_cut_alike(alloc: Global, size: (u16, u16), bytes: &[u8]) -> io::Result<bool> {
+    let mut reader = ServerReader::new(alloc, size.0, size.1);
+    let given = read(alloc, &mut reader, bytes, 1)?;
+    for cut in 0..bytes.len() {
+        let mut reader = ServerReader::new(alloc, size.0, size.1);
+        if !given.is_same(&read_cut(alloc, &mut reader, bytes, cut)?) {
+            return Ok(false);
+        }
+    }
+    Ok(true)
+}
+
+/// What comes of a host's stream of which one byte is another, each in turn, and each with five
+/// values: how many streams give the same however they are cut in two, up to one that doesn't.
+pub(crate) fn changed(alloc: Global, size: (u16, u16), bytes: &[u8]) -> io::Result<String> {
+    let mut alike = 0u64;
+    for place in 0..bytes.len() {
+        for value in [0, 1, 5, 0x80, 0xff] {
+            let mut stream = bytes.to_vec(alloc)?;
+            if let Some(byte) = stream.get_mut(place) {
+                *byte = value;
+            }
+            if !is_cut_alike(alloc, size, &stream)? {
+                return Ok(format!(in alloc; "otherwise with {value} at {place}")?);
+            }
+            alike = alike.saturating_add(1);
+        }
+    }
+    Ok(format!(in alloc; "{alike} alike")?)
 }
 
 /// What all of the bytes are as one message, or the number of the refusal.

@@ -143,6 +143,20 @@ pub(crate) fn read<M: Message + Drop, R: Reader<M>>(
     Ok(given)
 }
 
+/// What a reader makes of bytes that come in two pieces, of which the first has so many.
+pub(crate) fn read_cut<M: Message + Drop, R: Reader<M>>(
+    alloc: Global,
+    reader: &mut R,
+    bytes: &[u8],
+    cut: usize,
+) -> io::Result<Given<M>> {
+    let mut given = Given::new(alloc);
+    let (front, behind) = bytes.split_at_checked(cut).unwrap_or((bytes, &[]));
+    given.take(reader, front, cut)?;
+    given.take(reader, behind, bytes.len())?;
+    Ok(given)
+}
+
 /// The length of the pieces by whose ends it is told when a message came: one byte, but for bytes
 /// that are very many.
 pub(crate) fn finest(bytes: &[u8]) -> usize

@@ -53,6 +53,7 @@ fn of_a_size(alloc: Global, kind: &str, size: (u16, u16), text: &str) -> io::Res
     let bytes = bytes(alloc, text)?;
     match kind {
         "host" => hosts::outcome(alloc, size, &bytes),
+        "changed" => hosts::changed(alloc, size, &bytes),
         "message" => hosts::message(alloc, size, &bytes),
         "session" => sessions::outcome(alloc, Some(size), &bytes),
         "key" => screens::key(alloc, size, &bytes),

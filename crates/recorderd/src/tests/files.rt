@@ -246,7 +246,9 @@ fn fbs_files_are_read(rt: HostRuntime) -> Result<(), Fail> {
         (68, 9, "7 wire 1"),
     ] {
         let mut file = one.clone()?;
-        file[place] = byte;
+        if let Some(there) = file.get_mut(place) {
+            *there = byte;
+        }
         fs::write(&rt, "fbs", file.as_slice())?;
         let why = format!(in alloc; "fbs {fault}")?;
         assert!(rt; is_refused(&rt, "fbs-check", "fbs", &why)?, "{why}");
@@ -255,35 +257,75 @@ fn fbs_files_are_read(rt: HostRuntime) -> Result<(), Fail> {
     Ok(())
 }
 
+// Bytes of the recording of one place: a place, what stands there in their stead, and the refusal.
+const DAMAGES: [(usize, u8, &str); 8] = [
+    // kind of the entry
+    (24, 2, "index 1 block 0"),
+    (24, 1, "index 3 block 0"),
+    // its length
+    (32, 0x15, "index 1 block 0"),
+    (32, 0x13, "index 2 block 0"),
+    // the message's type
+    (33, 9, "index 2 block 0"),
+    // the body's length
+    (21, 0x1c, "index 1 block 0"),
+    // how many entries there are
+    (23, 2, "index 1 block 0"),
+    (23, 0, "journal 2 block 0"),
+];
+
 #[test]
 fn damaged_recordings(rt: HostRuntime) -> Result<(), Fail> {
     let files = ["damaged"];
     without(&rt, &files);
-    let alloc = rt.alloc();
-    let whole = RECORDING.to_vec(alloc)?;
-    let mut kind = whole.clone()?;
-    kind[24] = 2;
-    let mut message = whole.clone()?;
-    message[33] = 9;
-    for (file, fault) in [
-        (&whole[..40], "journal 2 block 0"),
-        (&whole[..10], "journal 1"),
-        (kind.as_slice(), "index 1 block 0"),
-        (message.as_slice(), "index 2 block 0"),
-        (TIMES_THAT_FALL.as_slice(), "index 4 block 0"),
-    ] {
-        fs::write(&rt, "damaged", file)?;
-        for (command, words) in [
-            ("list", "damaged"),
-            ("check", "damaged"),
-            ("export", "damaged 0 1 o"),
-        ] {
-            assert!(rt;
-                is_refused(&rt, command, words, fault)?,
-                "{command}: {fault}"
-            );
+    for (place, byte, fault) in DAMAGES {
+        let mut file = RECORDING.to_vec(rt.alloc())?;
+        if let Some(there) = file.get_mut(place) {
+            *there = byte;
         }
+        fs::write(&rt, "damaged", file.as_slice())?;
+        assert!(rt;
+            is_refused(&rt, "check", "damaged", fault)?,
+            "place {place}"
+        );
     }
+    fs::write(&rt, "damaged", TIMES_THAT_FALL.as_slice())?;
+    for (command, words) in [
+        ("list", "damaged"),
+        ("check", "damaged"),
+        ("export", "damaged 0 1 o"),
+    ] {
+        assert!(rt; is_refused(&rt, command, words, "index 4 block 0")?);
+    }
+    without(&rt, &files);
+    Ok(())
+}
+
+#[test]
+fn recordings_that_are_cut_off(rt: HostRuntime) -> Result<(), Fail> {
+    let files = ["cut"];
+    without(&rt, &files);
+    for length in 0..RECORDING.len() {
+        let fault = if length < 17 {
+            "journal 1"
+        } else {
+            "journal 2 block 0"
+        };
+        fs::write(&rt, "cut", &RECORDING[..length])?;
+        assert!(rt;
+            is_refused(&rt, "check", "cut", fault)?,
+            "of {length} bytes"
+        );
+    }
+    let mut closed = RECORDING.to_vec(rt.alloc())?;
+    if let Some(gate) = closed.get_mut(17) {
+        *gate = 0;
+    }
+    fs::write(&rt, "cut", closed.as_slice())?;
+    say(
+        &rt,
+        &[("check cut", "0 recording 1 1 messages 0 blocks 0\n")],
+    )?;
     without(&rt, &files);
     Ok(())
 }
