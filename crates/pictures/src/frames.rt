@@ -1,6 +1,6 @@
 //! The frames of a video: when they are, and the pictures that they show.
 
-ghost use Rattle.std.specs.Prelude.{◌≡◌, ◌↔◌, ◌<◌, ◌≤◌, ◌⊎◌, ◌++◌, ℕ, List, [], OnOk, IsErrOf};
+ghost use Rattle.std.specs.Prelude.{◌≡◌, ◌≢◌, ◌↔◌, ◌<◌, ◌≤◌, ◌⊎◌, ◌++◌, ℕ, List, [], OnOk, IsErrOf};
 ghost use Rattle.std.specs.Io.KnownBytes.{Appends};
 ghost use Rattle.disk.specs.Failures.{HasCause};
 ghost use Rattle.keyed_entries.specs.Entry.{messages_in};
@@ -109,6 +109,7 @@ fn play_to<D: Disk>(
     ensures height { replay.new.screen.height ≡ replay.old.screen.height }
     ensures only { OnlyReads D.is_modelled D.history index.old index.new }
     ensures cause { D.is_modelled → HasCause (D.failures index.old.disk) (D.failures index.new.disk) (IsErrOf result ReplayFault.Device) }
+    ensures never { result ≢ Err ReplayFault.NotCommitted }
 {
     while replay.position() < count {
         replay.next(index)?;
@@ -137,6 +138,7 @@ fn show<D: Disk>(
     ensures picture { OnOk result (picture.new.items ≡ picture_text PictureFormat.Ppm replay.new.screen.width replay.new.screen.height (color_at replay.new.screen)) }
     ensures only { OnlyReads D.is_modelled D.history index.old index.new }
     ensures cause { D.is_modelled → HasCause (D.failures index.old.disk) (D.failures index.new.disk) (IsErrOf result (FilmFault.Read ReplayFault.Device)) }
+    ensures never { result ≢ Err (FilmFault.Read ReplayFault.NotCommitted) }
 {
     if !picture.is_empty() && replay.position() >= count {
         return Ok(());
@@ -150,7 +152,8 @@ fn show<D: Disk>(
 /// Writes the frames of a video as PPM pictures, one behind the other: all of them where the answer
 /// is `Ok`, and the first ones, each whole, where the recording isn't read. Each message is painted
 /// once, and a screen that didn't change is made into a picture once. It takes the memory of a
-/// screen and of a picture. `Read(Device)` is answered exactly where the device failed in this call.
+/// screen and of a picture. `Read(Device)` is answered exactly where the device failed in this call,
+/// and `Read(NotCommitted)` never.
 pub fn write_frames<D: Disk, W: Write>(
     alloc: Global,
     index: &mut Indexed<D>,
@@ -165,6 +168,7 @@ pub fn write_frames<D: Disk, W: Write>(
         × Appends (W.contents out.old) (W.contents out.new) text }
     ensures only { OnlyReads D.is_modelled D.history index.old index.new }
     ensures cause { D.is_modelled → HasCause (D.failures index.old.disk) (D.failures index.new.disk) (IsErrOf result (FilmFault.Read ReplayFault.Device)) }
+    ensures never { result ≢ Err (FilmFault.Read ReplayFault.NotCommitted) }
 {
     let first = count_at(index, film.from)?;
     let mut replay = from_count(alloc, index, first)?;
