@@ -155,11 +155,12 @@ fn append_tiles(
 }
 
 /// Appends data of a rectangle of w by h that has these colours, by rows from the top and each from
-/// the left, in a format to whose maxima they keep (RFC 6143, section 7.7.4). Each tile is the
-/// shorter one of subrectangles over a background, which have the foreground's colour where they
-/// have one colour, and of pixels. A background and a foreground are named where the tile before
-/// didn't have them, and in the first tile behind a raw or coloured one. It takes memory for the
-/// bytes alone. Want of memory leaves `bytes` as it was.
+/// the left, in a format to whose maxima they keep (RFC 6143, section 7.7.4). Which form a tile has,
+/// and which colours it names, isn't promised, but tested: each tile is the shorter one of
+/// subrectangles over a background, which have the foreground's colour where they have one colour,
+/// and of pixels. A background and a foreground are named where the tile before didn't have them,
+/// and in the first tile behind a raw or coloured one. It takes memory for the bytes alone. Want of
+/// memory leaves `bytes` as it was.
 pub fn encode(
     format: &PixelFormat,
     w: u16,

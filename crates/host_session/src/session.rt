@@ -32,7 +32,8 @@ fn make_due(heard: Result<(), HostFault>, said: &[u8], due: &mut Vec<u8>) -> Res
 /// The recorder's side of a connection to a VNC host (RFC 6143, sections 7.1 to 7.6), without a
 /// socket. It is fed the host's bytes in pieces of any length, gives the recorded messages, and
 /// puts out the bytes that are due to the host: its part of the handshake, and then a request for
-/// each update. Each byte is looked at once, and memory is taken for bytes that have come alone.
+/// each update. Each byte is looked at once, and memory is taken for bytes that have come alone: of
+/// messages that is the reader's promise, of the handshake it stands in no contract.
 #[derive(Drop)]
 pub struct HostSession {
     alloc: Global,

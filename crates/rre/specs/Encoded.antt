@@ -3,12 +3,13 @@ use Rattle.std.specs.Prelude.{◌≡◌, ℕ, ◌+◌, ◌*◌, ◌<◌, ◌≤�
 use Rattle.std.specs.Int.{bytes_high_first}
 use Rattle.std.specs.List.{flat_map}
 use Rattle.pixel_format.specs.declared.Color.{Color}
-use Rattle.pixel_format.specs.Format.{Format}
+use Rattle.pixel_format.specs.Format.{Format, pixel_bytes}
 use Rattle.pixel_format.specs.Pixel.{pixel_color, pixel_of}
 use Rattle.terms.specs.Appending.{AreEach}
 use Rattle.pixel_format.specs.Canvas.{Picture, Agree, rows_of}
 use Rattle.terms.specs.Number.{u16_at}
 use Rattle.rre.specs.declared.data.Subrectangle.{Subrectangle}
+use Rattle.rre.specs.Frequent.{count_of, others_than}
 use Rattle.rre.specs.Grammar.{Content}
 use Rattle.rre.specs.Data.{LiesWithin, AreBytesOf, IsHead, IsData}
 use Rattle.rre.specs.Picture.{picture_of}
@@ -32,6 +33,21 @@ pub record Shows (f : Format) (w h : ℕ) (colors : List Color) (bytes : List �
   pub is : IsData f w h bytes content
   pub bytes_are : bytes ≡ data_bytes f content
   pub picture : Agree w h (picture_of content) (rows_of colors w)
+
+-- how many bytes data of so many subrectangles have
+abbrev pub data_size : Format → ℕ → ℕ
+data_size f n = 4 + pixel_bytes f + n * (pixel_bytes f + 8)
+
+-- the colour of more than half of the places, if one colour has so many
+abbrev pub IsMajority : List Color → Color → Type 0
+IsMajority colors background = (color : Color) → length colors < 2 * count_of color colors → color ≡ background
+
+-- Data over such a background, with one subrectangle for each place of another colour, have so many
+-- bytes, or more.
+pub record IsLong (f : Format) (colors : List Color) (limit : ℕ) : Type 0 where
+  pub background : Color
+  pub majority : IsMajority colors background
+  pub long : limit ≤ data_size f (others_than background colors)
 
 -- ---- how the encoder goes on
 
@@ -86,3 +102,17 @@ pub record IsWritten (f : Format) (background : Color) (parts : List Subrectangl
   pub head_is : IsHead f head (length parts) pixel
   pub background_is : background ≡ pixel_color f pixel
   pub body_is : AreBytesOfAll f parts body
+
+-- data over such a background of no more subrectangles than there are places of another colour
+pub record HasFew (f : Format) (colors : List Color) (old new : ℕ) : Type 0 where
+  pub background : Color
+  pub majority : IsMajority colors background
+  pub count : ℕ
+  pub few : count ≤ others_than background colors
+  pub length_is : new ≡ old + data_size f count
+
+-- more places than so many have another colour than such a background
+pub record HasMany (colors : List Color) (most : ℕ) : Type 0 where
+  pub background : Color
+  pub majority : IsMajority colors background
+  pub many : most < others_than background colors

@@ -1,5 +1,5 @@
 -- How often colours stand in a list, and a map that counts them.
-use Rattle.std.specs.Prelude.{◌≡◌, ℕ, ◌*◌, ◌<◌, ◌==◌, ◌&&◌, Bool, List, length, count_by, unwrap_or}
+use Rattle.std.specs.Prelude.{◌≡◌, ℕ, ◌*◌, ◌<◌, ◌==◌, ◌&&◌, Bool, List, length, count_by, not, unwrap_or}
 use Rattle.std.specs.BTreeMap.{BTreeMap, get}
 use Rattle.std.specs.Ordering.{nat_cmp, ordering_then}
 use Rattle.std.specs.declared.cmp.Ordering.{Ordering}
@@ -12,6 +12,10 @@ is_color one other = (one.r == other.r && one.g == other.g) && one.b == other.b
 -- at how many places a colour stands
 abbrev pub count_of : Color → List Color → ℕ
 count_of color colors = count_by (is_color color) colors
+
+-- at how many places another one stands
+abbrev pub others_than : Color → List Color → ℕ
+others_than color colors = count_by (λ other. not (is_color color other)) colors
 
 -- a colour that stands at more than half of the places is the one at this place
 abbrev pub HasMajority : List Color → ℕ → Type 0

@@ -1,8 +1,8 @@
 //! Which subrectangles an encoder lists.
 
-ghost use Rattle.std.specs.Prelude.{◌≡◌, ◌↔◌, ℕ, ◌+◌, ◌*◌, ◌^◌, ◌<◌, ◌≤◌, length, IsTrue, OnOk, IfOk, IfSome, None, true, false, slice_index, if◌then◌else◌, ◌&&◌, nat_le, nat_lt};
+ghost use Rattle.std.specs.Prelude.{◌≡◌, ◌↔◌, ℕ, ◌+◌, ◌*◌, ◌^◌, ◌<◌, ◌≤◌, length, IsTrue, OnOk, IfOk, IfSome, None, true, false, take, slice_index, if◌then◌else◌, ◌&&◌, nat_le, nat_lt};
 ghost use Rattle.rre.specs.Encoded.{IsUniform, AreUniform, Reaches, part_picture};
-ghost use Rattle.rre.specs.Frequent.{is_color, count_of, counted, HasMajority};
+ghost use Rattle.rre.specs.Frequent.{is_color, count_of, others_than, counted, HasMajority};
 ghost use Rattle.pixel_format.specs.Canvas.{Agree, nth, rows_of};
 
 use crate::data::Subrectangle;
@@ -192,10 +192,15 @@ fn cover_row(
     requires narrow { length reach.old < 65536 }
     requires row { row < h }
     requires size { length colors.now ≡ h * length reach.old }
+    requires apart { length parts.old.items
+        ≤ others_than background (take (row * length reach.old) colors.now) }
     requires reaches { Reaches colors.now (length reach.old) h background parts.old.items reach.old 0 row }
     ensures whole { IfOk result (λ whole. whole ≡ true
         → Reaches colors.now (length reach.old) h background parts.new.items reach.new 0 (row + 1)) }
-    ensures many { IfOk result (λ whole. whole ≡ false → most < h * length reach.old) }
+    ensures apart { IfOk result (λ whole. whole ≡ true → length parts.new.items
+        ≤ others_than background (take ((row + 1) * length reach.old) colors.now)) }
+    ensures many { IfOk result (λ whole. whole ≡ false
+        → most < others_than background colors.now) }
 {
     let start = row as usize * reach.len();
     let line = &colors[start..start + reach.len()];
@@ -234,7 +239,8 @@ pub(crate) fn cover(
     ensures few { IfOk result (λ covered. IfSome covered (λ parts. length parts.items ≤ h * w)) }
     ensures picture { IfOk result (λ covered. IfSome covered (λ parts.
         Agree w h (part_picture background parts.items) (rows_of colors.now w))) }
-    ensures many { IfOk result (λ covered. covered ≡ None → most < h * w) }
+    ensures apart { IfOk result (λ covered. IfSome covered (λ parts. length parts.items ≤ others_than background colors.now)) }
+    ensures many { IfOk result (λ covered. covered ≡ None → most < others_than background colors.now) }
 {
     let mut parts = Vec::new(alloc);
     let mut reach = vec![in alloc; 0; w as usize]?;

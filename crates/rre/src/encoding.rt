@@ -3,7 +3,7 @@
 ghost use Rattle.std.specs.Prelude.{◌≡◌, ◌+◌, ◌*◌, ◌<◌, All, IfOk, OnOk, OnErr, length, true, false};
 ghost use Rattle.pixel_format.specs.Pixel.{IsWithin};
 ghost use Rattle.terms.specs.Appending.{Appends};
-ghost use Rattle.rre.specs.Encoded.{Shows};
+ghost use Rattle.rre.specs.Encoded.{Shows, IsMajority, HasFew, HasMany, IsLong};
 
 use crate::append::append_data;
 use crate::cover::{background, cover};
@@ -18,7 +18,8 @@ fn background_color(
     colors: &[Color],
 ) -> Result<Color, NoMemory>
     requires { All (IsWithin format.now) colors.now }
-    ensures { IfOk result (IsWithin format.now) }
+    ensures within { IfOk result (IsWithin format.now) }
+    ensures majority { IfOk result (IsMajority colors.now) }
 {
     if colors.is_empty() {
         return Ok(Color { r: 0, g: 0, b: 0 });
@@ -41,7 +42,9 @@ fn append_few(
     requires size { length colors.now ≡ h * w }
     requires within { All (IsWithin format.now) colors.now }
     ensures ok { IfOk result (λ whole. whole ≡ true → Appends (Shows format.now w h colors.now) bytes.old.items bytes.new.items) }
-    ensures many { IfOk result (λ whole. whole ≡ false → most < h * w) }
+    ensures few { IfOk result (λ whole. whole ≡ true
+        → HasFew format.now colors.now (length bytes.old.items) (length bytes.new.items)) }
+    ensures many { IfOk result (λ whole. whole ≡ false → HasMany colors.now most) }
     ensures unchanged { IfOk result (λ whole. whole ≡ false → bytes.new.items ≡ bytes.old.items) }
     ensures err { OnErr result (bytes.new.items ≡ bytes.old.items) }
 {
@@ -83,8 +86,9 @@ pub fn encode(
 }
 
 /// Appends data as [`encode`] does if they have fewer bytes than the limit, and answers whether they
-/// have. It stops listing subrectangles once they have as many. Where it answers `false`, and for
-/// want of memory, `bytes` stays as it was.
+/// have. It stops listing subrectangles once they have as many. It answers `false` only where data
+/// that list each place of another colour than the background's by itself have as many bytes as the
+/// limit; then, and for want of memory, `bytes` stays as it was.
 pub fn encode_below(
     alloc: Global,
     format: &PixelFormat,
@@ -98,14 +102,18 @@ pub fn encode_below(
     requires within { All (IsWithin format.now) colors.now }
     ensures ok { IfOk result (λ whole. whole ≡ true → Appends (Shows format.now w h colors.now) bytes.old.items bytes.new.items) }
     ensures below { IfOk result (λ whole. whole ≡ true → length bytes.new.items < length bytes.old.items + limit) }
+    ensures long { IfOk result (λ whole. whole ≡ false → IsLong format.now colors.now limit) }
     ensures unchanged { IfOk result (λ whole. whole ≡ false → bytes.new.items ≡ bytes.old.items) }
     ensures err { OnErr result (bytes.new.items ≡ bytes.old.items) }
 {
     let before = bytes.len();
     let most = limit / (format.bytes() + 8);
     let whole = append_few(alloc, w, h, most, format, colors, bytes)?;
-    if bytes.len() < before.saturating_add(limit) {
-        return Ok(whole);
+    if !whole {
+        return Ok(false);
+    }
+    if bytes.len() - before < limit {
+        return Ok(true);
     }
     bytes.truncate(before);
     Ok(false)

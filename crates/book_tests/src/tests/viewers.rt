@@ -264,6 +264,44 @@ fn formats(rt: HostRuntime) -> Result<(), Fail> {
     Ok(())
 }
 
+// The number of the encoding in which sixteen places are answered, after these lists.
+fn encoding_after(alloc: Global, lists: &[u8]) -> Result<Vec<u8>, Fail> {
+    let mut session = started(alloc, 16, &RED)?;
+    feed(&mut session, lists)?;
+    feed(&mut session, b"\x03\0\0\0\0\0\0\x10\0\x01")?;
+    let answer = put_out(alloc, &mut session)?;
+    let number = answer.get(12..16).unwrap_or_default();
+    Ok(Vec::from_slice(alloc, number)?)
+}
+
+// No list, and an empty one; Raw, RRE and Hextile first; unknown ones in front; CopyRect alone, and
+// in front; and one list behind another.
+#[test]
+fn encodings(rt: HostRuntime) -> Result<(), Fail> {
+    let alloc = rt.alloc();
+    let rows: [(&[u8], &[u8]); 9] = [
+        (b"", b"\0\0\0\0"),
+        (b"\x02\0\0\0", b"\0\0\0\0"),
+        (b"\x02\0\0\x02\0\0\0\0\0\0\0\x05", b"\0\0\0\0"),
+        (b"\x02\0\0\x02\0\0\0\x02\0\0\0\x05", b"\0\0\0\x02"),
+        (b"\x02\0\0\x02\0\0\0\x05\0\0\0\0", b"\0\0\0\x05"),
+        (
+            b"\x02\0\0\x03\xff\xff\xff\x11\0\0\0\x10\0\0\0\x02",
+            b"\0\0\0\x02",
+        ),
+        (b"\x02\0\0\x01\0\0\0\x01", b"\0\0\0\0"),
+        (b"\x02\0\0\x02\0\0\0\x01\0\0\0\x05", b"\0\0\0\x05"),
+        (
+            b"\x02\0\0\x01\0\0\0\x05\x02\0\0\x01\0\0\0\x02",
+            b"\0\0\0\x02",
+        ),
+    ];
+    for (lists, number) in rows {
+        assert!(rt; encoding_after(alloc, lists)?.as_slice() == number);
+    }
+    Ok(())
+}
+
 // Requests that have no area, or lie off the screen, ask for nothing; one that leaves it is cut.
 // Thousands in one piece are one pending area.
 #[test]

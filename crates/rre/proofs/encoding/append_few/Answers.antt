@@ -1,4 +1,5 @@
 use Rattle.std.proofs.Common.{sym}
+use Rattle.rre.proofs.Lengths.{has_few}
 use Rattle.rre.proofs.Shown.{parts_within, shown}
 use Rattle.rre.proofs.encoding.append_few.Goals as goal
 
@@ -16,3 +17,11 @@ returns-clause-ok c = λ _.
     (rw c.in-Some.is at c.in_ok-covered.ensures.uniform) (rw c.in-Some.is at c.in_ok-covered.ensures.picture)
     (rw (c.deref.ensures.value, sym c.in_ok-whole_or_none.ensures.ok) at fine)
     (rw (c.deref.ensures.value, sym c.in_ok-whole_or_none.ensures.ok) at written)
+
+pub returns-clause-few : goal.returns-clause-few
+returns-clause-few c = λ _.
+    let same = sym c.in_ok-whole_or_none.ensures.same in
+    let fine = rw same at c.append_data-appended.ensures.ok in
+    has_few c.args.format.now c.args.colors.now c.in_ok-background.background c.in-Some.parts.items c.args.bytes.now.items c.whole_or_none.new.bytes.items
+    c.in_ok-background.ensures.majority (rw c.in-Some.is at c.in_ok-covered.ensures.apart)
+    (rw (c.deref.ensures.value, sym c.in_ok-whole_or_none.ensures.ok) at fine)
