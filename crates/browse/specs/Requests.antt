@@ -1,15 +1,28 @@
 -- What a browser asks for.
-use Rattle.std.specs.Prelude.{◌≡◌, ℕ, List, ◌++◌, codes}
+use Rattle.std.specs.Prelude.{◌≡◌, ◌≢◌, ℕ, ◌+◌, ◌-◌, ◌*◌, ◌^◌, ◌&&◌, nat_lt, List, [], ◌∷◌, ◌++◌, length, codes, Option, None, Some, if◌then◌else◌}
+use Rattle.std.specs.Char.{is_ascii_digit}
+use Rattle.std.specs.List.{list_all}
 use Rattle.httparse.specs.Grammar.{ReadsRequest, RequestHead}
 use Rattle.file_commands.specs.declared.picturing.Moment.{Moment}
 use Rattle.file_commands.specs.declared.picturing.Moment.TheVariants.{Count, Time}
 use Rattle.browse.specs.declared.request.Asked.{Asked}
 use Rattle.browse.specs.declared.request.Asked.TheVariants.{Page, Script, Style, Times, Picture}
 
--- The query of a target asks for this moment: digits behind the moment's kind.
+-- the value of decimal digits, the first of them the greatest
+abbrev pub decimal : List ℕ → ℕ
+decimal [] = 0
+decimal (digit ∷ digits) = (digit - 48) * 10 ^ length digits + decimal digits
+
+-- the number below a limit that bytes write, in decimal digits alone, one or more
+abbrev pub number_of : ℕ → List ℕ → Option ℕ
+number_of limit [] = None
+number_of limit (digit ∷ digits) =
+    if list_all is_ascii_digit (digit ∷ digits) && nat_lt (decimal (digit ∷ digits)) limit then Some (decimal (digit ∷ digits)) else None
+
+-- The query of a target asks for this moment: its number behind its kind.
 abbrev pub IsQueryOf : Moment → List ℕ → Type 0
-IsQueryOf (Time _) query = (digits : List ℕ) × (query ≡ codes "at=" ++ digits)
-IsQueryOf (Count _) query = (digits : List ℕ) × (query ≡ codes "message=" ++ digits)
+IsQueryOf (Time time) query = (digits : List ℕ) × (query ≡ codes "at=" ++ digits) × (number_of (2 ^ 32) digits ≡ Some time)
+IsQueryOf (Count count) query = (digits : List ℕ) × (query ≡ codes "message=" ++ digits) × (number_of (2 ^ 64) digits ≡ Some count)
 
 -- The target of a request asks for this (RFC 9112, section 3.2.1).
 abbrev pub IsTargetOf : Asked → List ℕ → Type 0
@@ -26,3 +39,18 @@ pub record IsAskedBy (bytes : List ℕ) (asked : Asked) : Type 0 where
   pub reads : ReadsRequest bytes request rest
   pub method : request.method ≡ codes "GET"
   pub target : IsTargetOf asked request.target
+
+-- The bytes begin with the head of a GET request for nothing that there is.
+pub record AsksForNothing (bytes : List ℕ) : Type 0 where
+  pub request : RequestHead
+  pub rest : List ℕ
+  pub reads : ReadsRequest bytes request rest
+  pub method : request.method ≡ codes "GET"
+  pub target : (asked : Asked) → IsTargetOf asked request.target → ⊥
+
+-- The bytes begin with the head of a request that isn't a GET.
+pub record IsNoGet (bytes : List ℕ) : Type 0 where
+  pub request : RequestHead
+  pub rest : List ℕ
+  pub reads : ReadsRequest bytes request rest
+  pub method : request.method ≢ codes "GET"

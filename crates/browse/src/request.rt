@@ -1,10 +1,13 @@
 //! What a browser asks for: the head of an HTTP request, judged.
 
-ghost use Rattle.std.specs.Prelude.{◌≡◌, ◌≢◌, ◌++◌, ℕ, List, codes, length, All, IfSome, MatchOption, Some};
+ghost use Rattle.std.specs.Prelude.{◌≡◌, ◌≢◌, ◌++◌, ◌^◌, ℕ, List, codes, length, All, MatchOption, Some};
+ghost use Rattle.std.specs.Char.{is_ascii_digit};
+ghost use Rattle.std.specs.List.{list_all};
+ghost use Rattle.file_commands.specs.declared.picturing.Moment.{Moment as MomentValue};
 ghost use Rattle.httparse.specs.Grammar.{MayBecomeRequest};
 ghost use Rattle.httparse.specs.Spans.{IsHeaderWithin, IsRequestWithin, span_bytes};
-ghost use Rattle.browse.specs.declared.request.Asked.{Asked};
-ghost use Rattle.browse.specs.Requests.{IsAskedBy, IsQueryOf, IsTargetOf};
+ghost use Rattle.browse.specs.declared.request.Asked.{Asked as AskedValue};
+ghost use Rattle.browse.specs.Requests.{AsksForNothing, IsAskedBy, IsNoGet, IsQueryOf, IsTargetOf, number_of};
 
 use file_commands::Moment;
 use httparse::spans::{EMPTY_HEADER_SPAN, HeaderSpan, RequestSpans, parse_request};
@@ -56,13 +59,28 @@ pub enum Judged {
     Refused(Fault),
 }
 
+// Whether bytes are decimal digits.
+fn is_number(bytes: &[u8]) -> bool
+    ensures { result ≡ list_all is_ascii_digit bytes.now }
+{
+    bytes.iter().all(|digit| digit.is_ascii_digit())
+}
+
 // A decimal number: digits alone, one at least.
-fn number(digits: &[u8]) -> Option<u64> {
-    let text = str::from_utf8(digits).ok()?;
-    if digits.is_empty() || !digits.iter().all(|digit| digit.is_ascii_digit()) {
+fn number(digits: &[u8]) -> Option<u64>
+    ensures { result ≡ number_of (2 ^ 64) digits.now }
+{
+    if !is_number(digits) {
         return None;
     }
-    text.parse().ok()
+    str::from_utf8(digits).ok()?.parse().ok()
+}
+
+// The same of a time.
+fn time(digits: &[u8]) -> Option<u32>
+    ensures { result ≡ number_of (2 ^ 32) digits.now }
+{
+    u32::try_from(number(digits)?).ok()
 }
 
 // What stands behind a front, where bytes begin with it.
@@ -74,27 +92,33 @@ fn behind<'a>(bytes: &'a [u8], front: &[u8]) -> Option<&'a [u8]>
 
 // The moment that is asked for behind `/picture?`.
 fn moment(query: &[u8]) -> Option<Moment>
-    ensures { IfSome result (λ moment. IsQueryOf moment query.now) }
+    ensures { MatchOption result ((moment : MomentValue) → IsQueryOf moment query.now → ⊥) (λ moment. IsQueryOf moment query.now) }
 {
-    if let Some(time) = behind(query, b"at=") {
-        return Some(Moment::Time(u32::try_from(number(time)?).ok()?));
+    if let Some(digits) = behind(query, b"at=") {
+        return Some(Moment::Time(time(digits)?));
     }
-    let count = behind(query, b"message=")?;
-    Some(Moment::Count(number(count)?))
+    let digits = behind(query, b"message=")?;
+    Some(Moment::Count(number(digits)?))
 }
 
 /// What a request's target asks for (RFC 9112, section 3.2.1); none where there is no such thing.
+#[tactic(auto, using(crate::proofs::Queries::no_target, crate::proofs::Queries::no_picture))]
 pub fn asked_by(target: &[u8]) -> Option<Asked>
-    ensures asked { IfSome result (λ asked. IsTargetOf asked target.now) }
+    ensures asked { MatchOption result ((asked : AskedValue) → IsTargetOf asked target.now → ⊥) (λ asked. IsTargetOf asked target.now) }
     ensures page { target.now ≡ codes "/" → result ≡ Some Asked.Page }
     ensures times { target.now ≡ codes "/times" → result ≡ Some Asked.Times }
 {
-    match target {
-        b"/" => return Some(Asked::Page),
-        b"/browse.js" => return Some(Asked::Script),
-        b"/browse.css" => return Some(Asked::Style),
-        b"/times" => return Some(Asked::Times),
-        _ => {}
+    if target == b"/".as_slice() {
+        return Some(Asked::Page);
+    }
+    if target == b"/browse.js".as_slice() {
+        return Some(Asked::Script);
+    }
+    if target == b"/browse.css".as_slice() {
+        return Some(Asked::Style);
+    }
+    if target == b"/times".as_slice() {
+        return Some(Asked::Times);
     }
     let query = behind(target, b"/picture?")?;
     Some(Asked::Picture(moment(query)?))
@@ -130,8 +154,11 @@ fn is_sent_here(head: &[u8], fields: &[HeaderSpan]) -> bool
 fn judge_whole(head: &[u8], request: RequestSpans, fields: &[HeaderSpan]) -> Judged
     requires { IsRequestWithin head.now fields.now request }
     ensures whole { result ≢ Judged.Unfinished }
-    ensures asked { (asked : Asked) → result ≡ Judged.Asked asked
+    ensures asked { (asked : AskedValue) → result ≡ Judged.Asked asked
         → (span_bytes head.now request.method ≡ codes "GET") × IsTargetOf asked (span_bytes head.now request.path) }
+    ensures not_found { result ≡ Judged.Refused Fault.NotFound
+        → (span_bytes head.now request.method ≡ codes "GET") × ((asked : AskedValue) → IsTargetOf asked (span_bytes head.now request.path) → ⊥) }
+    ensures not_allowed { result ≡ Judged.Refused Fault.MethodNotAllowed → span_bytes head.now request.method ≢ codes "GET" }
 {
     if !is_sent_here(head, &fields[..request.headers]) {
         return Judged::Refused(Fault::Forbidden);
@@ -149,7 +176,9 @@ fn judge_whole(head: &[u8], request: RequestSpans, fields: &[HeaderSpan]) -> Jud
 /// asks for something or is refused, or the beginning of one. What stands behind a head isn't looked
 /// at.
 pub fn judge(head: &[u8]) -> Judged
-    ensures asked { (asked : Asked) → result ≡ Judged.Asked asked → IsAskedBy head.now asked }
+    ensures asked { (asked : AskedValue) → result ≡ Judged.Asked asked → IsAskedBy head.now asked }
+    ensures not_found { result ≡ Judged.Refused Fault.NotFound → AsksForNothing head.now }
+    ensures not_allowed { result ≡ Judged.Refused Fault.MethodNotAllowed → IsNoGet head.now }
     ensures unfinished { result ≡ Judged.Unfinished → MayBecomeRequest head.now }
 {
     let mut fields = [EMPTY_HEADER_SPAN; MOST_FIELDS];

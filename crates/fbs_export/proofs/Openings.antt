@@ -1,6 +1,5 @@
 -- An opening is read from its text.
-use Rattle.std.proofs.Common.{◌≡◌, ◌≤◌, ℕ, ◌*◌, List, [], ◌++◌, length, true, refl, arith}
-use Rattle.std.proofs.lemmas.Bool.{lt-ltb}
+use Rattle.std.proofs.Common.{◌≡◌, ◌≤◌, ℕ, List, [], ◌++◌, length, true, refl, arith}
 use Rattle.std.proofs.lemmas.List.{take_all}
 use Rattle.terms.specs.Reading.{Got, More}
 use Rattle.pixel_format.specs.Format.{host_format}

@@ -1,7 +1,7 @@
 //! Those that the workers work for: what gives a host's messages, and what takes receipts.
 
-ghost use Rattle.std.specs.Prelude.{◌≡◌, ◌<◌, ◌^◌, ◌⊎◌, ◌+◌, IfSome, length, true};
-ghost use Rattle.shared_book.specs.Receipts.{IsOfSize, has_start};
+ghost use Rattle.std.specs.Prelude.{◌≡◌, ◌<◌, ◌^◌, ◌+◌, IfSome, length, true, false};
+ghost use Rattle.shared_book.specs.Receipts.{IsOfSize, has_start, fresh_after, position_after};
 
 use rfb_wire::HostMessage;
 
@@ -57,16 +57,17 @@ pub enum ViewerWish {
     Want(u32),
     /// To wait until there are some, host and flusher have ended, or the viewer has left.
     Wait,
-    /// To go on behind the first so many messages.
+    /// To go on behind the first so many messages, with the screen there.
     Seek(u64),
     /// To end.
     Stop,
 }
 
-/// What takes a viewer's receipts. Each is of the sink's size, and has a start or begins where the
-/// sink stands. An ending says that it has all.
+/// What takes a viewer's receipts. Each is of the sink's size and begins where the sink stands: behind
+/// the receipt before, where its seat is, or where it asked to go on. It has a start exactly in these
+/// two cases. An ending says that the sink has all.
 pub trait ViewerSink<T, E>: Drop {
-    ghost use Rattle.std.specs.Prelude.{ℕ};
+    ghost use Rattle.std.specs.Prelude.{ℕ, Bool};
     ghost use Rattle.replay.specs.declared.slice.Slice.{Slice};
 
     ghost width: { Self → ℕ };
@@ -74,6 +75,8 @@ pub trait ViewerSink<T, E>: Drop {
     ghost height: { Self → ℕ };
 
     ghost position: { Self → ℕ };
+
+    ghost fresh: { Self → Bool };
 
     ghost slice_of: { T → Slice };
 
@@ -85,31 +88,41 @@ pub trait ViewerSink<T, E>: Drop {
         false
     }
 
-    /// What it wants.
+    /// Takes word of its seat, which is behind so many messages: it stands there, without a screen.
+    fn seated(&mut self, count: u64)
+        ensures same { (width self.new ≡ width self.old) × (height self.new ≡ height self.old) }
+        ensures moved { position self.new ≡ count }
+        ensures bare { fresh self.new ≡ true };
+
+    /// What it wants. At `Seek` it stands behind so many messages from then on, without a screen.
     fn wish(&mut self) -> ViewerWish
         ensures same { (width self.new ≡ width self.old) × (height self.new ≡ height self.old) }
-        ensures stays { position self.new ≡ position self.old };
+        ensures moved { position self.new ≡ position_after result (position self.old) }
+        ensures bare { fresh self.new ≡ fresh_after result (fresh self.old) };
 
-    /// Takes a receipt, and stands at its end then.
+    /// Takes a receipt, and stands at its end then, with a screen.
     fn slice(&mut self, receipt: T)
         requires sized { IsOfSize (width self.old) (height self.old) (slice_of receipt) }
-        requires place { (has_start (slice_of receipt) ≡ true) ⊎ ((slice_of receipt).first ≡ position self.old) }
+        requires place { (slice_of receipt).first ≡ position self.old }
+        requires start { has_start (slice_of receipt) ≡ fresh self.old }
         requires room { (slice_of receipt).first + length (slice_of receipt).messages.items < 2 ^ 64 }
         ensures same { (width self.new ≡ width self.old) × (height self.new ≡ height self.old) }
-        ensures moved { position self.new ≡ (slice_of receipt).first + length (slice_of receipt).messages.items };
+        ensures moved { position self.new ≡ (slice_of receipt).first + length (slice_of receipt).messages.items }
+        ensures shown { fresh self.new ≡ false };
 
     /// Takes word that it was handed all: host and flusher have ended, and it stands behind the last
-    /// committed message. It is told so at each `Wait` there, which doesn't sleep: a sink that stays
+    /// committed message, with a screen. It is told so at each `Wait` there, which doesn't sleep: a sink that stays
     /// waits for its viewer by itself.
     fn end(&mut self, ending: E)
-        requires { count_of ending ≡ position self.old }
+        requires all { count_of ending ≡ position self.old }
+        requires shown { fresh self.old ≡ false }
         ensures same { (width self.new ≡ width self.old) × (height self.new ≡ height self.old) }
-        ensures stays { position self.new ≡ position self.old };
+        ensures stays { (position self.new ≡ position self.old) × (fresh self.new ≡ fresh self.old) };
 
     /// Takes word that memory is wanting, so that nothing is handed to it; it is asked again a
     /// little later.
     fn shortage(&mut self)
         ensures same { (width self.new ≡ width self.old) × (height self.new ≡ height self.old) }
-        ensures stays { position self.new ≡ position self.old }
+        ensures stays { (position self.new ≡ position self.old) × (fresh self.new ≡ fresh self.old) }
     {}
 }

@@ -39,7 +39,8 @@ impl<M: Mark> Receipt<M> {
 }
 
 /// The number of a message that `host` of [`Shared`](crate::Shared) accepted. It is made by that
-/// alone. Contracts see the number, and the message that was accepted there with its time.
+/// alone. Contracts see the number, the message that was accepted there with its time, and the time of
+/// the one before it.
 #[derive(Drop)]
 pub struct Ticket<M: Mark> {
     pub(crate) number: u64,
@@ -48,12 +49,17 @@ pub struct Ticket<M: Mark> {
 }
 
 impl<M: Mark> Model for Ticket<M> {
-    ghost use Rattle.std.specs.Prelude.{◌≡◌, ◌+◌, ◌<◌, length, slice_get};
+    ghost use Rattle.std.specs.Prelude.{◌≡◌, ◌+◌, ◌<◌, length, slice_get, take};
+    ghost use Rattle.keyed_entries.specs.Entry.{last_time};
     ghost use Rattle.shared_book.specs.Receipts.{Accepted};
 
     ghost Value = { Accepted };
 
-    ghost view = { λ t. record { number = t.number; stamped = slice_get t.front.accepted t.number } };
+    ghost view = { λ t. record {
+      number = t.number;
+      stamped = slice_get t.front.accepted t.number;
+      earlier = last_time 0 (take t.number t.front.accepted);
+    } };
 
     ghost invariant = { λ t. M.is_modelled → (M.first + t.stub ≡ t.number) × (t.number < length t.front.accepted) };
 }

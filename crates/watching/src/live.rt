@@ -23,8 +23,8 @@ pub struct Watching<'a, M: Mark, C: Connection, R: Clock + Eprint + Wait> {
     position: u64,
     /// Up to which count it is shown each message.
     each_until: u64,
-    /// Whether it has a screen to go on from.
-    has_start: bool,
+    /// Whether it is handed a screen next, to go on from.
+    is_fresh: bool,
     /// Whether it has waited for more since it was handed something.
     has_waited: bool,
     is_at_end: bool,
@@ -44,7 +44,7 @@ impl<'a, M: Mark, C: Connection, R: Clock + Eprint + Wait> Watching<'a, M, C, R>
                 Start::Live => 0,
                 Start::At(_) => room.committed(),
             },
-            has_start: false,
+            is_fresh: true,
             has_waited: false,
             is_at_end: false,
             is_short: false,
@@ -71,7 +71,7 @@ impl<'a, M: Mark, C: Connection, R: Clock + Eprint + Wait> Watching<'a, M, C, R>
     // that screen first; then one by one, as far as it is shown each.
     fn limit(&self) -> u32 {
         match self.room.from {
-            Start::At(_) if !self.has_start => 0,
+            Start::At(_) if self.is_fresh => 0,
             Start::At(count) if self.position < count => {
                 u32::try_from(count - self.position).map_or(LIMIT, |left| left.min(LIMIT))
             }
@@ -87,7 +87,7 @@ impl<'a, M: Mark, C: Connection, R: Clock + Eprint + Wait> Watching<'a, M, C, R>
             Start::Live => return,
             Start::At(count) => count,
         };
-        if self.has_start && begins_at <= self.position && self.position < self.each_until {
+        if !self.is_fresh && begins_at <= self.position && self.position < self.each_until {
             self.viewer
                 .wait_until_asked(self.rt, || self.room.hall.is_closing(self.rt));
         }
@@ -109,12 +109,19 @@ impl<'a, M: Mark, C: Connection, R: Clock + Eprint + Wait> ViewerSink<Receipt<M>
 
     ghost position = { λ w. w.position };
 
+    ghost fresh = { λ w. w.is_fresh };
+
     ghost slice_of = { λ r. r };
 
     ghost count_of = { λ e. e.count };
 
     fn has_left(&self) -> bool {
         self.viewer.has_left()
+    }
+
+    fn seated(&mut self, count: u64) {
+        self.position = count;
+        self.is_fresh = true;
     }
 
     fn wish(&mut self) -> ViewerWish {
@@ -127,11 +134,11 @@ impl<'a, M: Mark, C: Connection, R: Clock + Eprint + Wait> ViewerSink<Receipt<M>
             return ViewerWish::Stop;
         }
         let committed = self.room.committed();
-        if self.has_start && self.is_far_behind() {
-            // It takes the screen there next.
-            self.has_start = false;
+        if !self.is_fresh && self.is_far_behind() {
+            self.position = committed;
+            self.is_fresh = true;
             ViewerWish::Seek(committed)
-        } else if !self.has_start || self.has_waited || self.position < committed {
+        } else if self.is_fresh || self.has_waited || self.position < committed {
             ViewerWish::Want(self.limit())
         } else {
             self.has_waited = true;
@@ -142,7 +149,7 @@ impl<'a, M: Mark, C: Connection, R: Clock + Eprint + Wait> ViewerSink<Receipt<M>
     fn slice(&mut self, receipt: Receipt<M>) {
         let slice = receipt.slice();
         self.position = slice.end();
-        self.has_start = true;
+        self.is_fresh = false;
         self.has_waited = false;
         self.is_short = false;
         self.viewer.show(self.rt, slice);

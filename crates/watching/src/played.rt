@@ -1,6 +1,7 @@
 //! A recording that a viewer watches in the recording's own time.
 
 ghost use Rattle.std.specs.Prelude.{◌≡◌};
+ghost use Rattle.shared_book.specs.Receipts.{fresh_after, position_after};
 
 use connections::{Event, Room, Viewer};
 use playing::{Program, Timetable};
@@ -28,8 +29,8 @@ pub struct Playing<'a, M: Mark, C: Connection, R: Clock + Eprint + Wait> {
     /// When the playing began; none until it has.
     begun: Option<Instant>,
     position: u64,
-    /// Whether it has a screen to go on from.
-    has_start: bool,
+    /// Whether it is handed a screen next, to go on from.
+    is_fresh: bool,
     is_at_end: bool,
     /// Whether memory was short, which is told once, since it was handed something.
     is_short: bool,
@@ -51,7 +52,7 @@ impl<'a, M: Mark, C: Connection, R: Clock + Eprint + Wait> Playing<'a, M, C, R> 
             timetable: program.timetable(),
             begun: None,
             position: 0,
-            has_start: false,
+            is_fresh: true,
             is_at_end: false,
             is_short: false,
         }
@@ -108,7 +109,8 @@ impl<'a, M: Mark, C: Connection, R: Clock + Eprint + Wait> Playing<'a, M, C, R> 
 
     // What it wants at the end: to begin again, where it is to and there is something to be played.
     fn wish_at_end(&mut self) -> ViewerWish
-        ensures stays { self.new.position ≡ self.old.position }
+        ensures moved { self.new.position ≡ position_after result self.old.position }
+        ensures bare { self.new.is_fresh ≡ fresh_after result self.old.is_fresh }
     {
         if !self.program.repeats || self.position <= self.program.from {
             self.rest_at_end();
@@ -116,7 +118,8 @@ impl<'a, M: Mark, C: Connection, R: Clock + Eprint + Wait> Playing<'a, M, C, R> 
         }
         self.sleep(Duration::from_millis(LAST_SCREEN));
         self.is_at_end = false;
-        self.has_start = false;
+        self.position = self.program.from;
+        self.is_fresh = true;
         self.begun = None;
         self.timetable = self.program.timetable();
         ViewerWish::Seek(self.program.from)
@@ -131,12 +134,19 @@ impl<'a, M: Mark, C: Connection, R: Clock + Eprint + Wait> ViewerSink<Receipt<M>
 
     ghost position = { λ w. w.position };
 
+    ghost fresh = { λ w. w.is_fresh };
+
     ghost slice_of = { λ r. r };
 
     ghost count_of = { λ e. e.count };
 
     fn has_left(&self) -> bool {
         self.viewer.has_left()
+    }
+
+    fn seated(&mut self, count: u64) {
+        self.position = count;
+        self.is_fresh = true;
     }
 
     fn wish(&mut self) -> ViewerWish {
@@ -146,7 +156,7 @@ impl<'a, M: Mark, C: Connection, R: Clock + Eprint + Wait> ViewerSink<Receipt<M>
         if self.is_at_end {
             return self.wish_at_end();
         }
-        if !self.has_start {
+        if self.is_fresh {
             return ViewerWish::Want(0);
         }
         if self.position < self.program.from {
@@ -167,7 +177,7 @@ impl<'a, M: Mark, C: Connection, R: Clock + Eprint + Wait> ViewerSink<Receipt<M>
         let slice = receipt.slice();
         self.wait_for(slice);
         self.position = slice.end();
-        self.has_start = true;
+        self.is_fresh = false;
         self.is_short = false;
         if !self.viewer.has_left() {
             self.viewer.show(self.rt, slice);

@@ -5,12 +5,12 @@ ghost use Rattle.flusher_core.specs.State.{accepted_count};
 
 use super::{UPDATE, confirm, find, new_desk};
 use broadcast::{Desk, Start};
-use disk::{Disk, MemoryDisk};
-use flusher_core::HostRefusal;
+use disk::{Disk, FailingDisk, MemoryDisk, Switch};
+use flusher_core::{FlushRefusal, HostRefusal};
 use rfb_wire::HostMessage;
 use shared_book::{
-    Closed, Ending, HostSource, Mark, Point, Receipt, ReceiptSink, Shared, Ticket, Token,
-    Turnstile, ViewerSink, ViewerWish, run_flusher, run_host, run_viewer,
+    Closed, Ending, FlusherEnd, HostSource, Mark, Point, Receipt, ReceiptSink, Shared, Ticket,
+    Token, Turnstile, ViewerEnd, ViewerSink, ViewerWish, run_flusher, run_host, run_viewer,
 };
 use std::alloc::Global;
 use std::marker::Brand;
@@ -34,6 +34,8 @@ enum Order {
     HostFirst,
     /// The flusher has ended before the host begins.
     NoFlusher,
+    /// The device fails at the first block.
+    NoDevice,
 }
 
 /// Holds workers. Who is held longer than 10,000 turns goes on, and is counted. It is also told
@@ -62,6 +64,10 @@ impl<'a, R: Clock> Gates<'a, R> {
         }
     }
 
+    fn misses(&self) {
+        self.missed.fetch_add(1, Ordering::SeqCst);
+    }
+
     fn lacks(&self) {
         self.lacked.store(true, Ordering::SeqCst);
     }
@@ -70,7 +76,8 @@ impl<'a, R: Clock> Gates<'a, R> {
         self.lacked.load(Ordering::SeqCst)
     }
 
-    // Whether nobody was held for too long; nor is anybody to blame for it who lacked memory.
+    // Whether nobody was held for too long or ended otherwise than is due; nor is anybody to blame for
+    // it who lacked memory.
     fn were_passed(&self) -> bool {
         self.missed.load(Ordering::SeqCst) == 0 || self.has_lacked()
     }
@@ -85,7 +92,7 @@ impl<'a, R: Clock> Gates<'a, R> {
             }
             let _ = thread::sleep(self.rt, Duration::from_millis(1));
         }
-        self.missed.fetch_add(1, Ordering::SeqCst);
+        self.misses();
     }
 }
 
@@ -173,6 +180,7 @@ struct Seen<M: Mark> {
 struct Viewer<'a, M: Mark, R: Clock> {
     gates: &'a Gates<'a, R>,
     position: u64,
+    is_fresh: bool,
     waits: bool,
     seen: &'a mut Seen<M>,
 }
@@ -184,6 +192,8 @@ impl<'a, M: Mark, R: Clock> ViewerSink<Receipt<M>, Ending<M>> for Viewer<'a, M, 
 
     ghost position = { λ v. v.position };
 
+    ghost fresh = { λ v. v.is_fresh };
+
     ghost slice_of = { λ r. r };
 
     ghost count_of = { λ e. e.count };
@@ -191,6 +201,11 @@ impl<'a, M: Mark, R: Clock> ViewerSink<Receipt<M>, Ending<M>> for Viewer<'a, M, 
     fn has_left(&self) -> bool {
         self.gates.waiting.fetch_add(1, Ordering::SeqCst);
         false
+    }
+
+    fn seated(&mut self, count: u64) {
+        self.position = count;
+        self.is_fresh = true;
     }
 
     fn wish(&mut self) -> ViewerWish {
@@ -206,6 +221,7 @@ impl<'a, M: Mark, R: Clock> ViewerSink<Receipt<M>, Ending<M>> for Viewer<'a, M, 
 
     fn slice(&mut self, receipt: Receipt<M>) {
         self.position = receipt.slice().end();
+        self.is_fresh = false;
         if self.seen.receipts.push(receipt).is_err() {
             self.gates.lacks();
         }
@@ -233,9 +249,16 @@ fn host<D: Disk, M: Mark, R: Wait + Clock>(
         count,
         tickets: &mut tickets,
     };
-    match run_host(rt, shared, source, gates) {
-        Ok(()) | Err(HostRefusal::Backlog) => {}
-        Err(_) => gates.lacks(),
+    let end = run_host(rt, shared, source, gates);
+    let due = match gates.order {
+        Order::NoFlusher => Err(HostRefusal::Backlog),
+        Order::NoDevice => Err(HostRefusal::Broken),
+        Order::Free | Order::Meeting | Order::HostFirst => Ok(()),
+    };
+    if end == Err(HostRefusal::NoMemory) {
+        gates.lacks();
+    } else if end != due {
+        gates.misses();
     }
     tickets
 }
@@ -251,8 +274,11 @@ fn flush<D: Disk, M: Mark, R: Wait + Clock>(
         gates: &*gates,
         receipts: &mut receipts,
     };
-    if run_flusher(rt, shared, kept, gates).is_err() {
-        gates.lacks();
+    match (run_flusher(rt, shared, kept, gates), gates.order) {
+        (Err(FlusherEnd::Flush(FlushRefusal::Device)), Order::NoDevice) => {}
+        (Ok(()), Order::NoDevice) => gates.misses(),
+        (Ok(()), _) => {}
+        (Err(_), _) => gates.lacks(),
     }
     receipts
 }
@@ -272,11 +298,14 @@ fn view<D: Disk, M: Mark, R: Wait + Clock>(
     let viewer = Viewer {
         gates: &*gates,
         position: 0,
+        is_fresh: true,
         waits: false,
         seen: &mut seen,
     };
-    if run_viewer(rt, shared, Start::At(0), viewer, gates).is_err() {
-        gates.lacks();
+    match run_viewer(rt, shared, Start::At(0), viewer, gates) {
+        Ok(()) => {}
+        Err(ViewerEnd::Join(_)) => gates.misses(),
+        Err(_) => gates.lacks(),
     }
     seen
 }
@@ -319,7 +348,7 @@ fn record<D: Disk + Send, M: Mark + Send + Sync, R: Threads + Wait + Clock + Syn
     requires { (M.head.width ≡ 1) × (M.head.height ≡ 1) }
 {
     match gates.order {
-        Order::Free | Order::Meeting => join(
+        Order::Free | Order::Meeting | Order::NoDevice => join(
             rt,
             move || -> Vec<Ticket<M>>
                 requires { (M.head.width ≡ 1) × (M.head.height ≡ 1) }
@@ -425,10 +454,16 @@ fn share<D: Disk + Send + Drop, M: Mark + Send + Sync, R: Threads + Wait + Clock
     requires sized { (M.head.width ≡ 1) × (M.head.height ≡ 1) }
 {
     let shared = Shared::<D, M>::new(rt, token, desk);
-    let told = work(rt, alloc, &shared, gates, count, viewers)?;
+    let mut told = work(rt, alloc, &shared, gates, count, viewers)?;
+    if gates.order == Order::NoFlusher {
+        // One behind the other, more than there are seats.
+        for _ in 0..65 {
+            told.seen.push(view(rt, alloc, &shared, gates))?;
+        }
+    }
     let due = match gates.order {
         _ if gates.has_lacked() => None,
-        Order::NoFlusher => Some(0),
+        Order::NoFlusher | Order::NoDevice => Some(0),
         Order::Free | Order::Meeting | Order::HostFirst => Some(count),
     };
     settle(rt, shared.finish(), told, due)
@@ -443,9 +478,14 @@ fn shared_by_workers<R: Threads + Wait + Clock + Abort + Sync>(
     viewers: usize,
 ) -> Result<Option<u64>, Fail> {
     let gates = Gates::new(rt, order);
-    let desk = new_desk(alloc, MemoryDisk::new(alloc))?;
+    let switch = Switch::new(alloc)?;
+    let disk = FailingDisk::new(MemoryDisk::new(alloc), switch.clone()?);
+    let desk = new_desk(alloc, disk)?;
+    if order == Order::NoDevice {
+        switch.fail_after(0);
+    }
     let token = Token::new(alloc)?;
-    share::<MemoryDisk, Brand, R>(rt, alloc, token, desk, &gates, count, viewers)?;
+    share::<FailingDisk<MemoryDisk>, Brand, R>(rt, alloc, token, desk, &gates, count, viewers)?;
     assert!(rt; gates.were_passed());
     if gates.has_lacked() {
         return Ok(None);
@@ -476,5 +516,11 @@ fn a_viewer_is_told_the_end_behind_the_last_commit(rt: HostRuntime) -> Result<()
 fn a_backlog_that_stays_ends_the_host(rt: HostRuntime) -> Result<(), Fail> {
     let accepted = shared_by_workers(&rt, rt.alloc(), Order::NoFlusher, 1_030, 1)?;
     assert!(&rt; accepted.unwrap_or(1_024) == 1_024);
+    Ok(())
+}
+
+#[test]
+fn a_device_that_fails_ends_host_and_flusher(rt: HostRuntime) -> Result<(), Fail> {
+    shared_by_workers(&rt, rt.alloc(), Order::NoDevice, 2_000, 0)?;
     Ok(())
 }

@@ -89,8 +89,8 @@ fn pieces_come(rt: &HostRuntime, hosts: TcpListener, place: Place) -> Result<(),
     let mut piece = Vec::from_slice(alloc, &BLUE)?;
     piece.push(9)?;
     host.say(&piece)?;
-    one.say(&CHANGES)?;
-    one.hear_at_last(alloc, &BLUE, &CHANGES)
+    // The green one was the last, so that nothing comes between.
+    one.talk(alloc, &CHANGES, &BLUE)
 }
 
 #[test]
