@@ -31,13 +31,13 @@ pub fn append_come(bytes: &mut Vec<u8>, come: &[u8]) -> Result<(), NoMemory>
     ensures room { OnOk result (vec_capacity bytes.new
         ≤ max (vec_capacity bytes.old) (room_for (length bytes.old.items + length come.now))) }
 {
-    let start = bytes.len();
-    let twice = start.saturating_add(come.len()).saturating_mul(2);
+    let before = bytes.len();
+    let twice = before.saturating_add(come.len()).saturating_mul(2);
     let most = bytes.capacity().max(twice.saturating_add(8));
     bytes.extend_from_slice(come)?;
     // The library doubles the room, but doesn't promise to take no more.
     if bytes.capacity() > most {
-        bytes.truncate(start);
+        bytes.truncate(before);
         return Err(AllocError);
     }
     Ok(())
