@@ -21,8 +21,8 @@ area_bytes s = bytes_high_first 2 s.x ++ (bytes_high_first 2 s.y ++ (bytes_high_
 abbrev pub part_bytes : Format → Subrectangle → List ℕ
 part_bytes f s = pixel_of f s.color ++ area_bytes s
 
--- Data as they are written: how many subrectangles follow, the pixel of the background, and the subrectangles.
--- In each pixel the bits that belong to no channel are 0.
+-- Data as they are written: how many subrectangles follow, the pixel of the background, and the
+-- subrectangles. In each pixel the bits that belong to no channel are 0.
 abbrev pub data_bytes : Format → Content → List ℕ
 data_bytes f content = bytes_high_first 4 (length content.subrectangles)
     ++ (pixel_of f content.background ++ flat_map (part_bytes f) content.subrectangles)

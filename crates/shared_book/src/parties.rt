@@ -63,9 +63,9 @@ pub enum ViewerWish {
     Stop,
 }
 
-/// What takes a viewer's receipts. Each is of the sink's size and begins where the sink stands: behind
-/// the receipt before, where its seat is, or where it asked to go on. It has a start exactly in these
-/// two cases. An ending says that the sink has all.
+/// What takes a viewer's receipts. Each is of the sink's size and begins where the sink stands:
+/// where its seat is, behind the receipt before, or where it asked to go on. It has a start in the
+/// first and the last of these cases, and in no other. An ending says that the sink has all.
 pub trait ViewerSink<T, E>: Drop {
     ghost use Rattle.std.specs.Prelude.{ℕ, Bool};
     ghost use Rattle.replay.specs.declared.slice.Slice.{Slice};
@@ -111,8 +111,8 @@ pub trait ViewerSink<T, E>: Drop {
         ensures shown { fresh self.new ≡ false };
 
     /// Takes word that it was handed all: host and flusher have ended, and it stands behind the last
-    /// committed message, with a screen. It is told so at each `Wait` there, which doesn't sleep: a sink that stays
-    /// waits for its viewer by itself.
+    /// committed message, with a screen. It is told so at each `Wait` there, which doesn't sleep: a
+    /// sink that stays waits for its viewer by itself.
     fn end(&mut self, ending: E)
         requires all { count_of ending ≡ position self.old }
         requires shown { fresh self.old ≡ false }

@@ -181,8 +181,8 @@ impl Session {
     }
 
     /// Appends the handshake's answers that are due, each byte once, and then the update that is
-    /// due, in the encoding that the viewer asked for, whose places are taken as clean. Want of memory changes nothing. After a fault it still
-    /// gives what was due.
+    /// due, in the encoding that the viewer asked for or in Raw, whose places are taken as clean.
+    /// Want of memory changes nothing. After a fault it still gives what was due.
     pub fn answer(&mut self, out: &mut Vec<u8>) -> Result<(), NoMemory>
         ensures due { OnOk result (IsDue self.old.view
             → Appends (Answers self.old.view self.new.view)
