@@ -34,8 +34,8 @@ enum Order {
     HostFirst,
     /// The flusher has ended before the host begins.
     NoFlusher,
-    /// The device fails at the first block.
-    NoDevice,
+    /// The device fails once, after so many calls.
+    FailsAfter(u64),
 }
 
 /// Holds workers. Who is held longer than 10,000 turns goes on, and is counted. It is also told
@@ -252,7 +252,7 @@ fn host<D: Disk, M: Mark, R: Wait + Clock>(
     let end = run_host(rt, shared, source, gates);
     let due = match gates.order {
         Order::NoFlusher => Err(HostRefusal::Backlog),
-        Order::NoDevice => Err(HostRefusal::Broken),
+        Order::FailsAfter(_) => Err(HostRefusal::Broken),
         Order::Free | Order::Meeting | Order::HostFirst => Ok(()),
     };
     if end == Err(HostRefusal::NoMemory) {
@@ -275,8 +275,8 @@ fn flush<D: Disk, M: Mark, R: Wait + Clock>(
         receipts: &mut receipts,
     };
     match (run_flusher(rt, shared, kept, gates), gates.order) {
-        (Err(FlusherEnd::Flush(FlushRefusal::Device)), Order::NoDevice) => {}
-        (Ok(()), Order::NoDevice) => gates.misses(),
+        (Err(FlusherEnd::Flush(FlushRefusal::Device)), Order::FailsAfter(_)) => {}
+        (Ok(()), Order::FailsAfter(_)) => gates.misses(),
         (Ok(()), _) => {}
         (Err(_), _) => gates.lacks(),
     }
@@ -348,7 +348,7 @@ fn record<D: Disk + Send, M: Mark + Send + Sync, R: Threads + Wait + Clock + Syn
     requires { (M.head.width ≡ 1) × (M.head.height ≡ 1) }
 {
     match gates.order {
-        Order::Free | Order::Meeting | Order::NoDevice => join(
+        Order::Free | Order::Meeting | Order::FailsAfter(_) => join(
             rt,
             move || -> Vec<Ticket<M>>
                 requires { (M.head.width ≡ 1) × (M.head.height ≡ 1) }
@@ -463,7 +463,9 @@ fn share<D: Disk + Send + Drop, M: Mark + Send + Sync, R: Threads + Wait + Clock
     }
     let due = match gates.order {
         _ if gates.has_lacked() => None,
-        Order::NoFlusher | Order::NoDevice => Some(0),
+        Order::NoFlusher => Some(0),
+        // A block is committed by four calls.
+        Order::FailsAfter(calls) => (calls < 4).then_some(0),
         Order::Free | Order::Meeting | Order::HostFirst => Some(count),
     };
     settle(rt, shared.finish(), told, due)
@@ -481,8 +483,8 @@ fn shared_by_workers<R: Threads + Wait + Clock + Abort + Sync>(
     let switch = Switch::new(alloc)?;
     let disk = FailingDisk::new(MemoryDisk::new(alloc), switch.clone()?);
     let desk = new_desk(alloc, disk)?;
-    if order == Order::NoDevice {
-        switch.fail_after(0);
+    if let Order::FailsAfter(calls) = order {
+        switch.fail_after(calls);
     }
     let token = Token::new(alloc)?;
     share::<FailingDisk<MemoryDisk>, Brand, R>(rt, alloc, token, desk, &gates, count, viewers)?;
@@ -519,8 +521,12 @@ fn a_backlog_that_stays_ends_the_host(rt: HostRuntime) -> Result<(), Fail> {
     Ok(())
 }
 
+// Each call of the first three blocks in turn. The host has more messages than three blocks and those
+// that may wait.
 #[test]
 fn a_device_that_fails_ends_host_and_flusher(rt: HostRuntime) -> Result<(), Fail> {
-    shared_by_workers(&rt, rt.alloc(), Order::NoDevice, 2_000, 0)?;
+    for calls in 0..12 {
+        shared_by_workers(&rt, rt.alloc(), Order::FailsAfter(calls), 2_000, 0)?;
+    }
     Ok(())
 }
