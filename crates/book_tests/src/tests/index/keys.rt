@@ -1,9 +1,9 @@
 //! Key screens: a recording written out by hand from the format.
 
-use super::{disk_of, fault_of, fault_with, opened, stands};
+use super::{disk_of, opened, stands};
 use disk::Disk;
-use key_index::{IndexFault, Indexed};
-use std::alloc::{AllocError, Global};
+use key_index::Indexed;
+use std::alloc::Global;
 use std::test::Fail;
 
 /// Three places in a row, a key interval of 2, the name 'r', and two blocks. The first one paints
@@ -36,65 +36,5 @@ fn a_recording_with_a_key_screen_is_opened(rt: HostRuntime) -> Result<(), Fail> 
     assert!(rt; key_of(alloc, &mut index, 0)?.is_none());
     let key = key_of(alloc, &mut index, 1)?.ok_or("no key")?;
     assert!(rt; key.as_slice() == &KEYED[106..134]);
-    Ok(())
-}
-
-// Its second place made green; where none is due, and with an interval of 1; another fourth byte of
-// a place; called a message, or of no kind; its time below the last one's, as the next one's, and
-// above that; one byte short; and a message called a key screen.
-#[test]
-fn key_screens_are_judged_in_their_turn(rt: HostRuntime) -> Result<(), Fail> {
-    let alloc = rt.alloc();
-    let changes: [(&[(usize, u8)], Option<IndexFault>); 12] = [
-        (&[(127, 255), (128, 0)], Some(IndexFault::KeyDiffers(1))),
-        (&[(13, 3)], Some(IndexFault::KeyDiffers(1))),
-        (&[(13, 1)], None),
-        (&[(125, 9)], None),
-        (&[(97, 0)], Some(IndexFault::KeyDiffers(1))),
-        (&[(97, 2)], Some(IndexFault::BadEntry(1))),
-        (&[(101, 6)], Some(IndexFault::TimesFall(1))),
-        (&[(101, 9)], None),
-        (&[(101, 10)], Some(IndexFault::TimesFall(1))),
-        (&[(105, 0x1b)], Some(IndexFault::BadMessage(1))),
-        (&[(24, 1)], Some(IndexFault::KeyDiffers(0))),
-        (&[(134, 1)], Some(IndexFault::BadEntry(1))),
-    ];
-    for (places, fault) in changes {
-        assert!(rt; fault_with(alloc, &KEYED, places)? == fault, "{places:?}");
-    }
-    Ok(())
-}
-
-// The file with a key screen in another encoding: as the numbers that change with it, and its data.
-fn with_key(
-    alloc: Global,
-    encoding: u8,
-    lengths: (u8, u8),
-    data: &[u8],
-) -> Result<Vec<u8>, AllocError> {
-    let mut file = Vec::from_slice(alloc, &KEYED[..122])?;
-    file[94] = lengths.0;
-    file[105] = lengths.1;
-    file[121] = encoding;
-    file.extend_from_slice(data)?;
-    file.extend_from_slice(&KEYED[134..])?;
-    Ok(file)
-}
-
-// In Hextile, one tile of raw places, whose last one is another in the second. In RRE a red
-// background, and a green place on it.
-#[test]
-fn key_screens_are_in_raw_or_hextile(rt: HostRuntime) -> Result<(), Fail> {
-    let alloc = rt.alloc();
-    let hextile = b"\x01\0\0\xff\0\0\0\xff\0\0\xff\0\0".as_slice();
-    let wrong = b"\x01\0\0\xff\0\0\0\xff\0\0\xff\x01\0".as_slice();
-    let rre = b"\0\0\0\x01\0\0\xff\0\0\xff\0\0\0\x02\0\0\0\x01\0\x01".as_slice();
-    let differs = Some(IndexFault::KeyDiffers(1));
-    let file = with_key(alloc, 5, (0x43, 0x1d), hextile)?;
-    assert!(rt; fault_of(alloc, &file)?.is_none());
-    let file = with_key(alloc, 5, (0x43, 0x1d), wrong)?;
-    assert!(rt; fault_of(alloc, &file)? == differs);
-    let file = with_key(alloc, 2, (0x4a, 0x24), rre)?;
-    assert!(rt; fault_of(alloc, &file)? == differs);
     Ok(())
 }

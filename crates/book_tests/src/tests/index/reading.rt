@@ -3,8 +3,7 @@
 
 ghost use Rattle.std.specs.Prelude.{◌+◌, ◌<◌, ◌^◌, false, [], length};
 
-use super::damage::TWO_KEYS;
-use super::{BELLS_AND_RED, FIRST, SECOND, are_told, disk_of, opened, shows_blocks};
+use super::{BELLS_AND_RED, FIRST, SECOND, TWO_KEYS, are_told, disk_of, opened, shows_blocks};
 use disk::{Disk, DiskFault};
 use gated_journal::ReadFault;
 use key_index::Indexed;

@@ -1,10 +1,11 @@
 //! Workers in threads of their own.
 
-ghost use Rattle.std.specs.Prelude.{◌≡◌};
+ghost use Rattle.std.specs.Prelude.{◌≡◌, IfSome};
 ghost use Rattle.flusher_core.specs.State.{accepted_count};
 
-use super::{UPDATE, confirm, find, new_desk};
-use broadcast::{Desk, Start};
+use super::{UPDATE, confirm, find};
+use crate::desk_of_one_place;
+use broadcast::{Desk, NextRefusal, Start};
 use disk::{Disk, FailingDisk, MemoryDisk, Switch};
 use flusher_core::{FlushRefusal, HostRefusal};
 use rfb_wire::HostMessage;
@@ -49,6 +50,10 @@ struct Gates<'a, R: Clock> {
     waiting: AtomicU64,
     missed: AtomicU64,
     lacked: AtomicBool,
+    // Whom the device that failed has ended: a viewer, or the flusher and by it the host.
+    viewer_failed: AtomicBool,
+    flusher_failed: AtomicBool,
+    host_failed: AtomicBool,
 }
 
 impl<'a, R: Clock> Gates<'a, R> {
@@ -61,6 +66,9 @@ impl<'a, R: Clock> Gates<'a, R> {
             waiting: AtomicU64::new(0),
             missed: AtomicU64::new(0),
             lacked: AtomicBool::new(false),
+            viewer_failed: AtomicBool::new(false),
+            flusher_failed: AtomicBool::new(false),
+            host_failed: AtomicBool::new(false),
         }
     }
 
@@ -80,6 +88,13 @@ impl<'a, R: Clock> Gates<'a, R> {
     // it who lacked memory.
     fn were_passed(&self) -> bool {
         self.missed.load(Ordering::SeqCst) == 0 || self.has_lacked()
+    }
+
+    // Whether a device that failed once has ended either a viewer, or the flusher and the host.
+    fn one_has_failed(&self) -> bool {
+        let flusher = self.flusher_failed.load(Ordering::SeqCst);
+        self.viewer_failed.load(Ordering::SeqCst) != flusher
+            && self.host_failed.load(Ordering::SeqCst) == flusher
     }
 
     fn hold_until(&self, order: Order, count: &AtomicU64, least: u64) {
@@ -250,15 +265,14 @@ fn host<D: Disk, M: Mark, R: Wait + Clock>(
         tickets: &mut tickets,
     };
     let end = run_host(rt, shared, source, gates);
-    let due = match gates.order {
-        Order::NoFlusher => Err(HostRefusal::Backlog),
-        Order::FailsAfter(_) => Err(HostRefusal::Broken),
-        Order::Free | Order::Meeting | Order::HostFirst => Ok(()),
-    };
-    if end == Err(HostRefusal::NoMemory) {
-        gates.lacks();
-    } else if end != due {
-        gates.misses();
+    match (end, gates.order) {
+        (Err(HostRefusal::NoMemory), _) => gates.lacks(),
+        (Err(HostRefusal::Broken), Order::FailsAfter(_)) => {
+            gates.host_failed.store(true, Ordering::SeqCst);
+        }
+        (Err(HostRefusal::Backlog), Order::NoFlusher) => {}
+        (Ok(()), order) if order != Order::NoFlusher => {}
+        _ => gates.misses(),
     }
     tickets
 }
@@ -275,8 +289,9 @@ fn flush<D: Disk, M: Mark, R: Wait + Clock>(
         receipts: &mut receipts,
     };
     match (run_flusher(rt, shared, kept, gates), gates.order) {
-        (Err(FlusherEnd::Flush(FlushRefusal::Device)), Order::FailsAfter(_)) => {}
-        (Ok(()), Order::FailsAfter(_)) => gates.misses(),
+        (Err(FlusherEnd::Flush(FlushRefusal::Device)), Order::FailsAfter(_)) => {
+            gates.flusher_failed.store(true, Ordering::SeqCst);
+        }
         (Ok(()), _) => {}
         (Err(_), _) => gates.lacks(),
     }
@@ -302,10 +317,16 @@ fn view<D: Disk, M: Mark, R: Wait + Clock>(
         waits: false,
         seen: &mut seen,
     };
-    match run_viewer(rt, shared, Start::At(0), viewer, gates) {
-        Ok(()) => {}
-        Err(ViewerEnd::Join(_)) => gates.misses(),
-        Err(_) => gates.lacks(),
+    match (
+        run_viewer(rt, shared, Start::At(0), viewer, gates),
+        gates.order,
+    ) {
+        (Ok(()), _) => {}
+        (Err(ViewerEnd::Join(_)), _) => gates.misses(),
+        (Err(ViewerEnd::Next(NextRefusal::Device)), Order::FailsAfter(_)) => {
+            gates.viewer_failed.store(true, Ordering::SeqCst);
+        }
+        (Err(_), _) => gates.lacks(),
     }
     seen
 }
@@ -327,14 +348,18 @@ fn view_all<D: Disk + Send, M: Mark + Send + Sync, R: Threads + Wait + Clock + S
 ) -> Result<Vec<Seen<M>>, NoMemory>
     requires { (M.head.width ≡ 1) × (M.head.height ≡ 1) }
 {
-    map_indices(
+    let seen = map_indices(
         rt,
         alloc,
         viewers,
         &|_| -> Seen<M>
             requires { (M.head.width ≡ 1) × (M.head.height ≡ 1) }
         { view(rt, alloc, shared, gates) },
-    )
+    );
+    if seen.is_err() {
+        gates.lacks();
+    }
+    seen
 }
 
 // A host of so many updates and a flusher, each in a thread of its own where the order allows.
@@ -454,7 +479,9 @@ fn share<D: Disk + Send + Drop, M: Mark + Send + Sync, R: Threads + Wait + Clock
     requires sized { (M.head.width ≡ 1) × (M.head.height ≡ 1) }
 {
     let shared = Shared::<D, M>::new(rt, token, desk);
-    let mut told = work(rt, alloc, &shared, gates, count, viewers)?;
+    let Ok(mut told) = work(rt, alloc, &shared, gates, count, viewers) else {
+        return Ok(());
+    };
     if gates.order == Order::NoFlusher {
         // One behind the other, more than there are seats.
         for _ in 0..65 {
@@ -471,6 +498,19 @@ fn share<D: Disk + Send + Drop, M: Mark + Send + Sync, R: Threads + Wait + Clock
     settle(rt, shared.finish(), told, due)
 }
 
+// What workers begin with; none where memory was wanting.
+fn begun(alloc: Global, order: Order) -> Option<(Token, Desk<FailingDisk<MemoryDisk>>)>
+    ensures { IfSome result (λ b. (b.1.head.width ≡ 1) × (b.1.head.height ≡ 1)) }
+{
+    let switch = Switch::new(alloc).ok()?;
+    let disk = FailingDisk::new(MemoryDisk::new(alloc), switch.clone().ok()?);
+    let desk = desk_of_one_place(alloc, disk)?;
+    if let Order::FailsAfter(calls) = order {
+        switch.fail_after(calls);
+    }
+    Some((Token::new(alloc).ok()?, desk))
+}
+
 // Workers that come in this order. How many messages were accepted; none where memory was wanting.
 fn shared_by_workers<R: Threads + Wait + Clock + Abort + Sync>(
     rt: &R,
@@ -480,17 +520,16 @@ fn shared_by_workers<R: Threads + Wait + Clock + Abort + Sync>(
     viewers: usize,
 ) -> Result<Option<u64>, Fail> {
     let gates = Gates::new(rt, order);
-    let switch = Switch::new(alloc)?;
-    let disk = FailingDisk::new(MemoryDisk::new(alloc), switch.clone()?);
-    let desk = new_desk(alloc, disk)?;
-    if let Order::FailsAfter(calls) = order {
-        switch.fail_after(calls);
-    }
-    let token = Token::new(alloc)?;
+    let Some((token, desk)) = begun(alloc, order) else {
+        return Ok(None);
+    };
     share::<FailingDisk<MemoryDisk>, Brand, R>(rt, alloc, token, desk, &gates, count, viewers)?;
     assert!(rt; gates.were_passed());
     if gates.has_lacked() {
         return Ok(None);
+    }
+    if let Order::FailsAfter(_) = order {
+        assert!(rt; gates.one_has_failed());
     }
     Ok(Some(gates.accepted.load(Ordering::SeqCst)))
 }
@@ -521,12 +560,20 @@ fn a_backlog_that_stays_ends_the_host(rt: HostRuntime) -> Result<(), Fail> {
     Ok(())
 }
 
-// Each call of the first three blocks in turn. The host has more messages than three blocks and those
-// that may wait.
+// Each of the first calls in turn, as the flusher makes them alone and beside a viewer that reads. The
+// host has more messages than three blocks and those that may wait.
 #[test]
-fn a_device_that_fails_ends_host_and_flusher(rt: HostRuntime) -> Result<(), Fail> {
-    for calls in 0..12 {
-        shared_by_workers(&rt, rt.alloc(), Order::FailsAfter(calls), 2_000, 0)?;
+fn a_device_that_fails_ends_its_callers(rt: HostRuntime) -> Result<(), Fail> {
+    for viewers in [0, 1] {
+        for calls in 0..12 {
+            shared_by_workers(&rt, rt.alloc(), Order::FailsAfter(calls), 2_000, viewers)?;
+        }
     }
+    Ok(())
+}
+
+#[test]
+fn workers_share_while_memory_lasts(rt: HostRuntime) -> Result<(), Fail> {
+    shared_by_workers(&rt, rt.alloc(), Order::Free, 3, 1)?;
     Ok(())
 }
