@@ -1,15 +1,14 @@
 -- What one reads and paints of an update that was written for one.
-use Rattle.std.proofs.Common.{◌≡◌, ℕ, ◌+◌, ◌-◌, ◌*◌, ◌/◌, ◌%◌, ◌<◌, List, [], ◌∷◌, ◌++◌, length, take, refl, sym, ap, ◌∙◌, arith, true, inr, length-append}
+use Rattle.std.proofs.Common.{◌≡◌, ℕ, ◌+◌, ◌-◌, ◌*◌, ◌/◌, ◌%◌, ◌<◌, List, [], ◌∷◌, ◌++◌, length, take, refl, sym, ap, subst, ◌∙◌, arith, true, append_assoc, length-append}
 use Rattle.std.specs.Prelude.{Some}
-use Rattle.std.proofs.lemmas.List.{append-nil, take_all}
+use Rattle.std.proofs.lemmas.List.{append-nil, take_at}
 use Rattle.std.proofs.lemmas.Bool.{le-leb, lt-ltb}
 use Rattle.pixel_format.specs.declared.Color.{Color}
 use Rattle.pixel_format.specs.Format.{Format}
-use Rattle.terms.specs.Reading.{Got}
+use Rattle.terms.specs.Reading.{Reading, Got, Extends}
 use Rattle.pixel_format.specs.Canvas.{Picture, rows_of}
 use Rattle.terms.proofs.Readings.{field-whole}
 use Rattle.terms.specs.Number.{u32_at}
-use Rattle.terms.specs.Appending.{Appends}
 use Rattle.terms.specs.declared.area.Area.{Area}
 use Rattle.terms.specs.declared.wire_fault.WireFault.{WireFault}
 use Rattle.rre.proofs.Content as rre_content
@@ -18,23 +17,30 @@ use Rattle.rect_data.specs.declared.encoding.Encoding.{Encoding}
 use Rattle.rect_data.specs.declared.encoding.Encoding.TheVariants as encodings
 use Rattle.rect_data.specs.Data.{LiesWithin, number_of}
 use Rattle.rect_data.specs.Grammar.{encoding_of, is_inside, data_at}
+use Rattle.rect_data.proofs.Local.{data_local}
 use Rattle.rect_data.proofs.Steps.{pixels_whole}
 use Rattle.rect_codec.specs.Picture.{is_in, raw_picture, rre_shown, hextile_shown, picture_of, painted_data}
 use Rattle.client_wire.specs.Written.{rectangle_head}
-use Rattle.rect_codec.specs.Written.{Shows, update_head, IsUpdate, IsUpdateFor}
+use Rattle.rect_codec.specs.Written.{Shows, IsUpdate}
 use Rattle.rect_codec.specs.Update.{area_of, rectangle_at, rectangles_at, update_at, HasColors, DrawsColors}
 
 -- the data of a rectangle that was written are read whole
-pub data_read : (f : Format) (width height : ℕ) (area : Area) (e : Encoding) (body : List ℕ) (colors : List Color) → Shows e f area.w area.h colors body
+pub data_whole : (f : Format) (width height : ℕ) (area : Area) (e : Encoding) (body : List ℕ) (colors : List Color) → Shows e f area.w area.h colors body
     → data_at f width height e area body ≡ Got tt []
 unfolding data_at
-data_read f width height area encodings.Raw body colors shows =
+data_whole f width height area encodings.Raw body colors shows =
     ap (data_at f width height encodings.Raw area) (sym (append-nil body)) ∙ pixels_whole f area body [] (omega (arith, shows.size))
-data_read f width height area encodings.CopyRect body colors shows = absurd shows
-data_read f width height area encodings.Rre body colors shows =
+data_whole f width height area encodings.CopyRect body colors shows = absurd shows
+data_whole f width height area encodings.Rre body colors shows =
     rw (rre_content.data_whole f area.w area.h body shows.content shows.is) refl
-data_read f width height area encodings.Hextile body colors shows =
+data_whole f width height area encodings.Hextile body colors shows =
     rw (hextile_content.data_whole f area.w area.h body shows.tiles shows.is) refl
+
+-- whatever stands behind them
+pub data_read : (f : Format) (width height : ℕ) (area : Area) (e : Encoding) (body rest : List ℕ) → data_at f width height e area body ≡ Got tt []
+    → data_at f width height e area (body ++ rest) ≡ Got tt rest
+data_read f width height area e body rest whole =
+    subst (λ (r : Reading Unit WireFault). Extends r rest (data_at f width height e area (body ++ rest))) whole (data_local f width height e area body rest)
 
 -- and show what was given
 pub data_shown : (f : Format) (area : Area) (e : Encoding) (body : List ℕ) (colors : List Color) (before : Picture) → Shows e f area.w area.h colors body
@@ -55,7 +61,7 @@ data_shown f area encodings.Hextile body colors before shows x y across down =
     rw (hextile_content.data_whole f area.w area.h body shows.tiles shows.is, column, row) (shows.picture x y across down)
 
 -- the places of an area, and the others
-place_in : (area : Area) (x y : ℕ) → x < area.w → y < area.h → is_in area (area.x + x) (area.y + y) ≡ true
+pub place_in : (area : Area) (x y : ℕ) → x < area.w → y < area.h → is_in area (area.x + x) (area.y + y) ≡ true
 place_in area x y across down = rw (
   le-leb area.x (area.x + x) (omega arith),
   lt-ltb (area.x + x) (area.x + area.w) (omega arith),
@@ -73,7 +79,7 @@ has_colors f area e body colors before shows = record {
 
 -- ---- the head
 
-u16_back : (n : ℕ) → 256 * (n / 256) + n % 256 ≡ n
+pub u16_back : (n : ℕ) → 256 * (n / 256) + n % 256 ≡ n
 u16_back n = omega arith
 
 area_back : (a : Area) (number : ℕ) → area_of (rectangle_head a number) ≡ a
@@ -82,22 +88,24 @@ area_back a number = rw (u16_back a.x, u16_back a.y, u16_back a.w, u16_back a.h)
 number_back : (a : Area) (number : ℕ) → u32_at (rectangle_head a number) 8 ≡ number
 number_back a number = omega arith
 
-rectangle_read : (f : Format) (width height : ℕ) (area : Area) (number : ℕ) (e : Encoding) (body : List ℕ) → is_inside width height area ≡ true → encoding_of number ≡ Some e
-    → data_at f width height e area body ≡ Got tt []
-    → rectangle_at f width height (rectangle_head area number ++ body) ≡ Got (record { area = area; encoding = e; content = body }) []
+pub rectangle_read : (f : Format) (width height : ℕ) (area : Area) (number : ℕ) (e : Encoding) (body rest : List ℕ) → is_inside width height area ≡ true → encoding_of number ≡ Some e
+    → data_at f width height e area (body ++ rest) ≡ Got tt rest
+    → rectangle_at f width height ((rectangle_head area number ++ body) ++ rest) ≡ Got (record { area = area; encoding = e; content = body }) rest
 unfolding rectangle_at
-rectangle_read f width height area number e body inside is whole =
-    let head = field-whole {E = WireFault} 12 (rectangle_head area number) body refl in
-    let kept : take (length body - 0) body ≡ body = take_all (length body - 0) body (omega arith) in
-    rw (head, area_back area number, inside, number_back area number, is, whole, kept) refl
+rectangle_read f width height area number e body rest inside is whole =
+    let head = field-whole {E = WireFault} 12 (rectangle_head area number) (body ++ rest) refl in
+    let kept : take (length (body ++ rest) - length rest) (body ++ rest) ≡ body =
+    take_at body rest (length (body ++ rest) - length rest) (omega (arith, length-append body rest)) in
+    ap (rectangle_at f width height) (append_assoc (rectangle_head area number) body rest)
+    ∙ rw (head, area_back area number, inside, number_back area number, is, whole, kept) refl
 
-encoding_is : (e : Encoding) → encoding_of (number_of e) ≡ Some e
+pub encoding_is : (e : Encoding) → encoding_of (number_of e) ≡ Some e
 encoding_is encodings.Raw = refl
 encoding_is encodings.CopyRect = refl
 encoding_is encodings.Rre = refl
 encoding_is encodings.Hextile = refl
 
-inside_is : (width height : ℕ) (area : Area) → LiesWithin width height area → is_inside width height area ≡ true
+pub inside_is : (width height : ℕ) (area : Area) → LiesWithin width height area → is_inside width height area ≡ true
 unfolding is_inside
 inside_is width height area is = rw (le-leb (area.x + area.w) width is.columns, le-leb (area.y + area.h) height is.rows) refl
 
@@ -108,7 +116,8 @@ unfolding update_at rectangles_at
 update_read f width height area colors e bytes inside u =
     let rest : List ℕ = rectangle_head area (number_of e) ++ u.body in
     let head = field-whole {E = WireFault} 4 (0 ∷ 0 ∷ 0 ∷ 1 ∷ []) rest refl in
-    let one = rectangle_read f width height area (number_of e) e u.body (inside_is width height area inside) (encoding_is e) (data_read f width height area e u.body colors u.shows) in
+    let whole = data_read f width height area e u.body [] (data_whole f width height area e u.body colors u.shows) in
+    let one = ap (rectangle_at f width height) (sym (append-nil rest)) ∙ rectangle_read f width height area (number_of e) e u.body [] (inside_is width height area inside) (encoding_is e) whole in
     ap (update_at f width height) u.bytes_are ∙ rw (head, one) refl
 
 pub draws_colors : (f : Format) (width height : ℕ) (area : Area) (colors : List Color) (e : Encoding) (bytes : List ℕ) → LiesWithin width height area → IsUpdate f area colors e bytes
@@ -119,19 +128,3 @@ draws_colors f width height area colors e bytes inside u = record {
   reads = update_read f width height area colors e bytes inside u;
   paints = λ before. has_colors f area e u.body colors before u.shows;
 }
-
--- an update in Raw is one for who asked for any encoding
-pub raw_for : (f : Format) (area : Area) (colors : List Color) (asked : Encoding) (old new : List ℕ) → Appends (IsUpdate f area colors encodings.Raw) old new
-    → Appends (IsUpdateFor f area colors asked) old new
-raw_for f area colors asked old new a =
-    let u = a.are in
-    record {
-      bytes = a.bytes;
-      are = record {
-        encoding = encodings.Raw;
-        encoding_is = inr refl;
-        is = u;
-        short = omega (arith, ap length u.bytes_are, length-append (update_head area encodings.Raw) u.body, u.shows.size);
-      };
-      is = a.is;
-    }

@@ -1,3 +1,4 @@
 pub mod PixelsPut
 pub mod Drawing
 pub mod PixelsJoined
+pub mod PartsDrawn

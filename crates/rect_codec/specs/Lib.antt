@@ -4,3 +4,4 @@ pub mod Picture
 pub mod Room
 pub mod Written
 pub mod Update
+pub mod Parts

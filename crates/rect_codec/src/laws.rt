@@ -1,11 +1,13 @@
-//! A law of updates: the contract of a function that does nothing.
+//! Laws of updates: the contracts of functions that do nothing.
 
-ghost use Rattle.std.specs.Prelude.{ℕ, List};
+ghost use Rattle.std.specs.Prelude.{ℕ, ◌<◌, ◌^◌, All, List, length};
 ghost use Rattle.pixel_format.specs.declared.Color.{Color};
 ghost use Rattle.pixel_format.specs.Format.{Format};
 ghost use Rattle.terms.specs.declared.area.Area.{Area};
 ghost use Rattle.rect_data.specs.Data.{LiesWithin};
 ghost use Rattle.rect_data.specs.declared.encoding.Encoding.{Encoding};
+ghost use Rattle.rect_codec.specs.declared.parts.Part.{Part};
+ghost use Rattle.rect_codec.specs.Parts.{AreParts, PartLiesWithin, DrawsParts};
 ghost use Rattle.rect_codec.specs.Update.{DrawsColors};
 ghost use Rattle.rect_codec.specs.Written.{IsUpdateFor};
 
@@ -16,4 +18,14 @@ pub fn written_update_is_read()
     ensures { (format : Format) → (width height : ℕ) → (area : Area) → (colors : List Color)
         → (asked : Encoding) → (bytes : List ℕ) → IsUpdateFor format area colors asked bytes
         → LiesWithin width height area → DrawsColors format width height area colors bytes }
+{}
+
+/// What `write_parts` appends is read whole, in its format and on any screen that holds the areas
+/// and what is copied, as a rectangle for each part, in their order. Painted over any picture, a
+/// rectangle of colours gives the places of its area those colours, and a copy gives them what that
+/// picture has at the places that are copied; both leave the other places as they were.
+pub fn written_parts_are_read()
+    ensures { (format : Format) → (width height : ℕ) → (parts : List Part) → (bytes : List ℕ)
+        → AreParts format parts bytes → length parts < 2 ^ 16
+        → All (PartLiesWithin width height) parts → DrawsParts format width height parts bytes }
 {}

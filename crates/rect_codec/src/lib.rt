@@ -1,12 +1,14 @@
-//! Framebuffer updates as they are written: one rectangle, in an encoding that the viewer takes
-//! (RFC 6143, sections 7.6.1 and 7.7).
+//! Framebuffer updates as they are written: rectangles in encodings that the viewer takes (RFC 6143,
+//! sections 7.6.1 and 7.7).
 #![tactic(auto)]
 
 mod encoding;
 mod laws;
+mod parts;
 mod pixels;
 mod update;
 
 pub use encoding::pick;
-pub use laws::written_update_is_read;
+pub use laws::{written_parts_are_read, written_update_is_read};
+pub use parts::{Part, write_parts};
 pub use update::write_update;

@@ -2,10 +2,10 @@ use Rattle.std.proofs.Common.{◌≡◌, take, subst, ap, sym, refl, ◌∙◌, 
 use Rattle.std.proofs.lemmas.List.{take_at, take_all}
 use Rattle.terms.specs.Appending.{Appends}
 use Rattle.rect_data.specs.declared.encoding.Encoding.TheVariants as encodings
-use Rattle.rect_codec.specs.Written.{IsUpdate}
-use Rattle.rect_codec.proofs.Drawing.{raw_for}
-use Rattle.rect_codec.proofs.update.write_update.Goals as goal
-use Rattle.rect_codec.proofs.update.write_update.Goals.{then-ne+in_ok-whole+else-whole, else-ne, else-whole-via-then-whole+else-len-kept, else-whole-via-else-whole}
+use Rattle.rect_codec.specs.Parts.{IsRectangle}
+use Rattle.rect_codec.proofs.PartsDrawn.{raw_for}
+use Rattle.rect_codec.proofs.update.append_colors.Goals as goal
+use Rattle.rect_codec.proofs.update.append_colors.Goals.{then-ne+in_ok-whole+else-whole, else-ne, else-whole-via-then-whole+else-len-kept, else-whole-via-else-whole}
 
 pub returns-clause-ok : goal.returns-clause-ok
 returns-clause-ok c =
@@ -20,6 +20,6 @@ returns-clause-ok c =
           ])
       | else-ne w ↦ ap (λ v. v.items) w.out-is
     ] in
-    raw_for c.args.format.now c.args.area c.args.colors.now c.args.encoding old c.append_update-2.new.out.items
-    (subst (λ z. Appends (IsUpdate c.args.format.now c.args.area c.args.colors.now encodings.Raw) z c.append_update-2.new.out.items) kept
+    raw_for c.args.format.now c.args.area c.args.colors.now c.args.encoding old c.append_rectangle-2.new.out.items
+    (subst (λ z. Appends (IsRectangle c.args.format.now c.args.area c.args.colors.now encodings.Raw) z c.append_rectangle-2.new.out.items) kept
     (c.in_ok-whole-2.ensures.ok (c.in_ok-whole-2.ensures.raw refl)))

@@ -1,0 +1,114 @@
+-- What one reads and paints of an update of several parts.
+use Rattle.std.proofs.Common.{◌≡◌, ℕ, ◌+◌, ◌-◌, ◌<◌, ◌^◌, List, [], ◌∷◌, ◌++◌, length, suc, refl, ap, ◌∙◌, arith, inr, length-append}
+use Rattle.std.specs.Prelude.{All}
+use Rattle.std.specs.List.{AllZip}
+use Rattle.pixel_format.specs.declared.Color.{Color}
+use Rattle.pixel_format.specs.Format.{Format}
+use Rattle.pixel_format.specs.Canvas.{Picture}
+use Rattle.terms.specs.Appending.{Appends, AreEach}
+use Rattle.terms.specs.Reading.{Got}
+use Rattle.terms.proofs.Readings.{field-whole}
+use Rattle.terms.specs.declared.area.Area.{Area}
+use Rattle.terms.specs.declared.wire_fault.WireFault.{WireFault}
+use Rattle.client_wire.specs.Written.{rectangle_head}
+use Rattle.rect_data.specs.declared.encoding.Encoding.{Encoding}
+use Rattle.rect_data.specs.declared.encoding.Encoding.TheVariants as encodings
+use Rattle.rect_data.specs.Data.{LiesWithin, number_of}
+use Rattle.rect_data.specs.Grammar.{is_inside, source_of, data_at}
+use Rattle.rect_data.proofs.Steps.{source_inside}
+use Rattle.rect_codec.specs.declared.parts.Part.{Part}
+use Rattle.rect_codec.specs.declared.parts.Part.TheVariants as parts
+use Rattle.rect_codec.specs.Picture.{copied_picture, painted_data}
+use Rattle.rect_codec.specs.Update.{Drawn, rectangle_at, rectangles_at, update_at}
+use Rattle.rect_codec.specs.Parts.{source_bytes, parts_head, IsRectangle, IsRectangleFor, IsPart, AreParts, PartLiesWithin, HasCopied, Draws, DrawsParts}
+use Rattle.rect_codec.proofs.Drawing.{data_whole, data_read, place_in, has_colors, u16_back, rectangle_read, encoding_is, inside_is}
+
+-- a part that is read as a rectangle which paints what it says
+record IsRead (f : Format) (width height : ℕ) (part : Part) (bytes rest : List ℕ) : Type 0 where
+  drawn : Drawn
+  reads : rectangle_at f width height (bytes ++ rest) ≡ Got drawn rest
+  draws : Draws f part drawn
+
+source_back : (area : Area) (x y : ℕ) → source_of area (source_bytes x y) ≡ record { x = x; y = y; w = area.w; h = area.h }
+unfolding source_of
+source_back area x y = rw (u16_back x, u16_back y) refl
+
+has_copied : (f : Format) (area : Area) (x y : ℕ) (before : Picture) → HasCopied area x y before (painted_data f encodings.CopyRect area (source_bytes x y) before)
+unfolding painted_data copied_picture
+has_copied f area x y before = record {
+  here = λ column row across down.
+      let right : area.x + column - area.x ≡ column = omega arith in
+      let below : area.y + row - area.y ≡ row = omega arith in
+      rw (place_in area column row across down, source_back area x y, right, below) refl;
+  elsewhere = λ column row away. rw away refl;
+}
+
+copy_whole : (f : Format) (width height : ℕ) (area : Area) (x y : ℕ) (rest : List ℕ) → LiesWithin width height (record { x = x; y = y; w = area.w; h = area.h })
+    → data_at f width height encodings.CopyRect area (source_bytes x y ++ rest) ≡ Got tt rest
+unfolding data_at
+copy_whole f width height area x y rest inside =
+    source_inside width height area (source_bytes x y) rest refl (ap (is_inside width height) (source_back area x y) ∙ inside_is width height _ inside)
+
+part_read : (f : Format) (width height : ℕ) (part : Part) (bytes rest : List ℕ) → PartLiesWithin width height part → IsPart f part bytes → IsRead f width height part bytes rest
+part_read f width height (parts.Copy area x y) bytes rest inside is = record {
+  drawn = record { area = area; encoding = encodings.CopyRect; content = source_bytes x y };
+  reads = ap (λ (b : List ℕ). rectangle_at f width height (b ++ rest)) is
+      ∙ rectangle_read f width height area (number_of encodings.CopyRect) encodings.CopyRect (source_bytes x y) rest (inside_is width height area inside.0) refl
+      (copy_whole f width height area x y rest inside.1);
+  draws = record { area_is = refl; encoding_is = refl; paints = has_copied f area x y };
+}
+part_read f width height (parts.Colors area colors asked) bytes rest inside r =
+    let body = r.is.body in
+    record {
+      drawn = record { area = area; encoding = r.encoding; content = body };
+      reads = ap (λ (b : List ℕ). rectangle_at f width height (b ++ rest)) r.is.bytes_are
+          ∙ rectangle_read f width height area (number_of r.encoding) r.encoding body rest (inside_is width height area inside) (encoding_is r.encoding)
+          (data_read f width height area r.encoding body rest (data_whole f width height area r.encoding body colors.now r.is.shows));
+      draws = record { area_is = refl; encoding_is = r.encoding_is; paints = λ before. has_colors f area r.encoding body colors.now before r.is.shows };
+    }
+
+record AreRead (f : Format) (width height : ℕ) (parts : List Part) (bytes : List ℕ) : Type 0 where
+  drawn : List Drawn
+  reads : rectangles_at f width height (length parts) bytes ≡ Got drawn []
+  each : AllZip (Draws f) parts drawn
+
+parts_read : (f : Format) (width height : ℕ) (parts : List Part) (bytes : List ℕ) → All (PartLiesWithin width height) parts → AreEach (IsPart f) parts bytes
+    → AreRead f width height parts bytes
+unfolding rectangles_at
+parts_read f width height [] bytes inside none = record { drawn = []; reads = ap (Got []) none; each = tt }
+parts_read f width height (part ∷ others) bytes inside are =
+    let first = part_read f width height part are.0 are.1 (inside 0 part (omega arith)) are.3 in
+    let behind = parts_read f width height others are.1 (λ k d less. inside (suc k) d (omega arith)) are.4 in
+    record {
+      drawn = first.drawn ∷ behind.drawn;
+      reads = ap (rectangles_at f width height (suc (length others))) are.2 ∙ rw (first.reads, behind.reads) refl;
+      each = (first.draws, behind.each);
+    }
+
+pub draws_parts : (f : Format) (width height : ℕ) (parts : List Part) (bytes : List ℕ) → length parts < 2 ^ 16 → All (PartLiesWithin width height) parts → AreParts f parts bytes
+    → DrawsParts f width height parts bytes
+unfolding update_at
+draws_parts f width height parts bytes few inside u =
+    let read = parts_read f width height parts u.body inside u.are in
+    let head = field-whole {E = WireFault} 4 (parts_head (length parts)) u.body refl in
+    record {
+      drawn = read.drawn;
+      reads = ap (update_at f width height) u.bytes_are ∙ rw (head, u16_back (length parts), read.reads) refl;
+      each = read.each;
+    }
+
+-- a rectangle in Raw is one for who asked for any encoding
+pub raw_for : (f : Format) (area : Area) (colors : List Color) (asked : Encoding) (old new : List ℕ) → Appends (IsRectangle f area colors encodings.Raw) old new
+    → Appends (IsRectangleFor f area colors asked) old new
+raw_for f area colors asked old new a =
+    let u = a.are in
+    record {
+      bytes = a.bytes;
+      are = record {
+        encoding = encodings.Raw;
+        encoding_is = inr refl;
+        is = u;
+        short = omega (arith, ap length u.bytes_are, length-append (rectangle_head area (number_of encodings.Raw)) u.body, u.shows.size);
+      };
+      is = a.is;
+    }

@@ -1,0 +1,110 @@
+//! Updates of several rectangles.
+
+ghost use Rattle.std.specs.Prelude.{◌≡◌, ◌<◌, ◌^◌, ◌++◌, All, OnOk, OnErr, length, take};
+ghost use Rattle.client_wire.specs.Written.{rectangle_head};
+ghost use Rattle.rect_data.specs.Data.{number_of};
+ghost use Rattle.terms.specs.Appending.{Appends};
+ghost use Rattle.rect_codec.specs.Parts.{CanBeWritten, IsPart, AreParts, source_bytes};
+
+use crate::update::{append_colors, append_head};
+use pixel_format::{Color, PixelFormat};
+use rect_data::Encoding;
+use std::alloc::Global;
+use terms::{Area, NoMemory, whole_or_none};
+
+/// What one rectangle of an update says (RFC 6143, section 7.7).
+#[derive(Clone, Copy)]
+pub enum Part<'a> {
+    /// The places of the area become those of an area as large, whose left top corner is at this
+    /// column and row, as the rectangles before it have left them (section 7.7.2).
+    Copy {
+        area: Area,
+        source_x: u16,
+        source_y: u16,
+    },
+    /// The places of the area get these colours, by rows from the top and each from the left. The
+    /// rectangle is written in this encoding where that makes it shorter than Raw, and else in Raw.
+    Colors {
+        area: Area,
+        colors: &'a [Color],
+        encoding: Encoding,
+    },
+}
+
+// Appends a CopyRect rectangle.
+fn append_copy(area: Area, x: u16, y: u16, out: &mut Vec<u8>) -> Result<(), NoMemory>
+    ensures ok { OnOk result (out.new.items ≡ out.old.items ++ rectangle_head area (number_of Encoding.CopyRect) ++ source_bytes x y) }
+    ensures err { OnErr result (out.new.items ≡ out.old.items) }
+{
+    let start = out.len();
+    append_head(area, Encoding::CopyRect, out)?;
+    let [x, x_low] = x.to_be_bytes();
+    let [y, y_low] = y.to_be_bytes();
+    let appended = out.extend_from_slice(&[x, x_low, y, y_low]);
+    whole_or_none(appended, start, out)
+}
+
+// Appends the rectangle of a part.
+fn append_part(
+    alloc: Global,
+    format: &PixelFormat,
+    part: &Part,
+    out: &mut Vec<u8>,
+) -> Result<(), NoMemory>
+    requires { CanBeWritten format.now part.now }
+    ensures ok { OnOk result (Appends (IsPart format.now part.now) out.old.items out.new.items) }
+    ensures err { OnErr result (out.new.items ≡ out.old.items) }
+{
+    match *part {
+        Part::Copy {
+            area,
+            source_x,
+            source_y,
+        } => append_copy(area, source_x, source_y, out),
+        Part::Colors {
+            area,
+            colors,
+            encoding,
+        } => append_colors(alloc, format, area, colors, encoding, out),
+    }
+}
+
+// Appends an update of these parts, or a part of it.
+fn append_parts(
+    alloc: Global,
+    format: &PixelFormat,
+    parts: &[Part],
+    out: &mut Vec<u8>,
+) -> Result<(), NoMemory>
+    requires count { length parts.now < 2 ^ 16 }
+    requires each { All (CanBeWritten format.now) parts.now }
+    ensures ok { OnOk result (Appends (AreParts format.now parts.now) out.old.items out.new.items) }
+    ensures part { take (length out.old.items) out.new.items ≡ out.old.items }
+{
+    let [count, count_low] = (parts.len() as u16).to_be_bytes();
+    out.extend_from_slice(&[0, 0, count, count_low])?;
+    for part in parts {
+        append_part(alloc, format, part, out)?;
+    }
+    Ok(())
+}
+
+/// Appends a FramebufferUpdate (RFC 6143, section 7.6.1) with a rectangle for each of these parts, in
+/// their order; none gives an update of no rectangles. The colours keep to the format's maxima. A
+/// rectangle of colours never has more bytes than 12 and a pixel for each place. Want of memory leaves
+/// `out` as it was.
+pub fn write_parts(
+    alloc: Global,
+    format: &PixelFormat,
+    parts: &[Part],
+    out: &mut Vec<u8>,
+) -> Result<(), NoMemory>
+    requires count { length parts.now < 2 ^ 16 }
+    requires each { All (CanBeWritten format.now) parts.now }
+    ensures ok { OnOk result (Appends (AreParts format.now parts.now) out.old.items out.new.items) }
+    ensures err { OnErr result (out.new.items ≡ out.old.items) }
+{
+    let start = out.len();
+    let appended = append_parts(alloc, format, parts, out);
+    whole_or_none(appended, start, out)
+}
