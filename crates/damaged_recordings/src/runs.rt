@@ -19,6 +19,7 @@ pub struct Runs {
 }
 
 impl Runs {
+    /// Before the first number.
     pub fn new(alloc: Global) -> Runs {
         Runs {
             runs: Vec::new(alloc),
