@@ -5,7 +5,7 @@ use gated_journal::{Journal, ReadFault};
 use key_index::{IndexFault, Indexed};
 use sha2::{Digest, Sha256};
 use std::alloc::Global;
-use std::fmt::{self, Display, Formatter};
+use std::fmt::{self, Display, Formatter, Write};
 
 /// As what a file is opened.
 #[derive(Clone, Copy)]
@@ -25,7 +25,7 @@ pub enum Outcome {
 }
 
 impl Display for Outcome {
-    fn fmt(&self, f: &mut Formatter) -> fmt::Result {
+    fn fmt<W: Write>(&self, f: &mut Formatter<W>) -> fmt::Result {
         match self {
             Outcome::Opened(count) => write!(f, "opened {count}"),
             Outcome::Refused(fault) => write!(f, "{fault:?}"),
