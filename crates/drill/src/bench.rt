@@ -57,6 +57,17 @@ impl Drill {
         })
     }
 
+    // A drill whose disk has these bytes, which `open` opens.
+    fn over(alloc: Global, bytes: Vec<u8>) -> Result<Drill, AllocError> {
+        let fuse = Fuse::new(alloc)?;
+        let disk = fuse.on(MemoryDisk::from_bytes(alloc, bytes))?;
+        Ok(Drill {
+            alloc,
+            fuse,
+            bench: Bench::Disk(disk),
+        })
+    }
+
     // Ends the fuse and the book, and gives the bytes that the disk has then: what the last stop
     // leaves of it, where a line set one.
     fn into_recording(self) -> Result<Vec<u8>, AllocError> {
@@ -226,7 +237,21 @@ pub fn run_and_read<I: Read + Drop, O: Write>(
     input: I,
     out: &mut O,
 ) -> io::Result<Ran> {
-    let mut drill = Drill::new(alloc)?;
+    run_and_keep(Drill::new(alloc)?, input, out)
+}
+
+/// Runs a script as [`run_and_read`] does, on a disk with these bytes, which its first `open` opens.
+pub fn run_over<I: Read + Drop, O: Write>(
+    alloc: Global,
+    recording: Vec<u8>,
+    input: I,
+    out: &mut O,
+) -> io::Result<Ran> {
+    run_and_keep(Drill::over(alloc, recording)?, input, out)
+}
+
+fn run_and_keep<I: Read + Drop, O: Write>(drill: Drill, input: I, out: &mut O) -> io::Result<Ran> {
+    let mut drill = drill;
     let is_whole = run_lines(&mut drill, input, out)?;
     let recording = drill.into_recording()?;
     Ok(Ran {

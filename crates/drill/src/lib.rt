@@ -7,4 +7,4 @@ mod fuse;
 mod steps;
 
 pub use answer::Answer;
-pub use bench::{Ran, run, run_and_read};
+pub use bench::{Ran, run, run_and_read, run_over};

@@ -3,10 +3,12 @@
 use std::alloc::Global;
 use std::io;
 
-/// A script, and what it is to answer. Where the bytes that its disk then has are told too, they
+/// A script, and what it is to answer. Where its disk has a recording at first, the first line is
+/// `<` and the hexadecimal digits of that one's bytes. Where the bytes that its disk then has are told too, they
 /// are the last line of the answers, as `=` and their hexadecimal digits.
 #[derive(Drop)]
 pub struct Transcript {
+    recording: Option<Vec<u8>>,
     script: String,
     answers: String,
     tells_bytes: bool,
@@ -15,6 +17,7 @@ pub struct Transcript {
 impl Transcript {
     /// Reads the lines of one drill. `\r` in a line of the script is a carriage return.
     pub fn read(alloc: Global, text: &str) -> io::Result<Transcript> {
+        let mut recording = None;
         let mut script = String::new(alloc);
         let mut answers = String::new(alloc);
         let mut tells_bytes = false;
@@ -23,6 +26,8 @@ impl Transcript {
                 let words = words.replace(alloc, "\\r", "\r")?;
                 script.push_str(words.strip_prefix(" ").unwrap_or(""))?;
                 script.push_str("\n")?;
+            } else if let Some(digits) = line.strip_prefix("<") {
+                recording = Some(bytes_of(alloc, digits)?);
             } else if !line.starts_with("#") {
                 tells_bytes = line.starts_with("=");
                 let words = if tells_bytes {
@@ -35,6 +40,7 @@ impl Transcript {
             }
         }
         Ok(Transcript {
+            recording,
             script,
             answers,
             tells_bytes,
@@ -44,13 +50,26 @@ impl Transcript {
     /// What the drill answers, where that is something else.
     pub fn answered_otherwise(&self, alloc: Global) -> io::Result<Option<String>> {
         let mut out = Vec::new(alloc);
-        let ran = drill::run_and_read(alloc, self.script.as_bytes(), &mut out)?;
+        let script = self.script.as_bytes();
+        let ran = match &self.recording {
+            Some(bytes) => drill::run_over(alloc, bytes.to_vec(alloc)?, script, &mut out)?,
+            None => drill::run_and_read(alloc, script, &mut out)?,
+        };
         let mut answers = text_of(out)?;
         if self.tells_bytes {
             let digits = hex::encode(alloc, ran.recording.as_slice())?;
             answers.push_str(format!(in alloc; "={digits}\n")?.as_str())?;
         }
         Ok((answers.as_str() != self.answers.as_str()).then_some(answers))
+    }
+}
+
+// The bytes that these hexadecimal digits spell, between which spaces may stand.
+fn bytes_of(alloc: Global, digits: &str) -> io::Result<Vec<u8>> {
+    let digits = digits.replace(alloc, " ", "")?;
+    match hex::decode(alloc, digits.as_bytes()) {
+        Ok(bytes) => Ok(bytes),
+        Err(_) => Err(io::ErrorKind::InvalidData.into()),
     }
 }
 
