@@ -298,46 +298,14 @@ impl PixelFormat {
         let g = proportions(u16x8::from_array(g), self.green.max).to_array();
         let b = proportions(u16x8::from_array(b), self.blue.max).to_array();
         [
-            Color {
-                r: r[0],
-                g: g[0],
-                b: b[0],
-            },
-            Color {
-                r: r[1],
-                g: g[1],
-                b: b[1],
-            },
-            Color {
-                r: r[2],
-                g: g[2],
-                b: b[2],
-            },
-            Color {
-                r: r[3],
-                g: g[3],
-                b: b[3],
-            },
-            Color {
-                r: r[4],
-                g: g[4],
-                b: b[4],
-            },
-            Color {
-                r: r[5],
-                g: g[5],
-                b: b[5],
-            },
-            Color {
-                r: r[6],
-                g: g[6],
-                b: b[6],
-            },
-            Color {
-                r: r[7],
-                g: g[7],
-                b: b[7],
-            },
+            color(r[0], g[0], b[0]),
+            color(r[1], g[1], b[1]),
+            color(r[2], g[2], b[2]),
+            color(r[3], g[3], b[3]),
+            color(r[4], g[4], b[4]),
+            color(r[5], g[5], b[5]),
+            color(r[6], g[6], b[6]),
+            color(r[7], g[7], b[7]),
         ]
     }
 
@@ -508,6 +476,14 @@ fn proportion(value: u16, max: u16) -> u16
     ensures within { result ≤ max }
 {
     ((value as u32 * max as u32 + 127) / 255) as u16
+}
+
+// The colour of these channels.
+#[inline(always)]
+fn color(r: u16, g: u16, b: u16) -> Color
+    ensures { result ≡ record { r = r; g = g; b = b } }
+{
+    Color { r, g, b }
 }
 
 // A value of at most 255, in proportion to another maximum that is no more.
