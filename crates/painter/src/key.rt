@@ -22,9 +22,9 @@ fn is_whole(width: u16, height: u16, rectangle: Rectangle) -> bool
 }
 
 impl Screen {
-    /// An update that paints the screen over whatever stood there (RFC 6143, section 7.6.1): one Raw
-    /// rectangle over the whole screen, of 16 bytes and 4 more for each place. It is for a screen of
-    /// at most 2^23 places.
+    /// An update that paints the screen over whatever stood there (RFC 6143, section 7.6.1): one
+    /// rectangle over the whole screen, in Hextile where that is shorter than Raw and else in Raw. It
+    /// has at most 16 bytes and 4 more for each place. It is for a screen of at most 2^23 places.
     pub fn key(&self, alloc: Global) -> Result<HostMessage, NoMemory>
         requires { self.now.width * self.now.height ≤ 2 ^ 23 }
         ensures key { IfOk result (IsKey self.now.width self.now.height (color_at self.now)) }
@@ -41,7 +41,7 @@ impl Screen {
         self.area(area, &mut colors)?;
         let mut bytes = Vec::new(alloc);
         let host = PixelFormat::host();
-        write_update(alloc, &host, area, &colors, Encoding::Raw, &mut bytes)?;
+        write_update(alloc, &host, area, &colors, Encoding::Hextile, &mut bytes)?;
         match HostMessage::from_bytes(alloc, width, height, &bytes) {
             Ok(message) => Ok(message),
             Err(_) => Err(AllocError),

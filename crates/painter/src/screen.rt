@@ -1,11 +1,12 @@
 //! Screens.
 
-ghost use Rattle.std.specs.Prelude.{◌≡◌, ◌↔◌, ◌<◌, ◌≤◌, ◌+◌, ℕ, ◌++◌, ◌∷◌, [], IsTrue, IfOk, OnOk, OnErr, List};
+ghost use Rattle.std.specs.Prelude.{◌≡◌, ◌↔◌, ◌<◌, ◌≤◌, ◌+◌, ℕ, ◌++◌, ◌∷◌, [], IsTrue, IfOk, OnOk, OnErr, List, length, slice_index_or};
 ghost use Rattle.rfb_wire.specs.Host.{Host};
 ghost use Rattle.pixel_format.specs.Pixel.{IsScreenColor};
 ghost use Rattle.painter.specs.Framebuffer.{Framebuffer, color_at, SameSize, Has, AppendsColors, IsSame, Shows};
 ghost use Rattle.rect_codec.specs.Picture.{painted_data};
-ghost use Rattle.painter.specs.Picture.{black, painted_message};
+ghost use Rattle.rfb_wire.specs.declared.message.Rectangle.{Rectangle};
+ghost use Rattle.painter.specs.Picture.{black, painted_rectangle, painted_message};
 ghost use Rattle.pixel_format.specs.Format.{host_format};
 ghost use Rattle.rect_data.specs.Data.{AreData};
 
@@ -140,6 +141,21 @@ impl Screen {
         }
     }
 
+    /// Paints the rectangle of this number, counted from 0, of a message of this size, over what the
+    /// screen shows (RFC 6143, section 7.7). It takes no memory.
+    pub fn paint_rectangle(&mut self, message: &HostMessage, number: usize)
+        requires width { message.now.width ≡ self.old.width }
+        requires height { message.now.height ≡ self.old.height }
+        requires number { number < length message.now.rectangles }
+        ensures size { SameSize self.old self.new }
+        ensures painted { (other : Rectangle) → Has self.new (painted_rectangle message.now.bytes
+            (slice_index_or message.now.rectangles number other) (color_at self.old)) }
+    {
+        let rectangle = message.rectangles()[number];
+        let data = &message.bytes()[rectangle.start..rectangle.end];
+        self.paint_data(rectangle.encoding, rectangle.area, data);
+    }
+
     /// Paints a message of this size: its rectangles in their order, each over what the ones before
     /// it left (RFC 6143, section 7.7). It takes no memory.
     pub fn paint(&mut self, message: &HostMessage)
@@ -149,10 +165,8 @@ impl Screen {
         ensures painted { Has self.new (painted_message message.now (color_at self.old)) }
         ensures shows { (messages : List Host) → Shows self.old messages → Shows self.new (messages ++ message.now ∷ []) }
     {
-        let bytes = message.bytes();
-        for rectangle in message.rectangles() {
-            let data = &bytes[rectangle.start..rectangle.end];
-            self.paint_data(rectangle.encoding, rectangle.area, data);
+        for number in 0..message.rectangles().len() {
+            self.paint_rectangle(message, number);
         }
     }
 }

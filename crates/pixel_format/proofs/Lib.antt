@@ -2,3 +2,4 @@ pub mod Lanes
 pub mod Valid
 pub mod Covering
 pub mod PixelsLaid
+pub mod Eights

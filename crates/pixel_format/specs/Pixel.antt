@@ -73,6 +73,12 @@ pub record IsScreenColor (c : Color) : Type 0 where
 abbrev pub converted_channel : ℕ → ℕ → ℕ
 converted_channel max v = (v * max + 127) / 255
 
+-- no channel takes more than 255
+pub record AreSmall (f : Format) : Type 0 where
+  pub red : f.red.max ≤ 255
+  pub green : f.green.max ≤ 255
+  pub blue : f.blue.max ≤ 255
+
 -- a screen's colour, as a format has it
 abbrev pub converted : Format → Color → Color
 converted f c = record {

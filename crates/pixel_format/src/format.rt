@@ -1,13 +1,18 @@
 //! A pixel format (RFC 6143, section 7.4): its bytes, its pixels and their colours.
 
-ghost use Rattle.std.specs.Prelude.{◌≡◌, ℕ, ◌/◌, ◌%◌, ◌+◌, ◌*◌, ◌^◌, ◌<◌, ◌≤◌, ◌⊎◌, ◌||◌, ◌&&◌, nat_eq, nat_lt, bit_and, [], ◌∷◌, length, Ok, IsTrue, ◌↔◌};
+ghost use Rattle.std.specs.Prelude.{◌≡◌, ℕ, ◌/◌, ◌%◌, ◌+◌, ◌*◌, ◌^◌, ◌<◌, ◌≤◌, ◌⊎◌, ◌||◌, ◌&&◌, nat_eq, nat_lt, bit_and, [], ◌∷◌, length, Ok, IsTrue, ◌↔◌, All, map, take};
+ghost use Rattle.std.specs.Simd.Lanes.{Each1};
 ghost use Rattle.pixel_format.specs.Format.{Format, pixel_bytes, host_format};
 ghost use Rattle.pixel_format.specs.Written.{channel_at, format_of, format_at, format_bytes, is_ones};
-ghost use Rattle.pixel_format.specs.Pixel.{pixel_number, channel_value, pixel_color, host_color, IsWithin, color_number, number_bytes, pixel_of, IsScreenColor, converted, converted_channel};
+ghost use Rattle.pixel_format.specs.Pixel.{pixel_number, channel_value, pixel_color, host_color, IsWithin, color_number, number_bytes, pixel_of, IsScreenColor, converted, converted_channel, AreSmall};
 
 use crate::Color;
 use std::marker::Model;
+use std::simd::prelude::*;
 use terms::FormatFault;
+
+// How many colours are converted together.
+const TOGETHER: usize = 8;
 
 /// A true-color pixel format that is valid (RFC 6143, section 7.4): a pixel has 8, 16 or 32 bits,
 /// and each channel takes bits of its own within them.
@@ -202,6 +207,108 @@ impl PixelFormat {
         }
     }
 
+    /// The same in a format that has no channel of more than 255: so 16 bits hold what is divided, and
+    /// a loop over colours is done in vectors.
+    #[inline(always)]
+    pub fn convert_small(&self, color: Color) -> Color
+        requires small { AreSmall self.now }
+        requires screen { IsScreenColor color }
+        ensures value { result ≡ converted self.now color }
+        ensures within { IsWithin self.now result }
+    {
+        Color {
+            r: small_proportion(color.r, self.red.max),
+            g: small_proportion(color.g, self.green.max),
+            b: small_proportion(color.b, self.blue.max),
+        }
+    }
+
+    /// Colours of a screen, as this format has them: each as [`convert`](PixelFormat::convert) gives
+    /// it.
+    pub fn convert_row(&self, colors: &[Color], row: &mut [Color])
+        requires size { length row.old ≡ length colors.now }
+        requires screen { All IsScreenColor colors.now }
+        ensures value { row.new ≡ map (converted self.now) colors.now }
+        ensures within { All (IsWithin self.now) row.new }
+    {
+        if !self.has_small_maxima() {
+            self.convert_ones(0, colors, row);
+            return;
+        }
+        let done = self.convert_eights(colors, row);
+        self.convert_ones(done, colors, row);
+    }
+
+    /// Whether no channel takes more than 255.
+    pub fn has_small_maxima(&self) -> bool
+        ensures { IsTrue result ↔ AreSmall self.now }
+    {
+        self.red.max <= 255 && self.green.max <= 255 && self.blue.max <= 255
+    }
+
+    // Converts the colours from one on; those before it are converted.
+    fn convert_ones(&self, start: usize, colors: &[Color], row: &mut [Color])
+        requires start { start ≤ length colors.now }
+        requires size { length row.old ≡ length colors.now }
+        requires screen { All IsScreenColor colors.now }
+        requires before { take start row.old ≡ map (converted self.now) (take start colors.now) }
+        ensures { row.new ≡ map (converted self.now) colors.now }
+    {
+        for k in start..colors.len() {
+            row[k] = self.convert(colors[k]);
+        }
+    }
+
+    // Converts colours as long as there are eight, and answers how many it converted.
+    fn convert_eights(&self, colors: &[Color], row: &mut [Color]) -> usize
+        requires small { AreSmall self.now }
+        requires size { length row.old ≡ length colors.now }
+        requires screen { All IsScreenColor colors.now }
+        ensures count { result ≤ length colors.now }
+        ensures size { length row.new ≡ length colors.now }
+        ensures done { take result row.new ≡ map (converted self.now) (take result colors.now) }
+    {
+        let mut i = 0;
+        'eights: while colors.len() - i >= TOGETHER {
+            let eight = self.convert_eight(&colors[i..i + TOGETHER]);
+            row[i..i + TOGETHER].copy_from_slice(&eight);
+            i += TOGETHER;
+        }
+        i
+    }
+
+    // Eight colours, a channel of all of them at once.
+    #[inline(always)]
+    fn convert_eight(&self, c: &[Color]) -> [Color; TOGETHER]
+        requires small { AreSmall self.now }
+        requires size { length c.now ≡ 8 }
+        requires screen { All IsScreenColor c.now }
+        ensures { result ≡ map (converted self.now) c.now }
+    {
+        let r = [
+            c[0].r, c[1].r, c[2].r, c[3].r, c[4].r, c[5].r, c[6].r, c[7].r,
+        ];
+        let g = [
+            c[0].g, c[1].g, c[2].g, c[3].g, c[4].g, c[5].g, c[6].g, c[7].g,
+        ];
+        let b = [
+            c[0].b, c[1].b, c[2].b, c[3].b, c[4].b, c[5].b, c[6].b, c[7].b,
+        ];
+        let r = proportions(u16x8::from_array(r), self.red.max).to_array();
+        let g = proportions(u16x8::from_array(g), self.green.max).to_array();
+        let b = proportions(u16x8::from_array(b), self.blue.max).to_array();
+        [
+            color(r[0], g[0], b[0]),
+            color(r[1], g[1], b[1]),
+            color(r[2], g[2], b[2]),
+            color(r[3], g[3], b[3]),
+            color(r[4], g[4], b[4]),
+            color(r[5], g[5], b[5]),
+            color(r[6], g[6], b[6]),
+            color(r[7], g[7], b[7]),
+        ]
+    }
+
     // Writes the pixel of a number. It looks at the length of the bytes, which a loop over pixels
     // knows.
     #[inline(always)]
@@ -369,6 +476,37 @@ fn proportion(value: u16, max: u16) -> u16
     ensures within { result ≤ max }
 {
     ((value as u32 * max as u32 + 127) / 255) as u16
+}
+
+// The colour of these channels.
+#[inline(always)]
+fn color(r: u16, g: u16, b: u16) -> Color
+    ensures { result ≡ record { r = r; g = g; b = b } }
+{
+    Color { r, g, b }
+}
+
+// A value of at most 255, in proportion to another maximum that is no more.
+#[inline(always)]
+fn small_proportion(value: u16, max: u16) -> u16
+    requires value { value ≤ 255 }
+    requires max { max ≤ 255 }
+    ensures value { result ≡ converted_channel max value }
+    ensures within { result ≤ max }
+{
+    (value * max + 127) / 255
+}
+
+// Eight values of at most 255, in proportion to another maximum: 255 at most, so that 16 bits hold
+// what is divided.
+#[inline(always)]
+fn proportions(values: u16x8, max: u16) -> u16x8
+    requires size { length values ≡ 8 }
+    requires screen { Each1 (λ v. v ≤ 255) values }
+    requires max { max ≤ 255 }
+    ensures { result ≡ map (converted_channel max) values }
+{
+    (values * u16x8::splat(max) + u16x8::splat(127)) / u16x8::splat(255)
 }
 
 /// A pixel of the host format: its bytes are blue, green, red, and one that plays no part. (A law:

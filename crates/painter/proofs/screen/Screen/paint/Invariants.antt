@@ -5,9 +5,9 @@ use Rattle.painter.specs.Picture.{painted_rectangles}
 use Rattle.painter.proofs.screen.Screen.paint.Given as goal
 
 -- the rectangles so far are painted
-abbrev pub invariant-loop-rectangle : goal.invariant-loop-rectangle
-invariant-loop-rectangle l = record {
+abbrev pub invariant-loop-number : goal.invariant-loop-number
+invariant-loop-number l = record {
   width : l.self.width ≡ l.fn.self.width;
   height : l.self.height ≡ l.fn.self.height;
-  painted : Agree l.fn.self.width l.fn.self.height (color_at l.self) (painted_rectangles l.bytes (take l.rectangle-index l.rectangle-items) (color_at l.fn.self));
+  painted : Agree l.fn.self.width l.fn.self.height (color_at l.self) (painted_rectangles l.message.bytes (take l.number l.message.rectangles) (color_at l.fn.self));
 }
