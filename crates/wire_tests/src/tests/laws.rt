@@ -21,6 +21,7 @@ fn laws_of_messages(_rt: HostRuntime) {
     client_wire::written_request_is_read();
     client_wire::written_input_is_read();
     client_wire::grammar_reads_messages();
+    rect_codec::written_parts_are_read();
     rfb_wire::written_update_is_read();
     rfb_wire::written_color_map_is_read();
     rfb_wire::written_bell_is_read();

@@ -74,3 +74,12 @@ fn copied_whichever_way_the_areas_overlap(rt: HostRuntime) -> Result<(), Fail> {
     }
     Ok(())
 }
+
+// One of four bytes a place would have 262,160.
+#[test]
+fn key_of_a_black_screen(rt: HostRuntime) -> Result<(), Fail> {
+    let screen = Screen::black(rt.alloc(), 256, 256)?;
+    let key = screen.key(rt.alloc())?;
+    assert!(rt; key.bytes().len() < 262_160);
+    Ok(())
+}

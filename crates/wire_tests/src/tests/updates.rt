@@ -6,7 +6,7 @@ use crate::test_canvas::TestCanvas;
 use crate::tests::samples::{EIGHT, GREEN, RED, SIXTEEN, WHITE, area, below, converted};
 use hextile::Measure;
 use pixel_format::{Canvas, Color, PixelFormat};
-use rect_codec::{pick, write_update};
+use rect_codec::{Part, pick, write_parts, write_update};
 use rect_data::Encoding;
 use std::alloc::Global;
 use std::test::Fail;
@@ -123,6 +123,42 @@ fn one_red_place(rt: HostRuntime) -> Result<(), Fail> {
     for encoding in ALL {
         let out = update(rt.alloc(), &PixelFormat::host(), place, &[RED], encoding)?;
         assert!(rt; out.as_slice() == red.as_slice());
+    }
+    Ok(())
+}
+
+// Two places that are copied from the two one further left, and an update of no rectangles.
+#[test]
+fn a_copy_and_nothing(rt: HostRuntime) -> Result<(), Fail> {
+    let host = PixelFormat::host();
+    let copy = Part::Copy {
+        area: area(1, 0, 2, 1),
+        source_x: 0,
+        source_y: 0,
+    };
+    let mut out = Vec::new(rt.alloc());
+    write_parts(rt.alloc(), &host, &[copy], &mut out)?;
+    write_parts(rt.alloc(), &host, &[], &mut out)?;
+    let update = [0, 0, 0, 1, 0, 1, 0, 0, 0, 2, 0, 1, 0, 0, 0, 1, 0, 0, 0, 0];
+    let (first, second) = out.split_at(out.len().min(20));
+    assert!(rt; first == update.as_slice());
+    assert!(rt; second == [0, 0, 0, 0].as_slice());
+    Ok(())
+}
+
+// Nine places of one colour, in five, six and five bits.
+#[test]
+fn a_row_is_converted(rt: HostRuntime) -> Result<(), Fail> {
+    let format = PixelFormat::read(&SIXTEEN)?;
+    let orange = Color {
+        r: 255,
+        g: 128,
+        b: 0,
+    };
+    let mut row = [Color { r: 0, g: 0, b: 0 }; 9];
+    format.convert_row(&[orange; 9], &mut row);
+    for color in row {
+        assert!(rt; color.r == 31 && color.g == 32 && color.b == 0);
     }
     Ok(())
 }
