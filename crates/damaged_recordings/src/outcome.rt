@@ -34,7 +34,7 @@ impl Display for Outcome {
     }
 }
 
-// Reads the header, each block's entries and body, and where the last gate stands.
+// Reads the header, each block's entries and body, and the place behind the last gate.
 fn read_blocks(
     alloc: Global,
     journal: &mut Journal<MemoryDisk>,
