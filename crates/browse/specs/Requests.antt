@@ -1,23 +1,11 @@
 -- What a browser asks for.
 use Rattle.std.specs.Prelude.{◌≡◌, ◌≢◌, ℕ, ◌+◌, ◌-◌, ◌*◌, ◌^◌, ◌&&◌, nat_lt, List, [], ◌∷◌, ◌++◌, length, codes, Option, None, Some, if◌then◌else◌}
-use Rattle.std.specs.Char.{is_ascii_digit}
-use Rattle.std.specs.List.{list_all}
+use Rattle.terms.specs.Decimal.{number_of}
 use Rattle.httparse.specs.Grammar.{ReadsRequest, RequestHead}
 use Rattle.file_commands.specs.declared.picturing.Moment.{Moment}
 use Rattle.file_commands.specs.declared.picturing.Moment.TheVariants.{Count, Time}
 use Rattle.browse.specs.declared.request.Asked.{Asked}
 use Rattle.browse.specs.declared.request.Asked.TheVariants.{Page, Script, Style, Times, Picture}
-
--- the value of decimal digits, the first of them the greatest
-abbrev pub decimal : List ℕ → ℕ
-decimal [] = 0
-decimal (digit ∷ digits) = (digit - 48) * 10 ^ length digits + decimal digits
-
--- the number below a limit that bytes write, in decimal digits alone, one or more
-abbrev pub number_of : ℕ → List ℕ → Option ℕ
-number_of limit [] = None
-number_of limit (digit ∷ digits) =
-    if list_all is_ascii_digit (digit ∷ digits) && nat_lt (decimal (digit ∷ digits)) limit then Some (decimal (digit ∷ digits)) else None
 
 -- The query of a target asks for this moment: its number behind its kind.
 abbrev pub IsQueryOf : Moment → List ℕ → Type 0

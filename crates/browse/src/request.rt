@@ -1,18 +1,17 @@
 //! What a browser asks for: the head of an HTTP request, judged.
 
 ghost use Rattle.std.specs.Prelude.{◌≡◌, ◌≢◌, ◌++◌, ◌^◌, ℕ, List, codes, length, All, MatchOption, Some};
-ghost use Rattle.std.specs.Char.{is_ascii_digit};
-ghost use Rattle.std.specs.List.{list_all};
 ghost use Rattle.file_commands.specs.declared.picturing.Moment.{Moment as MomentValue};
 ghost use Rattle.httparse.specs.Grammar.{MayBecomeRequest};
 ghost use Rattle.httparse.specs.Spans.{IsHeaderWithin, IsRequestWithin, span_bytes};
 ghost use Rattle.browse.specs.declared.request.Asked.{Asked as AskedValue};
-ghost use Rattle.browse.specs.Requests.{AsksForNothing, IsAskedBy, IsNoGet, IsQueryOf, IsTargetOf, number_of};
+ghost use Rattle.browse.specs.Requests.{AsksForNothing, IsAskedBy, IsNoGet, IsQueryOf, IsTargetOf};
+ghost use Rattle.terms.specs.Decimal.{number_of};
 
 use file_commands::Moment;
 use httparse::spans::{EMPTY_HEADER_SPAN, HeaderSpan, RequestSpans, parse_request};
 use httparse::{Error, Status};
-use std::str;
+use terms::decimal_number;
 
 /// No head of a request is longer, in bytes.
 pub const LONGEST_HEAD: usize = 8192;
@@ -59,28 +58,11 @@ pub enum Judged {
     Refused(Fault),
 }
 
-// Whether bytes are decimal digits.
-fn is_number(bytes: &[u8]) -> bool
-    ensures { result ≡ list_all is_ascii_digit bytes.now }
-{
-    bytes.iter().all(|digit| digit.is_ascii_digit())
-}
-
-// A decimal number: digits alone, one at least.
-fn number(digits: &[u8]) -> Option<u64>
-    ensures { result ≡ number_of (2 ^ 64) digits.now }
-{
-    if !is_number(digits) {
-        return None;
-    }
-    str::from_utf8(digits).ok()?.parse().ok()
-}
-
-// The same of a time.
+// A time in milliseconds.
 fn time(digits: &[u8]) -> Option<u32>
     ensures { result ≡ number_of (2 ^ 32) digits.now }
 {
-    u32::try_from(number(digits)?).ok()
+    u32::try_from(decimal_number(digits)?).ok()
 }
 
 // What stands behind a front, where bytes begin with it.
@@ -98,7 +80,7 @@ fn moment(query: &[u8]) -> Option<Moment>
         return Some(Moment::Time(time(digits)?));
     }
     let digits = behind(query, b"message=")?;
-    Some(Moment::Count(number(digits)?))
+    Some(Moment::Count(decimal_number(digits)?))
 }
 
 /// What a request's target asks for (RFC 9112, section 3.2.1); none where there is no such thing.

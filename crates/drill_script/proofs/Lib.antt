@@ -2,7 +2,6 @@ pub mod Again
 pub mod Faults
 pub mod Joined
 pub mod Lines
-pub mod Numbers
 pub mod Parts
 pub mod Steps
 pub mod Taken

@@ -3,6 +3,7 @@ use Rattle.std.specs.Prelude.{◌≡◌, ◌≢◌, ◌⊎◌, ℕ, ◌+◌, ◌
 use Rattle.std.specs.List.{AllByRecursion, before_first, concat, join_with_byte}
 use Rattle.std.specs.Char.{IsAsciiDigit}
 use Rattle.hex.specs.Hex.{decode_of, decode_sized}
+use Rattle.terms.specs.Decimal.{decimal}
 use Rattle.drill_script.specs.declared.line.Fill.{Fill}
 use Rattle.drill_script.specs.declared.line.Fill.TheVariants as fill
 use Rattle.drill_script.specs.declared.line.Start.{Start}
@@ -56,11 +57,6 @@ pub record IsTextOf (words : List (List ℕ)) (text : List ℕ) : Type 0 where
   pub some : words ≢ []
   pub each : AllByRecursion IsWord words
   pub joined : join_with_byte 32 words ≡ text
-
--- the value of decimal digits, the first of them the greatest
-abbrev pub decimal : List ℕ → ℕ
-decimal [] = 0
-decimal (digit ∷ digits) = (digit - 48) * 10 ^ length digits + decimal digits
 
 -- a number below a limit: decimal digits alone, one or more
 pub record IsNumber (limit : ℕ) (word : List ℕ) (n : ℕ) : Type 0 where

@@ -14,7 +14,8 @@ use Rattle.drill_script.specs.declared.line.Fill.TheVariants as fills
 use Rattle.drill_script.specs.declared.line.Start.{Start}
 use Rattle.drill_script.specs.declared.line.Start.TheVariants as starts
 use Rattle.drill_script.specs.declared.line.Line.{Line}
-use Rattle.drill_script.specs.Grammar.{Command, command_of, NewCommand, HostCommand, TakeCommand, BodyCommand, GateCommand, OpenCommand, PixelCommand, FailCommand, StopCommand, JoinCommand, NextCommand, SeekCommand, LeaveCommand, decimal}
+use Rattle.drill_script.specs.Grammar.{Command, command_of, NewCommand, HostCommand, TakeCommand, BodyCommand, GateCommand, OpenCommand, PixelCommand, FailCommand, StopCommand, JoinCommand, NextCommand, SeekCommand, LeaveCommand}
+use Rattle.terms.specs.Decimal.{number_of}
 
 -- What a call that takes no memory answered, seen by view, and the words that it left, are what
 -- reading gives.
@@ -48,12 +49,6 @@ abbrev pub word_at : List (List ℕ) → Option (List ℕ × List (List ℕ))
 word_at [] = None
 word_at ([] ∷ rest) = None
 word_at ((byte ∷ bytes) ∷ rest) = Some (byte ∷ bytes, rest)
-
--- the number that a word writes, where it's below the limit
-abbrev pub number_of : ℕ → List ℕ → Option ℕ
-number_of limit [] = None
-number_of limit (digit ∷ digits) =
-    if list_all is_ascii_digit (digit ∷ digits) && nat_lt (decimal (digit ∷ digits)) limit then Some (decimal (digit ∷ digits)) else None
 
 -- the next word, as what it's read
 unfoldable pub read_at : {A : Type 0} → (List ℕ → Option A) → List (List ℕ) → Option (A × List (List ℕ))

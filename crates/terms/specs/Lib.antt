@@ -1,6 +1,7 @@
 pub mod Reading
 pub mod Talk
 pub mod Number
+pub mod Decimal
 pub mod Appending
 pub mod Area
 pub mod Size

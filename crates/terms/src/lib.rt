@@ -1,10 +1,11 @@
 //! What the crates above mean by one word: an area of a screen, a screen's size, a field of bytes,
-//! what is wrong with a peer's bytes, want of memory; and, for contracts, readings, conversations
-//! and numbers.
+//! what is wrong with a peer's bytes, want of memory, a number in text; and, for contracts, readings,
+//! conversations and numbers.
 #![tactic(auto)]
 
 mod appending;
 mod area;
+mod decimal;
 mod format_fault;
 mod front;
 mod screen_size;
@@ -12,6 +13,7 @@ mod wire_fault;
 
 pub use appending::{append_come, whole_or_none};
 pub use area::Area;
+pub use decimal::decimal_number;
 pub use format_fault::FormatFault;
 pub use front::field;
 pub use screen_size::is_size;

@@ -2,8 +2,8 @@ use Rattle.std.proofs.Common.{◌∙◌, ◌≡◌, true}
 use Rattle.std.specs.Char.{is_ascii_digit}
 use Rattle.std.specs.List.{list_all}
 use Rattle.std.specs.Str.{IsUtf8}
-use Rattle.drill_script.proofs.Numbers.{number_parsed, digits_text, text_is, text_is_read}
-use Rattle.drill_script.proofs.reading.number.Goals as goal
+use Rattle.terms.proofs.Decimals.{number_parsed, digits_text, text_is, text_is_read}
+use Rattle.terms.proofs.decimal.decimal_number.Goals as goal
 
 pub returns-in_err-ok : goal.returns-in_err-ok
 returns-in_err-ok c =

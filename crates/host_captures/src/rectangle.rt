@@ -1,4 +1,4 @@
-//! Rectangles as a file has them.
+//! Hextile rectangles as a file has them.
 
 ghost use Rattle.std.specs.Prelude.{◌≤◌, ◌+◌, length, IfSome};
 ghost use Rattle.pixel_format.specs.Format.{host_format};
@@ -6,22 +6,23 @@ ghost use Rattle.hextile.specs.Data.{AreData};
 
 use hextile::{Measure, measure, paint};
 use pixel_format::{Color, PixelFormat};
+use std::io;
 use wire_tests::{HEIGHT, TestCanvas, WIDTH, hextile_in_pieces};
 
 const BLACK: Color = Color { r: 0, g: 0, b: 0 };
 
-/// A rectangle that fits on a sheet, and the bytes of its data.
+// A rectangle that fits on a sheet, and the bytes of its data.
 #[derive(Clone, Copy)]
-pub(crate) struct Rectangle<'a> {
-    pub(crate) w: u16,
-    pub(crate) h: u16,
-    pub(crate) bytes: &'a [u8],
+struct Rectangle<'a> {
+    w: u16,
+    h: u16,
+    bytes: &'a [u8],
 }
 
-/// The rectangle that bytes begin with; none where there is none, or where the ways of measuring
-/// its data differ: with all that stands behind them, with a byte too few, which is to need more,
-/// and field by field.
-pub(crate) fn first_rectangle(bytes: &[u8]) -> Option<Rectangle<'_>>
+// The rectangle that bytes begin with; none where there is none, or where the ways of measuring
+// its data differ: with all that stands behind them, with a byte too few, which is to need more,
+// and field by field.
+fn first_rectangle(bytes: &[u8]) -> Option<Rectangle<'_>>
     ensures whole { IfSome result (λ r. AreData host_format r.w r.h r.bytes.now) }
     ensures size { IfSome result (λ r. 4 + length r.bytes.now ≤ length bytes.now) }
     ensures columns { IfSome result (λ r. r.w ≤ 320) }
@@ -48,8 +49,8 @@ pub(crate) fn first_rectangle(bytes: &[u8]) -> Option<Rectangle<'_>>
 }
 
 impl Rectangle<'_> {
-    /// A number of all its colours, as they are painted.
-    pub(crate) fn checksum(&self) -> u32
+    // A number of all its colours, as they are painted.
+    fn checksum(&self) -> u32
         requires whole { AreData host_format self.now.w self.now.h self.now.bytes.now }
         requires columns { self.now.w ≤ 320 }
         requires rows { self.now.h ≤ 120 }
@@ -74,4 +75,21 @@ impl Rectangle<'_> {
         }
         sum
     }
+}
+
+/// Prints a line for each rectangle of the bytes.
+pub(crate) fn print_rectangles(rt: &HostRuntime, bytes: &[u8]) -> io::Result<()> {
+    let mut rest = bytes;
+    for _ in 0..bytes.len() {
+        if rest.is_empty() {
+            return Ok(());
+        }
+        let Some(first) = first_rectangle(rest) else {
+            return println!(rt; "refused");
+        };
+        let Rectangle { w, h, bytes: data } = first;
+        println!(rt; "{w} {h} {} {}", data.len(), first.checksum())?;
+        rest = &rest[4 + data.len()..];
+    }
+    Ok(())
 }

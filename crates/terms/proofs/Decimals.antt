@@ -1,4 +1,4 @@
--- What std's `parse` says of a word of digits, in the words of the grammar.
+-- What std's `parse` says of digits.
 use Rattle.std.proofs.Common.{◌≡◌, ℕ, ◌^◌, ◌<◌, true, false, List, [], ◌∷◌, length, Some, Result, Ok, Err, refl, ap, ◌∙◌, inl, inr, arith, rules}
 use Rattle.std.specs.Char.{is_ascii_digit}
 use Rattle.std.specs.List.{list_all}
@@ -12,10 +12,9 @@ use Rattle.std.proofs.lemmas.Bool.Decides.{nat_tests}
 use Rattle.std.proofs.lemmas.Str.{IsUtf8-from_ascii}
 use Rattle.std.proofs.lemmas.Str.Ascii.{IsAscii-nil, IsAscii-cons}
 use Rattle.std.proofs.lemmas.Str.Parse.{IsNumeralModel, numerals_by_weight, parse_digits}
-use Rattle.drill_script.specs.Grammar.{decimal}
-use Rattle.drill_script.specs.Reading.{number_of}
+use Rattle.terms.specs.Decimal.{decimal, number_of}
 
--- the grammar's digits and their value are std's
+-- digits and their value are std's
 own : IsNumeralModel (λ ds. list_all is_ascii_digit ds ≡ true) decimal
 own = numerals_by_weight _ (search rules) decimal (search rules)
 
