@@ -6,11 +6,13 @@ mod appending;
 mod canvas;
 mod colors;
 mod format;
+mod kind;
 mod laws;
 
 pub use canvas::Canvas;
 pub use colors::{end_of_color, same};
 pub use format::{PixelFormat, host_pixel};
+pub use kind::Format;
 pub use laws::{valid_formats, written_as_read};
 
 /// A colour: how much of red, green and blue, each from 0 to its channel's maximum. A colour of a

@@ -30,10 +30,11 @@ pub trait Mark {
 
 impl Mark for Brand {
     ghost use Rattle.std.specs.Prelude.{[]};
+    ghost use Rattle.pixel_format.specs.declared.kind.Format.TheVariants.{One};
     ghost use Rattle.shared_book.specs.History.{no_book};
     ghost use Rattle.shared_book.specs.Numbers.{no_table};
 
-    ghost head = { record { width = 0; height = 0; key_interval = 0; name = [] } };
+    ghost head = { record { format = One; width = 0; height = 0; key_interval = 0; name = [] } };
 
     ghost is_modelled = { Unit {0} };
 
