@@ -5,3 +5,4 @@ pub mod Listed
 pub mod Appends
 pub mod Sizes
 pub mod Decimals
+pub mod Areas
