@@ -8,3 +8,5 @@ pub mod Updates
 pub mod RowsRead
 pub mod Keys
 pub mod Whole
+pub mod SentRows
+pub mod SentColors

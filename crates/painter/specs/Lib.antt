@@ -4,3 +4,4 @@ pub mod Areas
 pub mod Framebuffer
 pub mod Update
 pub mod Key
+pub mod Sent

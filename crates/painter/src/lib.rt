@@ -8,6 +8,7 @@ mod pixel;
 mod rectangle;
 mod row;
 mod screen;
+mod sending;
 
 pub use laws::written_update_paints;
 pub use screen::Screen;
