@@ -10,3 +10,4 @@ pub mod Keys
 pub mod Whole
 pub mod SentRows
 pub mod SentColors
+pub mod SentParts

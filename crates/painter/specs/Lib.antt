@@ -5,3 +5,4 @@ pub mod Framebuffer
 pub mod Update
 pub mod Key
 pub mod Sent
+pub mod SentUpdate

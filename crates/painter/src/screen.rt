@@ -97,6 +97,15 @@ impl Screen {
         Ok(())
     }
 
+    /// Which colours `area_colors` are: those of the places of the area, by rows. (It does nothing.)
+    pub fn known_colors(&self, area: Area)
+        requires columns { area.x + area.w ≤ self.now.width }
+        requires rows { area.y + area.h ≤ self.now.height }
+        ensures { AreColorsOf self.now area (area_colors self.now area) }
+    {
+        let _ = &self.width;
+    }
+
     /// Appends the pixels of the places of an area, by rows from the top and each from the left (RFC
     /// 6143, section 7.7.1): for each place that of its colour, as the format has it. In the host's
     /// format they are copied. Want of memory leaves `out` as it was.
@@ -109,7 +118,6 @@ impl Screen {
         requires columns { area.x + area.w ≤ self.now.width }
         requires rows { area.y + area.h ≤ self.now.height }
         ensures ok { OnOk result (Appends (ArePixels format.now (sent_colors format.now self.now area)) out.old.items out.new.items) }
-        ensures colors { AreColorsOf self.now area (area_colors self.now area) }
         ensures err { OnErr result (out.new.items ≡ out.old.items) }
     {
         let start = out.len();

@@ -3,9 +3,9 @@ use Rattle.pixel_format.specs.declared.Color.{Color}
 use Rattle.rect_codec.specs.Written.{ArePixels}
 use Rattle.terms.specs.Appending.{Appends}
 use Rattle.painter.specs.declared.pixel.Pixel.{Pixel}
-use Rattle.painter.specs.Framebuffer.{Framebuffer, AreColorsOf}
-use Rattle.painter.specs.Sent.{area_colors, sent_colors, seen_area}
-use Rattle.painter.proofs.SentColors.{sent_is, colors_are}
+use Rattle.painter.specs.Framebuffer.{Framebuffer}
+use Rattle.painter.specs.Sent.{sent_colors, seen_area}
+use Rattle.painter.proofs.SentColors.{sent_is}
 use Rattle.painter.proofs.SentRows.{both_ok}
 use Rattle.painter.proofs.screen.Screen.append_pixels.Goals as goal
 
@@ -23,9 +23,3 @@ returns-clause-ok c =
     both_ok c.whole_or_none.result c.append_area-appended.result _ _ _ c.whole_or_none.ensures.same c.append_area-appended.ensures.ok c.whole_or_none.ensures.ok
     (λ first kept. subst (λ (z : List ℕ). Appends (ArePixels f (sent_colors f c.args.self.now area)) old z) (sym kept)
     (subst (λ (cs : List Color). Appends (ArePixels f cs) old new) same first))
-
-pub returns-clause-colors : goal.returns-clause-colors
-returns-clause-colors c =
-    let s = c.self.inside in
-    subst (λ (screen : Framebuffer). AreColorsOf screen c.args.area (area_colors screen c.args.area)) c.self.view_is
-    (colors_are s.width s.height s.pixels.items c.args.area (sym s.pixels.ok.0 ∙ c.self.invariant) (rw (← c.self.view_is) at c.requires.columns) (rw (← c.self.view_is) at c.requires.rows))
