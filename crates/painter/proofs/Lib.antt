@@ -8,3 +8,6 @@ pub mod Updates
 pub mod RowsRead
 pub mod Keys
 pub mod Whole
+pub mod SentRows
+pub mod SentColors
+pub mod SentParts

@@ -4,3 +4,5 @@ pub mod Areas
 pub mod Framebuffer
 pub mod Update
 pub mod Key
+pub mod Sent
+pub mod SentUpdate

@@ -8,6 +8,9 @@ mod pixel;
 mod rectangle;
 mod row;
 mod screen;
+mod sending;
+mod update;
 
 pub use laws::written_update_paints;
 pub use screen::Screen;
+pub use update::ScreenPart;

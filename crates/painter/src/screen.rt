@@ -3,23 +3,27 @@
 ghost use Rattle.std.specs.Prelude.{◌≡◌, ◌↔◌, ◌<◌, ◌≤◌, ◌+◌, ℕ, ◌++◌, ◌∷◌, [], IsTrue, IfOk, OnOk, OnErr, List, length, slice_index_or};
 ghost use Rattle.rfb_wire.specs.Host.{Host};
 ghost use Rattle.pixel_format.specs.Pixel.{IsScreenColor};
-ghost use Rattle.painter.specs.Framebuffer.{Framebuffer, color_at, SameSize, Has, AppendsColors, IsSame, Shows};
+ghost use Rattle.painter.specs.Framebuffer.{Framebuffer, color_at, SameSize, Has, AreColorsOf, AppendsColors, IsSame, Shows};
 ghost use Rattle.rect_codec.specs.Picture.{painted_data};
 ghost use Rattle.rfb_wire.specs.declared.message.Rectangle.{Rectangle};
 ghost use Rattle.painter.specs.Picture.{black, painted_rectangle, painted_message};
 ghost use Rattle.pixel_format.specs.Format.{host_format};
 ghost use Rattle.rect_data.specs.Data.{AreData};
+ghost use Rattle.rect_codec.specs.Written.{ArePixels};
+ghost use Rattle.terms.specs.Appending.{Appends};
+ghost use Rattle.painter.specs.Sent.{area_colors, sent_colors};
 
 use crate::colors::read_area;
 use crate::pixel::{BLACK, Pixel};
 use crate::rectangle::{copy_area, fill_area, paint_raw};
 use crate::row::{color_of_pixel, pixel_of_color};
+use crate::sending::append_area;
 use pixel_format::{Canvas, Color, PixelFormat};
 use rect_data::source_at;
 use rfb_wire::{Encoding, HostMessage};
 use std::alloc::Global;
 use std::marker::Model;
-use terms::{Area, NoMemory};
+use terms::{Area, NoMemory, whole_or_none};
 
 /// A screen: a colour for each of its places. It takes four bytes a place.
 #[derive(Drop)]
@@ -91,6 +95,34 @@ impl Screen {
         out.resize(start + places, color_of_pixel(BLACK))?;
         read_area(&self.pixels, self.width, area, &mut out[start..]);
         Ok(())
+    }
+
+    /// Which colours `area_colors` are: those of the places of the area, by rows. (It does nothing.)
+    pub fn known_colors(&self, area: Area)
+        requires columns { area.x + area.w ≤ self.now.width }
+        requires rows { area.y + area.h ≤ self.now.height }
+        ensures { AreColorsOf self.now area (area_colors self.now area) }
+    {
+        let _ = &self.width;
+    }
+
+    /// Appends the pixels of the places of an area, by rows from the top and each from the left (RFC
+    /// 6143, section 7.7.1): for each place that of its colour, as the format has it. In the host's
+    /// format they are copied. Want of memory leaves `out` as it was.
+    pub fn append_pixels(
+        &self,
+        format: &PixelFormat,
+        area: Area,
+        out: &mut Vec<u8>,
+    ) -> Result<(), NoMemory>
+        requires columns { area.x + area.w ≤ self.now.width }
+        requires rows { area.y + area.h ≤ self.now.height }
+        ensures ok { OnOk result (Appends (ArePixels format.now (sent_colors format.now self.now area)) out.old.items out.new.items) }
+        ensures err { OnErr result (out.new.items ≡ out.old.items) }
+    {
+        let start = out.len();
+        let appended = append_area(format, &self.pixels, self.width, area, out);
+        whole_or_none(appended, start, out)
     }
 
     /// Whether the other screen is the same: it has this size, and the same colour at each place.

@@ -6,6 +6,8 @@ ghost use Rattle.pixel_format.specs.Format.{Format, pixel_bytes, host_format};
 ghost use Rattle.pixel_format.specs.Written.{channel_at, format_of, format_at, format_bytes, is_ones};
 ghost use Rattle.pixel_format.specs.Pixel.{pixel_number, channel_value, pixel_color, host_color, IsWithin, color_number, number_bytes, pixel_of, IsScreenColor, converted, converted_channel, AreSmall};
 
+mod numbers;
+
 use crate::Color;
 use std::marker::Model;
 use std::simd::prelude::*;

@@ -10,5 +10,5 @@ mod update;
 
 pub use encoding::pick;
 pub use laws::{written_parts_are_read, written_update_is_read};
-pub use parts::{Part, write_parts};
-pub use update::write_update;
+pub use parts::{Part, append_copy, write_parts};
+pub use update::{append_colors, append_head, write_update};

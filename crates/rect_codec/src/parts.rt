@@ -31,8 +31,9 @@ pub enum Part<'a> {
     },
 }
 
-// Appends a CopyRect rectangle.
-fn append_copy(area: Area, x: u16, y: u16, out: &mut Vec<u8>) -> Result<(), NoMemory>
+/// Appends a rectangle that copies to its area one as large, whose left top corner is at this column
+/// and row (RFC 6143, section 7.7.2). Want of memory leaves `out` as it was.
+pub fn append_copy(area: Area, x: u16, y: u16, out: &mut Vec<u8>) -> Result<(), NoMemory>
     ensures ok { OnOk result (out.new.items ≡ out.old.items ++ rectangle_head area (number_of Encoding.CopyRect) ++ source_bytes x y) }
     ensures err { OnErr result (out.new.items ≡ out.old.items) }
 {

@@ -19,8 +19,8 @@ use terms::{Area, NoMemory};
 const HEAD_SIZE: usize = 12;
 
 /// Appends the header of a rectangle: its area, and the number of its encoding (RFC 6143, section
-/// 7.6.1).
-pub(crate) fn append_head(area: Area, encoding: Encoding, out: &mut Vec<u8>) -> Result<(), NoMemory>
+/// 7.6.1). Want of memory leaves `out` as it was.
+pub fn append_head(area: Area, encoding: Encoding, out: &mut Vec<u8>) -> Result<(), NoMemory>
     ensures ok { OnOk result (out.new.items ≡ out.old.items ++ rectangle_head area (number_of encoding)) }
     ensures err { OnErr result (out.new.items ≡ out.old.items) }
 {
@@ -95,7 +95,7 @@ fn append_rectangle(
 /// Appends a rectangle that gives the places of its area these colours, in the encoding that is
 /// asked for where that makes it shorter than Raw, and else in Raw. Want of memory leaves `out` as it
 /// was.
-pub(crate) fn append_colors(
+pub fn append_colors(
     alloc: Global,
     format: &PixelFormat,
     area: Area,

@@ -1,0 +1,21 @@
+use Rattle.std.proofs.Common.{◌≡◌, ◌*◌, ◌∙◌, List, ℕ, length, sym, subst}
+use Rattle.std.proofs.lemmas.List.{length-map}
+use Rattle.pixel_format.specs.Pixel.{converted}
+use Rattle.terms.specs.Appending.{Appends}
+use Rattle.rect_data.specs.declared.encoding.Encoding.TheVariants as encodings
+use Rattle.rect_codec.specs.Parts.{IsRectangle}
+use Rattle.painter.specs.Sent.{area_colors, sent_colors}
+use Rattle.painter.proofs.SentRows.{both_ok}
+use Rattle.painter.proofs.SentParts.{raw_rectangle}
+use Rattle.painter.proofs.screen.Screen.append_raw.Goals as goal
+
+pub returns-clause-ok : goal.returns-clause-ok
+returns-clause-ok c =
+    let f = c.args.format.now in
+    let area = c.args.area in
+    let colors = sent_colors f c.args.self.now area in
+    let old = c.args.out.now.items in
+    let many : length colors ≡ area.h * area.w = length-map (area_colors c.args.self.now area) (converted f) ∙ c.known_colors.ensures.size in
+    both_ok c.whole_or_none.result c.append_pixels-appended.result _ _ _ c.whole_or_none.ensures.same c.append_pixels-appended.ensures.ok c.whole_or_none.ensures.ok
+    (λ first kept. subst (λ (z : List ℕ). Appends (IsRectangle f area colors encodings.Raw) old z) (sym kept)
+    (raw_rectangle f area colors old c.append_head.new.out.items c.append_pixels-appended.new.out.items many c.in_ok-append_head.ensures.ok first))

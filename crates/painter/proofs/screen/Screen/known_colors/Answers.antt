@@ -1,0 +1,11 @@
+use Rattle.std.proofs.Common.{◌∙◌, sym, subst}
+use Rattle.painter.specs.Framebuffer.{Framebuffer, AreColorsOf}
+use Rattle.painter.specs.Sent.{area_colors}
+use Rattle.painter.proofs.SentColors.{colors_are}
+use Rattle.painter.proofs.screen.Screen.known_colors.Goals as goal
+
+pub returns : goal.returns
+returns c =
+    let s = c.self.inside in
+    subst (λ (screen : Framebuffer). AreColorsOf screen c.args.area (area_colors screen c.args.area)) c.self.view_is
+    (colors_are s.width s.height s.pixels.items c.args.area (sym s.pixels.ok.0 ∙ c.self.invariant) (rw (← c.self.view_is) at c.requires.columns) (rw (← c.self.view_is) at c.requires.rows))

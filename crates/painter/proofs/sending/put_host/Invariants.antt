@@ -1,0 +1,11 @@
+use Rattle.std.proofs.Common.{ℕ, ◌<◌}
+use Rattle.pixel_format.specs.Canvas.{nth}
+use Rattle.pixel_format.specs.Format.{host_format}
+use Rattle.rect_codec.specs.Picture.{pixel_at}
+use Rattle.rect_codec.specs.Written.{IsPixelOf}
+use Rattle.painter.specs.Sent.{seen_colors}
+use Rattle.painter.proofs.sending.put_host.Given as goal
+
+-- the pixels so far are those of their places
+abbrev pub invariant-loop-k : goal.invariant-loop-k
+invariant-loop-k l = (j : ℕ) → j < l.k → IsPixelOf host_format (nth (seen_colors host_format l.row) j) (pixel_at host_format l.bytes j)

@@ -1,0 +1,139 @@
+//! Appending the pixels of areas of places that are kept by rows.
+
+ghost use Rattle.std.specs.Prelude.{◌≡◌, ◌+◌, ◌*◌, ◌<◌, ◌≤◌, ℕ, OnOk, length};
+ghost use Rattle.pixel_format.specs.Canvas.{nth};
+ghost use Rattle.pixel_format.specs.Format.{host_format, pixel_bytes};
+ghost use Rattle.pixel_format.specs.Pixel.{AreSmall};
+ghost use Rattle.terms.specs.Appending.{Appends, Grows};
+ghost use Rattle.rect_codec.specs.Picture.{pixel_at as wire_pixel};
+ghost use Rattle.rect_codec.specs.Written.{IsPixelOf, ArePixels};
+ghost use Rattle.painter.specs.Sent.{seen_colors, seen_area};
+
+use crate::pixel::Pixel;
+use crate::row::color_of_pixel;
+use pixel_format::PixelFormat;
+use terms::{Area, NoMemory};
+
+// How many pixels are appended at once.
+const AT_ONCE: usize = 256;
+
+// Writes the pixels of a row of places in the host's format: they are copied.
+fn put_host(row: &[Pixel], bytes: &mut [u8])
+    requires { length bytes.old ≡ length row.now * 4 }
+    ensures { (k : ℕ) → k < length row.now → IsPixelOf host_format (nth (seen_colors host_format row.now) k) (wire_pixel host_format bytes.new k) }
+{
+    let host = PixelFormat::host();
+    for (k, place) in row.iter().enumerate() {
+        let start = k * 4;
+        host.put(color_of_pixel(*place), &mut bytes[start..start + 4]);
+    }
+}
+
+// The same in a format that has no channel of more than 255, of so many bytes a pixel.
+#[inline(always)]
+fn put_small(format: &PixelFormat, size: usize, row: &[Pixel], bytes: &mut [u8])
+    requires small { AreSmall format.now }
+    requires size { size ≡ pixel_bytes format.now }
+    requires room { length bytes.old ≡ length row.now * size }
+    ensures { (k : ℕ) → k < length row.now → IsPixelOf format.now (nth (seen_colors format.now row.now) k) (wire_pixel format.now bytes.new k) }
+{
+    for (k, place) in row.iter().enumerate() {
+        let start = k * size;
+        let number = format.number_of(format.convert_small(color_of_pixel(*place)));
+        format.write_number(number, &mut bytes[start..start + size]);
+    }
+}
+
+// The same in any format.
+fn put_any(format: &PixelFormat, size: usize, row: &[Pixel], bytes: &mut [u8])
+    requires size { size ≡ pixel_bytes format.now }
+    requires room { length bytes.old ≡ length row.now * size }
+    ensures { (k : ℕ) → k < length row.now → IsPixelOf format.now (nth (seen_colors format.now row.now) k) (wire_pixel format.now bytes.new k) }
+{
+    for (k, place) in row.iter().enumerate() {
+        let start = k * size;
+        let color = format.convert(color_of_pixel(*place));
+        format.put(color, &mut bytes[start..start + size]);
+    }
+}
+
+// Writes the pixels of a row of places: by a loop for each size, in which the compiler knows it.
+fn put_row(format: &PixelFormat, row: &[Pixel], bytes: &mut [u8])
+    requires { length bytes.old ≡ length row.now * pixel_bytes format.now }
+    ensures { (k : ℕ) → k < length row.now → IsPixelOf format.now (nth (seen_colors format.now row.now) k) (wire_pixel format.now bytes.new k) }
+{
+    if format.is_host() {
+        put_host(row, bytes);
+        return;
+    }
+    if !format.has_small_maxima() {
+        put_any(format, format.bytes(), row, bytes);
+        return;
+    }
+    match format.bytes() {
+        1 => put_small(format, 1, row, bytes),
+        2 => put_small(format, 2, row, bytes),
+        _ => put_small(format, 4, row, bytes),
+    }
+}
+
+// Appends the pixels of so few places that the block has room for them. There they are put together
+// first: so what they are appended to need not be cleared, and the compiler knows that it is no part
+// of the screen.
+fn append_some(
+    format: &PixelFormat,
+    row: &[Pixel],
+    block: &mut [u8; 4 * AT_ONCE],
+    out: &mut Vec<u8>,
+) -> Result<(), NoMemory>
+    requires { length row.now ≤ 256 }
+    ensures ok { OnOk result (Appends (ArePixels format.now (seen_colors format.now row.now)) out.old.items out.new.items) }
+    ensures grows { Grows out.old.items out.new.items }
+{
+    let size = row.len() * format.bytes();
+    put_row(format, row, &mut block[..size]);
+    out.extend_from_slice(&block[..size])
+}
+
+// Appends the pixels of a row of places.
+fn append_row(
+    format: &PixelFormat,
+    row: &[Pixel],
+    block: &mut [u8; 4 * AT_ONCE],
+    out: &mut Vec<u8>,
+) -> Result<(), NoMemory>
+    ensures ok { OnOk result (Appends (ArePixels format.now (seen_colors format.now row.now)) out.old.items out.new.items) }
+    ensures grows { Grows out.old.items out.new.items }
+{
+    let mut rest = row;
+    while !rest.is_empty() {
+        let (some, behind) = rest.split_at(rest.len().min(AT_ONCE));
+        append_some(format, some, block, out)?;
+        rest = behind;
+    }
+    Ok(())
+}
+
+/// Appends the pixels of the places of an area, row by row. Want of memory may leave a part of them.
+pub(crate) fn append_area(
+    format: &PixelFormat,
+    pixels: &[Pixel],
+    width: u16,
+    area: Area,
+    out: &mut Vec<u8>,
+) -> Result<(), NoMemory>
+    requires columns { area.x + area.w ≤ width }
+    requires rows { (area.y + area.h) * width ≤ length pixels.now }
+    ensures ok { OnOk result (Appends (ArePixels format.now (seen_area format.now pixels.now width area area.h)) out.old.items out.new.items) }
+    ensures grows { Grows out.old.items out.new.items }
+{
+    let (line, w) = (usize::from(width), usize::from(area.w));
+    let (left, top) = (usize::from(area.x), usize::from(area.y));
+    out.reserve(usize::from(area.h) * w * format.bytes())?;
+    let mut block = [0; 4 * AT_ONCE];
+    for row in 0..usize::from(area.h) {
+        let start = (top + row) * line + left;
+        append_row(format, &pixels[start..start + w], &mut block, out)?;
+    }
+    Ok(())
+}

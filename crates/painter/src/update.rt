@@ -1,0 +1,161 @@
+//! Updates of a screen, as a viewer is sent them.
+
+ghost use Rattle.std.specs.Prelude.{◌≡◌, ◌+◌, ◌*◌, ◌<◌, ◌≤◌, ◌^◌, All, IfOk, OnOk, OnErr, length, take};
+ghost use Rattle.pixel_format.specs.Pixel.{IsWithin};
+ghost use Rattle.terms.specs.Appending.{Appends};
+ghost use Rattle.rect_codec.specs.Parts.{IsRectangle, IsRectangleFor, IsPart, AreParts};
+ghost use Rattle.painter.specs.Sent.{sent_colors};
+ghost use Rattle.painter.specs.SentUpdate.{part_of, parts_of, CanBeSent};
+
+use crate::screen::Screen;
+use pixel_format::{Color, PixelFormat};
+use rect_codec::{append_colors, append_copy, append_head};
+use rect_data::Encoding;
+use std::alloc::Global;
+use terms::{Area, NoMemory, whole_or_none};
+
+/// What one rectangle of an update of a screen says (RFC 6143, section 7.7).
+#[derive(Clone, Copy)]
+pub enum ScreenPart {
+    /// The places of the area become those of an area as large, whose left top corner is at this
+    /// column and row, as the rectangles before it have left them (section 7.7.2).
+    Copy {
+        area: Area,
+        source_x: u16,
+        source_y: u16,
+    },
+    /// The places of the area get the screen's colours. The rectangle is written in this encoding
+    /// where that makes it shorter than Raw, and else in Raw.
+    Places {
+        area: Area,
+        encoding: Encoding,
+    },
+}
+
+impl Screen {
+    // Appends a Raw rectangle of the places of an area.
+    fn append_raw(
+        &self,
+        format: &PixelFormat,
+        area: Area,
+        out: &mut Vec<u8>,
+    ) -> Result<(), NoMemory>
+        requires columns { area.x + area.w ≤ self.now.width }
+        requires rows { area.y + area.h ≤ self.now.height }
+        ensures ok { OnOk result (Appends (IsRectangle format.now area (sent_colors format.now self.now area) Encoding.Raw) out.old.items out.new.items) }
+        ensures err { OnErr result (out.new.items ≡ out.old.items) }
+    {
+        self.known_colors(area);
+        let start = out.len();
+        append_head(area, Encoding::Raw, out)?;
+        let appended = self.append_pixels(format, area, out);
+        whole_or_none(appended, start, out)
+    }
+
+    // The colours of the places of an area, as a format has them.
+    fn colors_for(
+        &self,
+        alloc: Global,
+        format: &PixelFormat,
+        area: Area,
+    ) -> Result<Vec<Color>, NoMemory>
+        requires columns { area.x + area.w ≤ self.now.width }
+        requires rows { area.y + area.h ≤ self.now.height }
+        ensures value { IfOk result (λ colors. colors.items ≡ sent_colors format.now self.now area) }
+        ensures within { IfOk result (λ colors. All (IsWithin format.now) colors.items) }
+        ensures size { IfOk result (λ colors. length colors.items ≡ area.h * area.w) }
+    {
+        self.known_colors(area);
+        let mut read = Vec::new(alloc);
+        self.area(area, &mut read)?;
+        let mut colors = vec![in alloc; Color { r: 0, g: 0, b: 0 }; read.len()]?;
+        format.convert_row(&read, &mut colors);
+        Ok(colors)
+    }
+
+    // Appends a rectangle of the places of an area.
+    fn append_places(
+        &self,
+        alloc: Global,
+        format: &PixelFormat,
+        area: Area,
+        encoding: Encoding,
+        out: &mut Vec<u8>,
+    ) -> Result<(), NoMemory>
+        requires columns { area.x + area.w ≤ self.now.width }
+        requires rows { area.y + area.h ≤ self.now.height }
+        ensures ok { OnOk result (Appends (IsRectangleFor format.now area (sent_colors format.now self.now area) encoding) out.old.items out.new.items) }
+        ensures err { OnErr result (out.new.items ≡ out.old.items) }
+    {
+        if encoding == Encoding::Raw || encoding == Encoding::CopyRect {
+            return self.append_raw(format, area, out);
+        }
+        let colors = self.colors_for(alloc, format, area)?;
+        append_colors(alloc, format, area, &colors, encoding, out)
+    }
+
+    // Appends the rectangle of a part.
+    fn append_part(
+        &self,
+        alloc: Global,
+        format: &PixelFormat,
+        part: ScreenPart,
+        out: &mut Vec<u8>,
+    ) -> Result<(), NoMemory>
+        requires { CanBeSent self.now part }
+        ensures ok { OnOk result (Appends (IsPart format.now (part_of format.now self.now part)) out.old.items out.new.items) }
+        ensures err { OnErr result (out.new.items ≡ out.old.items) }
+    {
+        match part {
+            ScreenPart::Copy {
+                area,
+                source_x,
+                source_y,
+            } => append_copy(area, source_x, source_y, out),
+            ScreenPart::Places { area, encoding } => {
+                self.append_places(alloc, format, area, encoding, out)
+            }
+        }
+    }
+
+    // Appends an update of these parts, or a part of it.
+    fn append_parts(
+        &self,
+        alloc: Global,
+        format: &PixelFormat,
+        parts: &[ScreenPart],
+        out: &mut Vec<u8>,
+    ) -> Result<(), NoMemory>
+        requires count { length parts.now < 2 ^ 16 }
+        requires each { All (CanBeSent self.now) parts.now }
+        ensures ok { OnOk result (Appends (AreParts format.now (parts_of format.now self.now parts.now)) out.old.items out.new.items) }
+        ensures part { take (length out.old.items) out.new.items ≡ out.old.items }
+    {
+        let [count, count_low] = (parts.len() as u16).to_be_bytes();
+        out.extend_from_slice(&[0, 0, count, count_low])?;
+        for part in parts {
+            self.append_part(alloc, format, *part, out)?;
+        }
+        Ok(())
+    }
+
+    /// Appends a FramebufferUpdate (RFC 6143, section 7.6.1) with a rectangle for each of these parts,
+    /// in their order, as `rect_codec::write_parts` writes one of the screen's colours as the format
+    /// has them; Raw straight from the screen. Want of memory leaves `out` as it was.
+    pub fn append_update(
+        &self,
+        alloc: Global,
+        format: &PixelFormat,
+        parts: &[ScreenPart],
+        out: &mut Vec<u8>,
+    ) -> Result<(), NoMemory>
+        requires count { length parts.now < 2 ^ 16 }
+        requires each { All (CanBeSent self.now) parts.now }
+        ensures ok { OnOk result (Appends (AreParts format.now (parts_of format.now self.now parts.now)) out.old.items out.new.items) }
+        ensures err { OnErr result (out.new.items ≡ out.old.items) }
+    {
+        let start = out.len();
+        let appended = self.append_parts(alloc, format, parts, out);
+        whole_or_none(appended, start, out)
+    }
+}

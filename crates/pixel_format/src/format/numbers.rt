@@ -1,0 +1,100 @@
+//! Pixels as numbers: equal numbers are equal pixels.
+
+ghost use Rattle.std.specs.Prelude.{◌≡◌, ◌+◌, ◌*◌, ◌^◌, ◌<◌, ◌≤◌, ◌++◌, All, OnOk, length, map};
+ghost use Rattle.std.specs.List.{flat_map};
+ghost use Rattle.pixel_format.specs.Format.{pixel_bytes};
+ghost use Rattle.pixel_format.specs.Pixel.{pixel_color, color_number, IsWithin, IsPixel, ArePixels, pixel_of};
+ghost use Rattle.pixel_format.specs.Number.{number_color, IsNumber};
+ghost use Rattle.terms.specs.Appending.{Appends, Grows};
+
+use super::{Channel, PixelFormat, value_of};
+use crate::Color;
+use terms::NoMemory;
+
+impl PixelFormat {
+    /// The number of the pixel of a colour: each channel at its place, and the other bits 0.
+    #[inline(always)]
+    pub fn number_of(&self, color: Color) -> u32
+        requires { IsWithin self.now color }
+        ensures value { result ≡ color_number self.now color }
+        ensures color { number_color self.now result ≡ color }
+        ensures number { IsNumber self.now result }
+    {
+        let red = shifted(self.red, color.r);
+        let green = shifted(self.green, color.g);
+        let blue = shifted(self.blue, color.b);
+        red + green + blue
+    }
+
+    /// The colour whose pixel has the number. Bits that belong to no channel play no part.
+    pub fn color_of(&self, number: u32) -> Color
+        ensures { result ≡ number_color self.now number }
+    {
+        Color {
+            r: value_of(self.red, number),
+            g: value_of(self.green, number),
+            b: value_of(self.blue, number),
+        }
+    }
+
+    /// Writes the pixel of a number, its bytes as they stand on the wire.
+    #[inline(always)]
+    pub fn write_number(&self, number: u32, bytes: &mut [u8])
+        requires whole { length bytes.old ≡ pixel_bytes self.now }
+        requires number { IsNumber self.now number }
+        ensures bytes { bytes.new ≡ pixel_of self.now (number_color self.now number) }
+        ensures color { pixel_color self.now bytes.new ≡ number_color self.now number }
+    {
+        self.put_number(number, bytes);
+    }
+
+    /// Appends the pixel of a number. Want of memory may leave a part of it.
+    pub fn append_number(&self, number: u32, bytes: &mut Vec<u8>) -> Result<(), NoMemory>
+        requires { IsNumber self.now number }
+        ensures ok { OnOk result (Appends (IsPixel self.now (number_color self.now number)) bytes.old.items bytes.new.items) }
+        ensures written { OnOk result (bytes.new.items ≡ bytes.old.items ++ pixel_of self.now (number_color self.now number)) }
+        ensures grows { Grows bytes.old.items bytes.new.items }
+    {
+        let mut pixel = [0; 4];
+        let size = self.bytes();
+        self.write_number(number, &mut pixel[..size]);
+        bytes.extend_from_slice(&pixel[..size])
+    }
+
+    /// Appends the pixels of numbers, one behind the other. Want of memory may leave a part of them.
+    pub fn append_numbers(&self, numbers: &[u32], bytes: &mut Vec<u8>) -> Result<(), NoMemory>
+        requires { All (IsNumber self.now) numbers.now }
+        ensures ok { OnOk result (Appends (ArePixels self.now (map (number_color self.now) numbers.now)) bytes.old.items bytes.new.items) }
+        ensures written { OnOk result (bytes.new.items ≡ bytes.old.items ++ flat_map (pixel_of self.now) (map (number_color self.now) numbers.now)) }
+        ensures grows { Grows bytes.old.items bytes.new.items }
+    {
+        for number in numbers {
+            self.append_number(*number, bytes)?;
+        }
+        Ok(())
+    }
+}
+
+// How far a channel's values are shifted in a pixel's number: 0 for a channel of maximum 0, whose
+// shift may lie beyond the number. It is the same for all pixels, so a loop over them finds it once.
+#[inline(always)]
+fn shift_of(channel: Channel) -> u32
+    requires { channel.max * 2 ^ channel.shift < 2 ^ 32 }
+    ensures below { result < 32 }
+    ensures some { 0 < channel.max → result ≡ channel.shift }
+{
+    if channel.max == 0 {
+        return 0;
+    }
+    channel.shift as u32
+}
+
+// A value of a channel, at its place in a pixel's number.
+#[inline(always)]
+fn shifted(channel: Channel, value: u16) -> u32
+    requires within { value ≤ channel.max }
+    requires fits { channel.max * 2 ^ channel.shift < 2 ^ 32 }
+    ensures { result ≡ value * 2 ^ channel.shift }
+{
+    (value as u32) << shift_of(channel)
+}
