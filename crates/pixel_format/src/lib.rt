@@ -7,11 +7,13 @@ mod canvas;
 mod colors;
 mod format;
 mod laws;
+mod runs;
 
 pub use canvas::Canvas;
 pub use colors::{end_of_color, same};
 pub use format::{PixelFormat, host_pixel};
 pub use laws::{valid_formats, written_as_read};
+pub use runs::end_of_number;
 
 /// A colour: how much of red, green and blue, each from 0 to its channel's maximum. A colour of a
 /// screen has channels of at most 255.
