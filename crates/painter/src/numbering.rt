@@ -17,14 +17,13 @@ use terms::{Area, NoMemory};
 // How many numbers are appended at once.
 const AT_ONCE: usize = 256;
 
-// The numbers of a row of places in the host's format.
+// The numbers of a row of places in the host's format: they are copied.
 fn number_host(row: &[Pixel], numbers: &mut [u32])
     requires { length numbers.old ≡ length row.now }
     ensures { (k : ℕ) → k < length row.now → HasNumber host_format (nth (seen_colors host_format row.now) k) (slice_index numbers.new k) }
 {
-    let host = PixelFormat::host();
     for (k, place) in row.iter().enumerate() {
-        numbers[k] = host.number_of(color_of_pixel(*place));
+        numbers[k] = place.number;
     }
 }
 
