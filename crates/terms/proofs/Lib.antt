@@ -4,3 +4,4 @@ pub mod Measured
 pub mod Listed
 pub mod Appends
 pub mod Sizes
+pub mod Areas

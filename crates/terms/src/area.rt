@@ -1,7 +1,7 @@
 //! A part of a screen.
 
-ghost use Rattle.std.specs.Prelude.{◌≡◌};
-ghost use Rattle.terms.specs.Area.{area_bytes};
+ghost use Rattle.std.specs.Prelude.{◌≡◌, ◌+◌, ◌<◌, ◌≤◌, ◌&&◌, ◌||◌, nat_lt, min, max, MatchOption};
+ghost use Rattle.terms.specs.Area.{area_bytes, is_in, HasPlaces, HasJustOf, IsSmallest};
 
 /// A rectangle of places: its upper left corner, its width and its height.
 #[derive(Clone, Copy, Debug, PartialEq, Eq)]
@@ -12,7 +12,52 @@ pub struct Area {
     pub h: u16,
 }
 
+// Columns or rows that stand side by side.
+#[derive(Clone, Copy)]
+struct Run {
+    first: u16,
+    length: u16,
+}
+
+// What two runs have in common, if anything.
+fn common_run(one: Run, other: Run) -> Option<Run>
+    ensures { let first = max one.first other.first in
+        let end = min (one.first + one.length) (other.first + other.length) in
+        MatchOption result (end ≤ first)
+        (λ run. (run.first ≡ first) × (run.first + run.length ≡ end) × (first < end)) }
+{
+    let first = one.first.max(other.first);
+    let one_end = u32::from(one.first) + u32::from(one.length);
+    let other_end = u32::from(other.first) + u32::from(other.length);
+    let end = one_end.min(other_end);
+    if end <= u32::from(first) {
+        return None;
+    }
+    Some(Run {
+        first,
+        length: (end - u32::from(first)) as u16,
+    })
+}
+
 impl Area {
+    // Its columns, and its rows.
+    fn runs(self) -> (Run, Run)
+        ensures { result ≡ record {
+            0 = record { first = self.x; length = self.w };
+            1 = record { first = self.y; length = self.h };
+        } }
+    {
+        let columns = Run {
+            first: self.x,
+            length: self.w,
+        };
+        let rows = Run {
+            first: self.y,
+            length: self.h,
+        };
+        (columns, rows)
+    }
+
     /// Its numbers as they stand on the wire: two bytes each, the higher one first.
     pub fn bytes(self) -> [u8; 8]
         ensures { result ≡ area_bytes self }
@@ -22,5 +67,49 @@ impl Area {
         let [w, w_low] = self.w.to_be_bytes();
         let [h, h_low] = self.h.to_be_bytes();
         [x, x_low, y, y_low, w, w_low, h, h_low]
+    }
+
+    /// The places that it has in common with another area, if any.
+    pub fn common(self, other: Area) -> Option<Area>
+        ensures { HasJustOf (λ x y. is_in self x y && is_in other x y) result }
+    {
+        let (my_columns, my_rows) = self.runs();
+        let (columns, rows) = other.runs();
+        let columns = common_run(my_columns, columns)?;
+        let rows = common_run(my_rows, rows)?;
+        Some(Area {
+            x: columns.first,
+            y: rows.first,
+            w: columns.length,
+            h: rows.length,
+        })
+    }
+
+    /// Its part on a screen of this size, in places, if any.
+    pub fn cut(self, width: u16, height: u16) -> Option<Area>
+        ensures { HasJustOf (λ x y. is_in self x y && (nat_lt x width && nat_lt y height)) result }
+    {
+        self.common(Area {
+            x: 0,
+            y: 0,
+            w: width,
+            h: height,
+        })
+    }
+
+    /// The smallest area that holds it and another.
+    pub fn around(self, other: Area) -> Area
+        requires one { HasPlaces self }
+        requires other { HasPlaces other }
+        ensures { IsSmallest (λ x y. is_in self x y || is_in other x y) result }
+    {
+        let x = self.x.min(other.x);
+        let y = self.y.min(other.y);
+        Area {
+            x,
+            y,
+            w: (self.x + self.w).max(other.x + other.w) - x,
+            h: (self.y + self.h).max(other.y + other.h) - y,
+        }
     }
 }

@@ -1,66 +1,61 @@
 -- What a viewer asks for.
 use Rattle.std.proofs.Common.{◌≡◌, ℕ, ◌+◌, ◌-◌, ◌<◌, ◌≤◌, inl, inr, Bool, true, false, List, [], ◌∷◌, ◌++◌, refl, sym, ap, ◌∙◌, subst, arith}
-use Rattle.std.specs.Prelude.{ℤ, not, ◌||◌, ◌&&◌, min, max, Option, Some}
-use Rattle.std.proofs.lemmas.Bool.{cases_lt}
+use Rattle.std.specs.Prelude.{ℤ, not, ◌||◌, ◌&&◌, nat_lt, Option, Some}
+use Rattle.std.proofs.lemmas.Bool.{and_parts, ltb-true}
 use Rattle.pixel_format.specs.Format.{Format}
 use Rattle.pixel_format.specs.Canvas.{Picture}
 use Rattle.replay.specs.Screens.{IsScreenAt}
 use Rattle.terms.specs.declared.area.Area.{Area}
 use Rattle.client_wire.specs.declared.message.ClientMessage.{ClientMessage}
-use Rattle.rect_codec.specs.Picture.{is_in}
+use Rattle.terms.specs.Area.{is_in, HasJust, IsSmallest}
 use Rattle.rect_data.specs.declared.encoding.Encoding.{Encoding}
 use Rattle.gated_journal.specs.Recording.{Head}
 use Rattle.keyed_entries.specs.declared.entry.Stamped.{Stamped}
-use Rattle.painter.proofs.Places.{in_is, is_in_true}
-use Rattle.viewer_session.specs.Places.{PlaceSet, holds, IsSmallest}
+use Rattle.terms.proofs.Areas.{in_is, is_in_true, or_parts, same_smallest}
+use Rattle.place_sets.specs.Places.{PlaceSet, holds}
 use Rattle.viewer_session.specs.declared.view.View.{View}
-use Rattle.viewer_session.specs.View.{IsRight, IsPart, IsCut, IsAsked, IsReformatted, IsReencoded, IsTaken, AreTaken, is_left, is_pending, stale_at}
-use Rattle.viewer_session.proofs.BitSets.{or_left, or_right, or_parts}
-use Rattle.viewer_session.proofs.PlaceSets.{same_smallest}
+use Rattle.viewer_session.specs.View.{IsRight, IsPart, IsAsked, IsReformatted, IsReencoded, IsTaken, AreTaken, is_left, is_pending, stale_at}
 use Rattle.viewer_session.proofs.Views.{neither}
 
--- a part's corners
-corner : (width height : ℕ) (area : Area) → IsPart width height area → (x y : ℕ) → area.x ≤ x → x < area.x + area.w → area.y ≤ y → y < area.y + area.h → is_in area x y ≡ true
-corner width height area part x y l r t b = is_in_true area x y (record { left = l; right = r; top = t; bottom = b })
+-- a place between the edges of an area
+corner : (area : Area) (x y : ℕ) → area.x ≤ x → x < area.x + area.w → area.y ≤ y → y < area.y + area.h → is_in area x y ≡ true
+corner area x y l r t b = is_in_true area x y (record { left = l; right = r; top = t; bottom = b })
 
--- a place of an area is one of an area around it
-wider : (inner outer : Area) (x y : ℕ) → outer.x ≤ inner.x → inner.x + inner.w ≤ outer.x + outer.w → outer.y ≤ inner.y → inner.y + inner.h ≤ outer.y + outer.h
-    → is_in inner x y ≡ true → is_in outer x y ≡ true
-wider inner outer x y l r t b here =
-    let place = in_is inner x y here in
-    is_in_true outer x y (record { left = omega (arith, place.left); right = omega (arith, place.right); top = omega (arith, place.top); bottom = omega (arith, place.bottom) })
+-- what is left of an area is a part of the screen
+pub part_left : (width height : ℕ) (area part : Area) → HasJust (is_left width height area) part → IsPart width height part
+part_left width height area part just =
+    let across = just.across in
+    let down = just.down in
+    let last = sym (just.just (part.x + part.w - 1) (part.y + part.h - 1)) ∙ corner part (part.x + part.w - 1) (part.y + part.h - 1) (omega arith) (omega arith) (omega arith) (omega arith) in
+    let on = and_parts (nat_lt (part.x + part.w - 1) width) (nat_lt (part.y + part.h - 1) height) (and_parts (is_in area (part.x + part.w - 1) (part.y + part.h - 1)) _ last).1 in
+    let right = ltb-true (part.x + part.w - 1) width on.0 in
+    let bottom = ltb-true (part.y + part.h - 1) height on.1 in
+    record { within = record { columns = omega arith; rows = omega arith }; across = across; down = down }
 
-pub around_both : (width height : ℕ) (one other : Area) (x y right bottom : ℕ) → IsPart width height one → IsPart width height other
-    → x ≡ min one.x other.x → y ≡ min one.y other.y → right ≡ max (one.x + one.w) (other.x + other.w) → bottom ≡ max (one.y + one.h) (other.y + other.h)
-    → IsSmallest (λ a b. is_in one a b || is_in other a b) (record { x = x; y = y; w = right - x; h = bottom - y })
-around_both width height one other x y right bottom p q x_is y_is right_is bottom_is =
-    let pa = p.across in
-    let pd = p.down in
-    let qa = q.across in
-    let qd = q.down in
-    let wide : x + (right - x) ≡ right = omega arith in
-    let high : y + (bottom - y) ≡ bottom = omega arith in
+-- so is the smallest area round two parts
+pub part_around : (width height : ℕ) (one other area : Area) → IsPart width height one → IsPart width height other → IsSmallest (λ x y. is_in one x y || is_in other x y) area → IsPart width height area
+part_around width height one other area p q is =
+    let pc = p.within.columns in
+    let pr = p.within.rows in
+    let qc = q.within.columns in
+    let qr = q.within.rows in
+    let l = in_is area area.x is.left.0 (is.holds_each area.x is.left.0 is.left.1) in
+    let lr = l.right in
+    let lt = l.top in
+    let lb = l.bottom in
     record {
-      holds_each = λ a b e. elim (or_parts (is_in one a b) (is_in other a b) e) [
-        | inl here ↦ wider one (record { x = x; y = y; w = right - x; h = bottom - y }) a b (omega arith) (omega arith) (omega arith) (omega arith) here
-        | inr here ↦ wider other (record { x = x; y = y; w = right - x; h = bottom - y }) a b (omega arith) (omega arith) (omega arith) (omega arith) here
-      ];
-      left = elim (cases_lt one.x other.x) [
-        | inl first ↦ (one.y, or_left (is_in one x one.y) (is_in other x one.y) (corner width height one p x one.y (omega arith) (omega arith) (omega arith) (omega arith)))
-        | inr second ↦ (other.y, or_right (is_in one x other.y) (is_in other x other.y) (corner width height other q x other.y (omega arith) (omega arith) (omega arith) (omega arith)))
-      ];
-      right = elim (cases_lt (other.x + other.w) (one.x + one.w)) [
-        | inl first ↦ (one.y, or_left (is_in one (x + (right - x) - 1) one.y) (is_in other (x + (right - x) - 1) one.y) (corner width height one p (x + (right - x) - 1) one.y (omega arith) (omega arith) (omega arith) (omega arith)))
-        | inr second ↦ (other.y, or_right (is_in one (x + (right - x) - 1) other.y) (is_in other (x + (right - x) - 1) other.y) (corner width height other q (x + (right - x) - 1) other.y (omega arith) (omega arith) (omega arith) (omega arith)))
-      ];
-      top = elim (cases_lt one.y other.y) [
-        | inl first ↦ (one.x, or_left (is_in one one.x y) (is_in other one.x y) (corner width height one p one.x y (omega arith) (omega arith) (omega arith) (omega arith)))
-        | inr second ↦ (other.x, or_right (is_in one other.x y) (is_in other other.x y) (corner width height other q other.x y (omega arith) (omega arith) (omega arith) (omega arith)))
-      ];
-      bottom = elim (cases_lt (other.y + other.h) (one.y + one.h)) [
-        | inl first ↦ (one.x, or_left (is_in one one.x (y + (bottom - y) - 1)) (is_in other one.x (y + (bottom - y) - 1)) (corner width height one p one.x (y + (bottom - y) - 1) (omega arith) (omega arith) (omega arith) (omega arith)))
-        | inr second ↦ (other.x, or_right (is_in one other.x (y + (bottom - y) - 1)) (is_in other other.x (y + (bottom - y) - 1)) (corner width height other q other.x (y + (bottom - y) - 1) (omega arith) (omega arith) (omega arith) (omega arith)))
-      ];
+      within = record {
+        columns = elim (or_parts (is_in one (area.x + area.w - 1) is.right.0) (is_in other (area.x + area.w - 1) is.right.0) is.right.1) [
+          | inl here ↦ (let high = (in_is one (area.x + area.w - 1) is.right.0 here).right in omega arith)
+          | inr here ↦ (let high = (in_is other (area.x + area.w - 1) is.right.0 here).right in omega arith)
+        ];
+        rows = elim (or_parts (is_in one is.bottom.0 (area.y + area.h - 1)) (is_in other is.bottom.0 (area.y + area.h - 1)) is.bottom.1) [
+          | inl here ↦ (let high = (in_is one is.bottom.0 (area.y + area.h - 1) here).bottom in omega arith)
+          | inr here ↦ (let high = (in_is other is.bottom.0 (area.y + area.h - 1) here).bottom in omega arith)
+        ];
+      };
+      across = omega arith;
+      down = omega arith;
     }
 
 -- a part by itself
@@ -70,10 +65,10 @@ part_itself width height area p =
     let pd = p.down in
     record {
       holds_each = λ x y e. e;
-      left = (area.y, corner width height area p area.x area.y (omega arith) (omega arith) (omega arith) (omega arith));
-      right = (area.y, corner width height area p (area.x + area.w - 1) area.y (omega arith) (omega arith) (omega arith) (omega arith));
-      top = (area.x, corner width height area p area.x area.y (omega arith) (omega arith) (omega arith) (omega arith));
-      bottom = (area.x, corner width height area p area.x (area.y + area.h - 1) (omega arith) (omega arith) (omega arith) (omega arith));
+      left = (area.y, corner area area.x area.y (omega arith) (omega arith) (omega arith) (omega arith));
+      right = (area.y, corner area (area.x + area.w - 1) area.y (omega arith) (omega arith) (omega arith) (omega arith));
+      top = (area.x, corner area area.x area.y (omega arith) (omega arith) (omega arith) (omega arith));
+      bottom = (area.x, corner area area.x (area.y + area.h - 1) (omega arith) (omega arith) (omega arith) (omega arith));
     }
 
 -- the stale places are those before and those of a part, and all else is as it was
@@ -81,23 +76,23 @@ pub record IsMarked (old mid : View) (marked : ℕ → ℕ → Bool) : Type 0 wh
   pub kept : mid ≡ record old { stale = mid.stale }
   pub stale : (x y : ℕ) → x < old.screen.width → y < old.screen.height → holds mid.stale x y ≡ (marked x y || stale_at old x y)
 
-pub asked_is : (old mid : View) (incremental : Bool) (area part pending : Area) → IsCut old.screen.width old.screen.height area (Some part)
+pub asked_is : (old mid : View) (incremental : Bool) (area part pending : Area) → HasJust (is_left old.screen.width old.screen.height area) part
     → IsMarked old mid (λ x y. not incremental && is_in part x y) → IsSmallest (λ a b. is_pending old.pending a b || is_in part a b) pending
     → IsAsked old (record mid { pending = Some pending }) incremental area
 asked_is old mid incremental area part pending cut marked smallest =
     let left : ℕ → ℕ → Bool = is_left old.screen.width old.screen.height area in
     let screen_wide : mid.screen.width ≡ old.screen.width = ap (λ (v : View). v.screen.width) marked.kept in
     let screen_high : mid.screen.height ≡ old.screen.height = ap (λ (v : View). v.screen.height) marked.kept in
-    let pa = cut.0.across in
-    let pd = cut.0.down in
+    let pa = cut.across in
+    let pd = cut.down in
     record {
       stale = λ x y across down.
           marked.stale x y (subst (λ (n : ℕ). x < n) screen_wide across) (subst (λ (n : ℕ). y < n) screen_high down)
-          ∙ ap (λ (b : Bool). (not incremental && b) || stale_at old x y) (cut.1 x y);
+          ∙ ap (λ (b : Bool). (not incremental && b) || stale_at old x y) (cut.just x y);
       pending = record {
         some = λ x y e. same_smallest (λ a b. is_pending old.pending a b || is_in part a b) (λ a b. is_pending old.pending a b || left a b)
-            (λ a b. ap (λ (t : Bool). is_pending old.pending a b || t) (cut.1 a b)) (Some pending) smallest;
-        none = λ out. absurd (out part.x part.y (sym (cut.1 part.x part.y) ∙ corner old.screen.width old.screen.height part cut.0 part.x part.y (omega arith) (omega arith) (omega arith) (omega arith)));
+            (λ a b. ap (λ (t : Bool). is_pending old.pending a b || t) (cut.just a b)) (Some pending) smallest;
+        none = λ out. absurd (out part.x part.y (sym (cut.just part.x part.y) ∙ corner part part.x part.y (omega arith) (omega arith) (omega arith) (omega arith)));
       };
       kept = ap (λ (v : View). record v { pending = Some pending }) marked.kept;
     }

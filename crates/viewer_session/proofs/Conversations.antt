@@ -9,7 +9,7 @@ use Rattle.terms.specs.Reading.{Got}
 use Rattle.terms.specs.Talk.{Talk}
 use Rattle.terms.proofs.Readings.{true_or_false}
 use Rattle.terms.specs.declared.area.Area.{Area}
-use Rattle.rect_codec.specs.Picture.{is_in}
+use Rattle.terms.specs.Area.{is_in}
 use Rattle.rect_codec.specs.Update.{all_painted}
 use Rattle.painter.specs.Framebuffer.{Framebuffer}
 use Rattle.painter.proofs.Places.{in_is}

@@ -1,6 +1,6 @@
-pub mod BitSets
-pub mod PlaceSets
 pub mod Views
+pub mod Zipped
+pub mod Sendings
 pub mod Answered
 pub mod Asked
 pub mod Handshakes

@@ -14,8 +14,8 @@ use Rattle.keyed_entries.specs.Entry.{hosts_of}
 use Rattle.gated_journal.specs.Recording.{Head}
 use Rattle.replay.specs.Screens.{IsScreenAt}
 use Rattle.painter.specs.Framebuffer as screens
-use Rattle.viewer_session.specs.Places as sets
-use Rattle.viewer_session.specs.Places.{PlaceSet, AreJust, holds}
+use Rattle.place_sets.specs.Places as sets
+use Rattle.place_sets.specs.Places.{PlaceSet, AreJust, holds}
 use Rattle.viewer_session.specs.declared.view.View.{View}
 use Rattle.viewer_session.specs.View.{IsRight, stale_at, is_touched, is_touched_by}
 

@@ -1,13 +1,30 @@
--- In which encoding a viewer is answered.
-use Rattle.std.specs.Prelude.{ℕ, List}
-use Rattle.pixel_format.specs.declared.Color.{Color}
+-- With which colours, and in which encoding, a viewer is answered.
+use Rattle.std.specs.Prelude.{◌≡◌, ℕ, List}
+use Rattle.std.specs.List.{AllZip}
+use Rattle.pixel_format.specs.Format.{Format}
 use Rattle.terms.specs.declared.area.Area.{Area}
-use Rattle.rect_codec.specs.Written.{IsUpdateFor}
+use Rattle.rect_data.specs.declared.encoding.Encoding.{Encoding}
+use Rattle.rect_codec.specs.declared.parts.Part.{Part}
+use Rattle.rect_codec.specs.declared.parts.Part.TheVariants as parts
+use Rattle.rect_codec.specs.Parts.{AreParts}
+use Rattle.painter.specs.Framebuffer.{Framebuffer}
 use Rattle.viewer_session.specs.declared.view.View.{View}
+use Rattle.viewer_session.specs.View.{AreConverted}
 
--- The update is written for one who asked for the view's encoding: in that, or in Raw where the
--- encoding would be longer or can't be written; with 0 in padding and in the bits of no channel.
+-- the part gives an area the screen's colours, in a format, for one who asked for an encoding
+abbrev pub IsScreenPart : Format → Encoding → Framebuffer → Area → Part → Type 0
+IsScreenPart f asked screen area (parts.Copy to x y) = ⊥
+IsScreenPart f asked screen area (parts.Colors of colors encoding) = (of ≡ area) × (encoding ≡ asked) × AreConverted f screen area colors.now
+
+-- An update of these areas of a screen, in their order, for one who asked for an encoding: each
+-- rectangle is in that, or in Raw where the encoding would be longer or can't be written; with 0 in
+-- padding and in the bits of no channel.
+pub record IsUpdateOf (f : Format) (asked : Encoding) (screen : Framebuffer) (areas : List Area) (update : List ℕ) : Type 0 where
+  pub parts : List Part
+  pub each : AllZip (IsScreenPart f asked screen) areas parts
+  pub are : AreParts f parts update
+
+-- the update is written for one who asked for the view's encoding
 pub record IsEncodedFor (v : View) (update : List ℕ) : Type 0 where
-  pub area : Area
-  pub colors : List Color
-  pub is : IsUpdateFor v.format area colors v.encoding update
+  pub areas : List Area
+  pub is : IsUpdateOf v.format v.encoding v.screen areas update

@@ -1,9 +1,8 @@
 pub use Rattle.terms.specs.Reading
 pub use Rattle.terms.specs.Talk
-pub mod Bits
-pub mod Places
 pub mod View
 pub mod Encoded
+pub mod Patches
 pub mod Fault
 pub mod Handshake
 pub mod Stage

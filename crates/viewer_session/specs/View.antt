@@ -1,5 +1,5 @@
 -- What a viewer has of a recording's screen, and what it lacks.
-use Rattle.std.specs.Prelude.{◌≡◌, ℕ, ℤ, ◌⊎◌, nat_lt, ◌+◌, ◌*◌, ◌<◌, ◌^◌, All, Bool, true, false, not, ◌&&◌, ◌||◌, List, [], ◌∷◌, length, Option, Some, None, IfSome}
+use Rattle.std.specs.Prelude.{◌≡◌, ℕ, ℤ, ◌⊎◌, nat_lt, ◌+◌, ◌*◌, ◌<◌, ◌^◌, All, Bool, true, false, not, ◌&&◌, ◌||◌, List, [], ◌∷◌, length, map, Option, Some, None, IfSome}
 use Rattle.std.specs.List.{AllByRecursion}
 use Rattle.pixel_format.specs.Format.{Format}
 use Rattle.pixel_format.specs.Pixel.{converted, IsWithin}
@@ -12,7 +12,7 @@ use Rattle.client_wire.specs.declared.message.ClientMessage.TheVariants as messa
 use Rattle.rect_data.specs.Data.{LiesWithin}
 use Rattle.rect_data.specs.declared.encoding.Encoding.TheVariants as encodings
 use Rattle.rect_codec.specs.Encoding.{StandsFirst, IsOther}
-use Rattle.rect_codec.specs.Picture.{is_in}
+use Rattle.terms.specs.Area.{is_in, IsSmallestOf}
 use Rattle.rect_codec.specs.Update.{Drawn, update_at, all_painted}
 use Rattle.rfb_wire.specs.declared.message.Rectangle.{Rectangle}
 use Rattle.painter.specs.Framebuffer.{Framebuffer, color_at}
@@ -21,7 +21,7 @@ use Rattle.keyed_entries.specs.declared.entry.Stamped.{Stamped}
 use Rattle.keyed_entries.specs.Entry.{IsStampedFor}
 use Rattle.replay.specs.Screens.{IsScreenAt}
 use Rattle.replay.specs.declared.slice.Slice.{Slice}
-use Rattle.viewer_session.specs.Places.{holds, IsSmallest, IsSmallestOf}
+use Rattle.place_sets.specs.Places.{holds, AreSent}
 use Rattle.viewer_session.specs.declared.view.View.{View}
 
 -- The place is stale: the viewer may not show its colour.
@@ -90,11 +90,6 @@ is_pending (Some area) x y = is_in area x y
 abbrev pub is_left : ℕ → ℕ → Area → ℕ → ℕ → Bool
 is_left width height area x y = is_in area x y && (nat_lt x width && nat_lt y height)
 
--- a screen's part of an area, if any
-abbrev pub IsCut : ℕ → ℕ → Area → Option Area → Type 0
-IsCut width height area None = (x y : ℕ) → is_left width height area x y ≡ true → ⊥
-IsCut width height area (Some part) = IsPart width height part × ((x y : ℕ) → is_in part x y ≡ is_left width height area x y)
-
 -- What is pending once an area was asked for: the smallest area that holds what was pending and
 -- what is left of this one; and what was pending, where nothing is left.
 pub record IsWidened (left : ℕ → ℕ → Bool) (old new : Option Area) : Type 0 where
@@ -137,10 +132,14 @@ pub record IsDue (v : View) : Type 0 where
   pub asked : is_pending v.pending x y ≡ true
   pub stale : stale_at v x y ≡ true
 
--- an update is due, and this is the smallest area that holds the stale places that are asked for
-pub record IsDueIn (v : View) (area : Area) : Type 0 where
-  pub started : v.started ≡ true
-  pub smallest : IsSmallest (λ x y. is_pending v.pending x y && stale_at v x y) area
+-- An update is due, and these are the areas by which the stale places are sent that are asked for: of
+-- each tile that has some the smallest that holds those, or one for all where there would be too
+-- many.
+pub record AreDueIn (v : View) (areas : List Area) : Type 0 where
+  pub due : IsDue v
+  pub pending : Area
+  pub pending_is : v.pending ≡ Some pending
+  pub sent : AreSent v.stale pending areas
 
 -- the colours of an area of a screen, by rows, in a format
 pub record AreConverted (f : Format) (screen : Framebuffer) (area : Area) (colors : List Color) : Type 0 where
@@ -171,8 +170,8 @@ pub record Answers (old new : View) (update : List ℕ) : Type 0 where
   -- nothing is asked for any more, and all else is as it was
   pub kept : new ≡ record old { stale = new.stale; pending = None }
 
--- the update has one rectangle: the smallest that holds the stale places that are asked for
-pub record IsOne (old : View) (update : List ℕ) : Type 0 where
-  pub drawn : Drawn
-  pub reads : update_at old.format old.screen.width old.screen.height update ≡ Got (drawn ∷ []) []
-  pub smallest : IsSmallest (λ x y. is_pending old.pending x y && stale_at old x y) drawn.area
+-- the update has a rectangle for each area in which it is due, in their order
+pub record HasAreasDue (old : View) (update : List ℕ) : Type 0 where
+  pub drawn : List Drawn
+  pub reads : update_at old.format old.screen.width old.screen.height update ≡ Got drawn []
+  pub are : AreDueIn old (map (λ d. d.area) drawn)

@@ -2,14 +2,13 @@
 //! updates that answer what it asks for (RFC 6143).
 #![tactic(auto)]
 
-mod bits;
 mod fault;
 mod greeting;
 mod handshake;
 mod laws;
-mod places;
 mod progress;
 mod session;
+mod update;
 mod view;
 
 pub use fault::SessionFault;

@@ -9,7 +9,7 @@ ghost use Rattle.keyed_entries.specs.declared.entry.Stamped.{Stamped};
 ghost use Rattle.replay.specs.Slices.{Stands};
 ghost use Rattle.client_wire.specs.declared.message.ClientMessage.{ClientMessage};
 ghost use Rattle.viewer_session.specs.Encoded.{IsEncodedFor};
-ghost use Rattle.viewer_session.specs.View.{IsRight, IsNext, AreStale, stale_at, is_stale_after, is_there, IsDue, Answers, IsOne};
+ghost use Rattle.viewer_session.specs.View.{IsRight, IsNext, AreStale, stale_at, is_stale_after, is_there, IsDue, Answers, HasAreasDue};
 ghost use Rattle.viewer_session.specs.Session.{IsAfter, closed_by};
 ghost use Rattle.viewer_session.specs.Feeding.{Takes, StopsIn, KeepsView};
 
@@ -181,14 +181,16 @@ impl Session {
     }
 
     /// Appends the handshake's answers that are due, each byte once, and then the update that is
-    /// due, in the encoding that the viewer asked for or in Raw, whose places are taken as clean.
-    /// Want of memory changes nothing. After a fault it still gives what was due.
+    /// due, whose places are taken as clean: a rectangle for each tile of 16 by 16 with stale places
+    /// that are asked for, or one for all where there would be more than 4,096, each in the encoding
+    /// that the viewer asked for or in Raw. Want of memory changes nothing. After a fault it still
+    /// gives what was due.
     pub fn answer(&mut self, out: &mut Vec<u8>) -> Result<(), NoMemory>
         ensures due { OnOk result (IsDue self.old.view
             → Appends (Answers self.old.view self.new.view)
             (out.old.items ++ self.old.due) out.new.items) }
-        ensures one { OnOk result (IsDue self.old.view
-            → Appends (IsOne self.old.view) (out.old.items ++ self.old.due) out.new.items) }
+        ensures areas { OnOk result (IsDue self.old.view
+            → Appends (HasAreasDue self.old.view) (out.old.items ++ self.old.due) out.new.items) }
         ensures encoded { OnOk result (IsDue self.old.view
             → Appends (IsEncodedFor self.old.view) (out.old.items ++ self.old.due) out.new.items) }
         ensures none { OnOk result ((IsDue self.old.view → ⊥)

@@ -1,11 +1,10 @@
 //! What a viewer has of a recording's screen, and what it lacks.
 
-ghost use Rattle.std.specs.Prelude.{◌≡◌, ◌+◌, ◌*◌, ◌<◌, ◌≤◌, ◌++◌, ◌||◌, ◌&&◌, not, ℕ, Bool, true, false, All, List, length, Option, None, IfOk, IfSome, OnOk, OnErr};
-ghost use Rattle.pixel_format.specs.Canvas.{Picture, nth};
+ghost use Rattle.std.specs.Prelude.{◌≡◌, ◌+◌, ◌*◌, ◌<◌, ◌≤◌, ◌++◌, ◌||◌, ◌&&◌, not, ℕ, Bool, true, false, All, List, [], length, Option, None, IfOk, IfSome, OnOk, OnErr};
+ghost use Rattle.pixel_format.specs.Canvas.{Picture};
 ghost use Rattle.pixel_format.specs.Format.{host_format};
-ghost use Rattle.pixel_format.specs.Pixel.{converted, IsScreenColor, IsWithin};
 ghost use Rattle.terms.specs.Appending.{Appends};
-ghost use Rattle.rect_codec.specs.Picture.{is_in};
+ghost use Rattle.terms.specs.Area.{is_in, IsSmallest};
 ghost use Rattle.rect_data.specs.Data.{LiesWithin};
 ghost use Rattle.rfb_wire.specs.Host.{Host};
 ghost use Rattle.painter.specs.Framebuffer.{color_at, Shows, SameSize as SameScreenSize};
@@ -13,16 +12,17 @@ ghost use Rattle.gated_journal.specs.Recording.{Head};
 ghost use Rattle.keyed_entries.specs.declared.entry.Stamped.{Stamped};
 ghost use Rattle.keyed_entries.specs.Entry.{hosts_of};
 ghost use Rattle.replay.specs.Slices.{Stands};
-ghost use Rattle.viewer_session.specs.Places.{holds, AreJust, SameSize, IsSmallest};
+ghost use Rattle.place_sets.specs.Places.{holds, AreJust, SameSize};
 ghost use Rattle.viewer_session.specs.Encoded.{IsEncodedFor};
-ghost use Rattle.viewer_session.specs.View.{IsRight, IsSound, IsNext, AreStale, stale_at, is_stale_after, is_there, is_touched, is_touched_by, is_pending, IsDue, IsDueIn, IsPart, IsCut, IsAsked, IsTaken, AreTaken, Answers, IsOne, AreConverted};
+ghost use Rattle.viewer_session.specs.View.{IsRight, IsSound, IsNext, AreStale, stale_at, is_stale_after, is_there, is_touched, is_touched_by, is_pending, IsDue, AreDueIn, IsPart, IsAsked, IsTaken, AreTaken, Answers, HasAreasDue};
 
-use crate::places::Places;
+use crate::update::write_areas;
 use client_wire::ClientMessage;
 use key_index::Stamped;
 use painter::Screen;
-use pixel_format::{Color, PixelFormat};
-use rect_codec::{pick, write_update, written_update_is_read};
+use pixel_format::PixelFormat;
+use place_sets::Places;
+use rect_codec::{pick, written_parts_are_read};
 use rect_data::Encoding;
 use replay::Slice;
 use rfb_wire::Rectangle;
@@ -78,38 +78,6 @@ fn paint_all(screen: &mut Screen, stale: &mut Places, messages: &[Stamped])
     }
 }
 
-// The part of an area that is on a screen of this size, if any.
-fn cut(width: u16, height: u16, area: Area) -> Option<Area>
-    ensures { IsCut width height area result }
-{
-    if area.x >= width || area.y >= height || area.w == 0 || area.h == 0 {
-        return None;
-    }
-    Some(Area {
-        x: area.x,
-        y: area.y,
-        w: area.w.min(width - area.x),
-        h: area.h.min(height - area.y),
-    })
-}
-
-// The smallest area that holds two parts of a screen.
-fn around(one: Area, other: Area, width: u16, height: u16) -> Area
-    requires one { IsPart width height one }
-    requires other { IsPart width height other }
-    ensures part { IsPart width height result }
-    ensures smallest { IsSmallest (λ x y. is_in one x y || is_in other x y) result }
-{
-    let x = one.x.min(other.x);
-    let y = one.y.min(other.y);
-    Area {
-        x,
-        y,
-        w: (one.x + one.w).max(other.x + other.w) - x,
-        h: (one.y + one.h).max(other.y + other.h) - y,
-    }
-}
-
 // What is pending once a part of the screen was asked for, beside what was.
 fn widened(pending: Option<Area>, area: Area, width: u16, height: u16) -> Area
     requires pending { IfSome pending (IsPart width height) }
@@ -118,38 +86,9 @@ fn widened(pending: Option<Area>, area: Area, width: u16, height: u16) -> Area
     ensures smallest { IsSmallest (λ x y. is_pending pending x y || is_in area x y) result }
 {
     match pending {
-        Some(pending) => around(pending, area, width, height),
+        Some(pending) => pending.around(area),
         None => area,
     }
-}
-
-// Converts colours into a format.
-fn convert_all(format: &PixelFormat, colors: &mut [Color])
-    requires { All IsScreenColor colors.old }
-    ensures within { (k : ℕ) → k < length colors.old → IsWithin format.now (nth colors.new k) }
-    ensures value { (k : ℕ) → k < length colors.old
-        → nth colors.new k ≡ converted format.now (nth colors.old k) }
-{
-    for color in colors.iter_mut() {
-        *color = format.convert(*color);
-    }
-}
-
-// The colours of an area, by rows, in a format.
-fn converted_area(
-    alloc: Global,
-    format: &PixelFormat,
-    screen: &Screen,
-    area: Area,
-) -> Result<Vec<Color>, NoMemory>
-    requires columns { area.x + area.w ≤ screen.now.width }
-    requires rows { area.y + area.h ≤ screen.now.height }
-    ensures { IfOk result (λ colors. AreConverted format.now screen.now area colors.items) }
-{
-    let mut colors = Vec::new(alloc);
-    screen.area(area, &mut colors)?;
-    convert_all(format, &mut colors);
-    Ok(colors)
 }
 
 impl View {
@@ -202,29 +141,29 @@ impl View {
         self.position = slice.end();
     }
 
-    // The area of the update that is due: the smallest that holds the stale places that are asked
-    // for.
-    fn due(&self) -> Option<Area>
+    // The areas in which an update is due, and none where none is.
+    fn due(&self, alloc: Global) -> Result<Vec<Area>, NoMemory>
         requires { IsSound self.now }
-        ensures none { result ≡ None → IsDue self.now → ⊥ }
-        ensures some { IfSome result (IsDueIn self.now) }
+        ensures none { IfOk result (λ areas. areas.items ≡ [] → IsDue self.now → ⊥) }
+        ensures some { IfOk result (λ areas. (areas.items ≡ [] → ⊥) → AreDueIn self.now areas.items) }
     {
-        if !self.started {
-            return None;
+        match self.pending {
+            Some(pending) if self.started => self.stale.areas(alloc, pending),
+            _ => Ok(Vec::new(alloc)),
         }
-        let pending = self.pending?;
-        self.stale.smallest(pending)
     }
 
-    /// Appends the update that is due, and takes its places as clean; nothing where none is due.
-    /// Want of memory changes nothing.
+    /// Appends the update that is due, and takes its places as clean; nothing where none is due. It
+    /// has a rectangle for each tile of 16 by 16 with stale places that are asked for, the smallest
+    /// that holds those; or one for all, where there would be more than 4,096. Want of memory changes
+    /// nothing.
     pub fn answer(&mut self, alloc: Global, out: &mut Vec<u8>) -> Result<(), NoMemory>
         requires sound { IsSound self.old }
         ensures sound { IsSound self.new }
         ensures due { OnOk result (IsDue self.old
             → Appends (Answers self.old self.new) out.old.items out.new.items) }
-        ensures one { OnOk result (IsDue self.old
-            → Appends (IsOne self.old) out.old.items out.new.items) }
+        ensures areas { OnOk result (IsDue self.old
+            → Appends (HasAreasDue self.old) out.old.items out.new.items) }
         ensures encoded { OnOk result (IsDue self.old
             → Appends (IsEncodedFor self.old) out.old.items out.new.items) }
         ensures none { OnOk result ((IsDue self.old → ⊥)
@@ -233,13 +172,21 @@ impl View {
         ensures screen { self.new.screen ≡ self.old.screen }
         ensures position { self.new.position ≡ self.old.position }
     {
-        if let Some(area) = self.due() {
-            let colors = converted_area(alloc, &self.format, &self.screen, area)?;
-            write_update(alloc, &self.format, area, &colors, self.encoding, out)?;
-            written_update_is_read();
-            self.stale.remove(area);
-            self.pending = None;
+        let areas = self.due(alloc)?;
+        if areas.is_empty() {
+            return Ok(());
         }
+        write_areas(
+            alloc,
+            &self.format,
+            self.encoding,
+            &self.screen,
+            &areas,
+            out,
+        )?;
+        written_parts_are_read();
+        self.stale.remove_all(&areas);
+        self.pending = None;
         Ok(())
     }
 
@@ -250,7 +197,7 @@ impl View {
         ensures asked { IsAsked self.old self.new incremental area }
     {
         let (width, height) = self.screen.size();
-        let Some(area) = cut(width, height, area) else {
+        let Some(area) = area.cut(width, height) else {
             return;
         };
         if !incremental {

@@ -302,6 +302,20 @@ fn encodings(rt: HostRuntime) -> Result<(), Fail> {
     Ok(())
 }
 
+// Seventeen places side by side stand in two tiles, and are answered by a rectangle for each.
+#[test]
+fn two_tiles(rt: HostRuntime) -> Result<(), Fail> {
+    let alloc = rt.alloc();
+    let mut session = started(alloc, 17, &RED)?;
+    feed(&mut session, b"\x03\0\0\0\0\0\0\x11\0\x01")?;
+    let answer = put_out(alloc, &mut session)?;
+    let first = answer.get(..20).unwrap_or_default();
+    assert!(rt; first == b"\0\0\0\x02\0\0\0\0\0\x10\0\x01\0\0\0\0\0\0\xff\0".as_slice());
+    let last = answer.get(80..).unwrap_or_default();
+    assert!(rt; last == b"\0\x10\0\0\0\x01\0\x01\0\0\0\0\0\0\0\0".as_slice());
+    Ok(())
+}
+
 // Requests that have no area, or lie off the screen, ask for nothing; one that leaves it is cut.
 // Thousands in one piece are one pending area.
 #[test]

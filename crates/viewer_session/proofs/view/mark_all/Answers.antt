@@ -1,8 +1,8 @@
 use Rattle.std.proofs.Common.{ℕ, ◌<◌, ◌∙◌, Bool, ap, get_or, subst}
 use Rattle.std.specs.Prelude.{◌||◌}
-use Rattle.rect_codec.specs.Picture.{is_in}
+use Rattle.terms.specs.Area.{is_in}
 use Rattle.painter.proofs.Order.{no_rectangle}
-use Rattle.viewer_session.specs.Places.{holds}
+use Rattle.place_sets.specs.Places.{holds}
 use Rattle.viewer_session.proofs.Views.{touched_more}
 use Rattle.viewer_session.proofs.view.mark_all.Goals as goal
 

@@ -1,6 +1,6 @@
 use Rattle.std.proofs.Common.{take}
 use Rattle.std.specs.Prelude.{◌||◌}
-use Rattle.viewer_session.specs.Places.{holds, AreJust, SameSize}
+use Rattle.place_sets.specs.Places.{holds, AreJust, SameSize}
 use Rattle.viewer_session.specs.View.{is_touched}
 use Rattle.viewer_session.proofs.view.mark_all.Given as goal
 

@@ -5,7 +5,7 @@ use Rattle.rfb_wire.specs.Host.{Host}
 use Rattle.painter.specs.Framebuffer.{color_at, Shows}
 use Rattle.keyed_entries.specs.declared.entry.Stamped.{Stamped}
 use Rattle.keyed_entries.specs.Entry.{hosts_of}
-use Rattle.viewer_session.specs.Places.{holds}
+use Rattle.place_sets.specs.Places.{holds}
 use Rattle.viewer_session.specs.View.{is_touched, is_touched_by}
 use Rattle.viewer_session.proofs.Views.{neither, untouched, by_more, marks_more, hosts_more}
 use Rattle.viewer_session.proofs.view.paint_all.Goals as goal

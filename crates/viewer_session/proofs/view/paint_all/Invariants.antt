@@ -4,7 +4,7 @@ use Rattle.rfb_wire.specs.Host.{Host}
 use Rattle.painter.specs.Framebuffer.{color_at, Shows}
 use Rattle.painter.specs.Framebuffer as screens
 use Rattle.keyed_entries.specs.Entry.{hosts_of}
-use Rattle.viewer_session.specs.Places.{holds, AreJust, SameSize}
+use Rattle.place_sets.specs.Places.{holds, AreJust, SameSize}
 use Rattle.viewer_session.specs.View.{is_touched_by}
 use Rattle.viewer_session.proofs.view.paint_all.Given as goal
 

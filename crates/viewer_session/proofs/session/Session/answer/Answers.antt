@@ -1,16 +1,16 @@
 use Rattle.std.proofs.Common.{List, ℕ, subst}
 use Rattle.terms.specs.Appending.{Appends}
 use Rattle.viewer_session.specs.Encoded.{IsEncodedFor}
-use Rattle.viewer_session.specs.View.{Answers, IsOne}
+use Rattle.viewer_session.specs.View.{Answers, HasAreasDue}
 use Rattle.viewer_session.proofs.session.Session.answer.Goals as goal
 
 pub returns-clause-due : goal.returns-clause-due
 returns-clause-due c = rw (← c.self.view_is) (λ due.
     subst (λ (o : List ℕ). Appends (Answers c.self.inside.view c.answer.new.self) o c.answer.new.out.items) c.in_ok-sent.ensures.ok (c.in_default.ensures.due due))
 
-pub returns-clause-one : goal.returns-clause-one
-returns-clause-one c = rw (← c.self.view_is) (λ due.
-    subst (λ (o : List ℕ). Appends (IsOne c.self.inside.view) o c.answer.new.out.items) c.in_ok-sent.ensures.ok (c.in_default.ensures.one due))
+pub returns-clause-areas : goal.returns-clause-areas
+returns-clause-areas c = rw (← c.self.view_is) (λ due.
+    subst (λ (o : List ℕ). Appends (HasAreasDue c.self.inside.view) o c.answer.new.out.items) c.in_ok-sent.ensures.ok (c.in_default.ensures.areas due))
 
 pub returns-clause-encoded : goal.returns-clause-encoded
 returns-clause-encoded c = rw (← c.self.view_is) (λ due.

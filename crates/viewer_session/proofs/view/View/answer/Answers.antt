@@ -1,46 +1,40 @@
-use Rattle.std.proofs.Common.{List, subst}
-use Rattle.pixel_format.specs.declared.Color.{Color}
-use Rattle.rect_codec.specs.Written.{IsUpdateFor}
-use Rattle.viewer_session.specs.Encoded.{IsEncodedFor}
-use Rattle.viewer_session.specs.View.{IsDueIn, stale_at}
-use Rattle.viewer_session.proofs.Answered.{within_screen, answers_one, is_one, appended}
+use Rattle.viewer_session.specs.Encoded.{IsUpdateOf}
+use Rattle.viewer_session.specs.View.{AreDueIn, HasAreasDue}
+use Rattle.viewer_session.proofs.Zipped.{appended}
+use Rattle.viewer_session.proofs.Answered.{due_within, answers_areas, has_areas, due_read, some_areas}
 use Rattle.viewer_session.proofs.view.View.answer.Goals as goal
 
-pub returns-in_ok-write_update-clause-due : goal.returns-in_ok-write_update-clause-due
-returns-in_ok-write_update-clause-due c = λ _.
+pub write_areas-requires-clause-within : goal.write_areas-requires-clause-within
+write_areas-requires-clause-within c =
     let v = c.args.self.now in
-    let area = c.in-Some.area in
-    let colors = c.in_ok-colors.colors.items in
-    let due : IsDueIn v area = c.in-Some.ensures.some in
-    let within = within_screen v.screen.width v.screen.height v.pending (stale_at v) area c.requires.sound.pending due.smallest in
-    appended (IsUpdateFor v.format area c.deref.result.now v.encoding) _ c.args.out.now.items c.write_update.new.out.items
+    let due : AreDueIn v c.in_ok-areas.areas.items = c.in_ok-areas.ensures.some (some_areas c.in_ok-areas.areas.items _ c.in_ok-areas.areas.ok.0 c.if-is_empty.ensures) in
+    rw c.deref.ensures.value (due_within v c.in_ok-areas.areas.items c.requires.sound due)
+
+pub remove_all-requires : goal.remove_all-requires
+remove_all-requires c =
+    let v = c.args.self.now in
+    let due : AreDueIn v c.in_ok-areas.areas.items = c.in_ok-areas.ensures.some (some_areas c.in_ok-areas.areas.items _ c.in_ok-areas.areas.ok.0 c.if-is_empty.ensures) in
+    rw (c.deref-2.ensures.value, c.requires.sound.width, c.requires.sound.height) (due_within v c.in_ok-areas.areas.items c.requires.sound due)
+
+pub returns-clause-due : goal.returns-clause-due
+returns-clause-due c = λ _.
+    let v = c.args.self.now in
+    let areas = c.in_ok-areas.areas.items in
+    let due : AreDueIn v areas = c.in_ok-areas.ensures.some (some_areas c.in_ok-areas.areas.items _ c.in_ok-areas.areas.ok.0 c.if-is_empty.ensures) in
+    appended (IsUpdateOf v.format v.encoding v.screen areas) _ c.args.out.now.items c.write_areas.new.out.items
     (λ update u.
-    let draws = c.written_update_is_read.ensures v.format v.screen.width v.screen.height area colors v.encoding update (subst (λ (cs : List Color). IsUpdateFor v.format area cs v.encoding update) c.deref.ensures.value u) within in
-    answers_one v area c.remove.new.self colors update c.requires.sound due c.in_ok-colors.ensures draws c.remove.ensures.size.width c.remove.ensures.size.height c.remove.ensures.just)
-    c.in_ok-write_update.ensures.ok
+    let read = due_read v areas update c.written_parts_are_read.ensures c.requires.sound due u in
+    answers_areas v areas c.remove_all.new.self update read.drawn c.requires.sound due read.reads read.are c.remove_all.ensures.size.width c.remove_all.ensures.size.height
+    (rw c.deref-2.ensures.value at c.remove_all.ensures.just))
+    (rw c.deref.ensures.value at c.in_ok-write_areas.ensures.ok)
 
-pub returns-in_ok-write_update-clause-one : goal.returns-in_ok-write_update-clause-one
-returns-in_ok-write_update-clause-one c = λ _.
+pub returns-clause-areas : goal.returns-clause-areas
+returns-clause-areas c = λ _.
     let v = c.args.self.now in
-    let area = c.in-Some.area in
-    let colors = c.in_ok-colors.colors.items in
-    let due : IsDueIn v area = c.in-Some.ensures.some in
-    let within = within_screen v.screen.width v.screen.height v.pending (stale_at v) area c.requires.sound.pending due.smallest in
-    appended (IsUpdateFor v.format area c.deref.result.now v.encoding) _ c.args.out.now.items c.write_update.new.out.items
+    let areas = c.in_ok-areas.areas.items in
+    let due : AreDueIn v areas = c.in_ok-areas.ensures.some (some_areas c.in_ok-areas.areas.items _ c.in_ok-areas.areas.ok.0 c.if-is_empty.ensures) in
+    appended (IsUpdateOf v.format v.encoding v.screen areas) (HasAreasDue v) c.args.out.now.items c.write_areas.new.out.items
     (λ update u.
-    let draws = c.written_update_is_read.ensures v.format v.screen.width v.screen.height area colors v.encoding update (subst (λ (cs : List Color). IsUpdateFor v.format area cs v.encoding update) c.deref.ensures.value u) within in
-    is_one v area colors update due draws)
-    c.in_ok-write_update.ensures.ok
-
-pub remove-requires : goal.remove-requires
-remove-requires c =
-    let v = c.args.self.now in
-    let due : IsDueIn v c.in-Some.area = c.in-Some.ensures.some in
-    rw (c.requires.sound.width, c.requires.sound.height) (within_screen v.screen.width v.screen.height v.pending (stale_at v) c.in-Some.area c.requires.sound.pending due.smallest)
-
-pub returns-in_ok-write_update-clause-encoded : goal.returns-in_ok-write_update-clause-encoded
-returns-in_ok-write_update-clause-encoded c = λ _.
-    let v = c.args.self.now in
-    appended (IsUpdateFor v.format c.in-Some.area c.deref.result.now v.encoding) (IsEncodedFor v) c.args.out.now.items c.write_update.new.out.items
-    (λ update u. record { area = c.in-Some.area; colors = c.deref.result.now; is = u })
-    c.in_ok-write_update.ensures.ok
+    let read = due_read v areas update c.written_parts_are_read.ensures c.requires.sound due u in
+    has_areas v areas update read.drawn due read.reads read.are)
+    (rw c.deref.ensures.value at c.in_ok-write_areas.ensures.ok)

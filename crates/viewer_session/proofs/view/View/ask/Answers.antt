@@ -1,11 +1,10 @@
 use Rattle.std.proofs.Common.{◌≡◌, ◌∙◌, true, false, sym, subst, ap, refl}
-use Rattle.std.specs.Prelude.{not, ◌||◌, ◌&&◌, Option, Some}
+use Rattle.std.specs.Prelude.{not, ◌||◌, ◌&&◌, Option}
 use Rattle.terms.specs.declared.area.Area.{Area}
-use Rattle.rect_codec.specs.Picture.{is_in}
-use Rattle.viewer_session.specs.Places.{IsSmallest}
+use Rattle.terms.specs.Area.{is_in, HasJust, IsSmallest}
 use Rattle.viewer_session.specs.declared.view.View.{View}
-use Rattle.viewer_session.specs.View.{IsCut, is_pending}
-use Rattle.viewer_session.proofs.Asked.{IsMarked, asked_is}
+use Rattle.viewer_session.specs.View.{is_left, is_pending}
+use Rattle.viewer_session.proofs.Asked.{IsMarked, asked_is, part_left}
 use Rattle.viewer_session.proofs.view.View.ask.Goals as goal
 use Rattle.viewer_session.proofs.view.View.ask.Goals.{then-not-incremental, else-not-incremental}
 
@@ -14,7 +13,7 @@ returns-clause-asked c =
     let old = c.args.self.now in
     let mid : View = c.if-not-incremental.self in
     let part = c.in-Some.area in
-    let cut : IsCut old.screen.width old.screen.height c.args.area (Some part) = rw c.size-width.ensures at c.in-Some.ensures in
+    let cut : HasJust (is_left old.screen.width old.screen.height c.args.area) part = rw c.size-width.ensures at c.in-Some.ensures in
     let marked : IsMarked old mid (λ x y. not c.args.incremental && is_in part x y) = elim c.if-not-incremental.branch [
       | then-not-incremental w ↦
           (let plain : c.args.incremental ≡ false = w.if-not-incremental.true in
@@ -33,3 +32,17 @@ returns-clause-asked c =
     let smallest : IsSmallest (λ a b. is_pending old.pending a b || is_in part a b) c.widened.result =
     subst (λ (p : Option Area). IsSmallest (λ a b. is_pending p a b || is_in part a b) c.widened.result) (ap (λ (v : View). v.pending) marked.kept) c.widened.ensures.smallest in
     asked_is old mid c.args.incremental c.args.area part c.widened.result cut marked smallest
+
+pub insert-requires : goal.insert-requires
+insert-requires c =
+    let old = c.args.self.now in
+    let part = c.in-Some.area in
+    let cut : HasJust (is_left old.screen.width old.screen.height c.args.area) part = rw c.size-width.ensures at c.in-Some.ensures in
+    rw (c.requires.sound.width, c.requires.sound.height) (part_left old.screen.width old.screen.height c.args.area part cut).within
+
+pub widened-requires-clause-area : goal.widened-requires-clause-area
+widened-requires-clause-area c =
+    let old = c.args.self.now in
+    let part = c.in-Some.area in
+    let cut : HasJust (is_left old.screen.width old.screen.height c.args.area) part = rw c.size-width.ensures at c.in-Some.ensures in
+    rw c.size-width.ensures (part_left old.screen.width old.screen.height c.args.area part cut)

@@ -1,0 +1,400 @@
+-- Places of an area, tile by tile and row by row.
+use Rattle.std.proofs.Common.{◌≡◌, ℕ, ◌+◌, ◌-◌, ◌*◌, ◌<◌, ◌≤◌, inl, inr, Bool, true, false, cond, List, length, nat_eq, nat_lt, ◌/◌, refl, sym, ap, ◌∙◌, arith, eqb-true, eq-eqb}
+use Rattle.std.specs.Prelude.{◌||◌, ◌&&◌, min, max, Option, Some, None, IfSome}
+use Rattle.std.proofs.lemmas.Bool.{cases_lt, cases_order, and_parts, ltb-true, lt-ltb, false_from_ne_true}
+use Rattle.std.proofs.Math.Nat.{mul-le-mul_left}
+use Rattle.terms.specs.declared.area.Area.{Area}
+use Rattle.terms.specs.Area.{is_in, HasJust, IsSmallest, IsSmallestOf}
+use Rattle.terms.proofs.Areas.{in_is, is_in_true, same_test, or_left, or_right, or_parts, both_true, same_smallest}
+use Rattle.place_sets.specs.Bits.{is_set, is_between, AreEnds, AreEndsOf}
+use Rattle.place_sets.specs.declared.bits.Ends.{Ends}
+use Rattle.place_sets.specs.Places.{tiles_of, tile_at, number_at, is_marked, IsSummary, IsRow, IsTilePart, HasTiles}
+use Rattle.place_sets.proofs.BitSets.{between_is, is_between_true, is_between_false}
+use Rattle.place_sets.proofs.Numbers.{further, row_between}
+use Rattle.place_sets.proofs.Rows.{rows, row_of, rows_more, chosen_twice}
+
+-- ---- a part of an area
+
+-- an area lies within another
+pub record IsWithin (outer inner : Area) : Type 0 where
+  pub left : outer.x ≤ inner.x
+  pub right : inner.x + inner.w ≤ outer.x + outer.w
+  pub top : outer.y ≤ inner.y
+  pub bottom : inner.y + inner.h ≤ outer.y + outer.h
+
+pub common_within : (one other part : Area) → HasJust (λ x y. is_in one x y && is_in other x y) part → IsWithin one part × IsWithin other part
+common_within one other part is =
+    let across = is.across in
+    let down = is.down in
+    let first : is_in part part.x part.y ≡ true = is_in_true part part.x part.y (record { left = omega arith; right = omega arith; top = omega arith; bottom = omega arith }) in
+    let last : is_in part (part.x + part.w - 1) (part.y + part.h - 1) ≡ true = is_in_true part (part.x + part.w - 1) (part.y + part.h - 1) (record { left = omega arith; right = omega arith; top = omega arith; bottom = omega arith }) in
+    let a = and_parts (is_in one part.x part.y) (is_in other part.x part.y) (sym (is.just part.x part.y) ∙ first) in
+    let b = and_parts (is_in one (part.x + part.w - 1) (part.y + part.h - 1)) (is_in other (part.x + part.w - 1) (part.y + part.h - 1)) (sym (is.just (part.x + part.w - 1) (part.y + part.h - 1)) ∙ last) in
+    let p = in_is one part.x part.y a.0 in
+    let q = in_is other part.x part.y a.1 in
+    let r = in_is one (part.x + part.w - 1) (part.y + part.h - 1) b.0 in
+    let s = in_is other (part.x + part.w - 1) (part.y + part.h - 1) b.1 in
+    let pl = p.left in
+    let pt = p.top in
+    let ql = q.left in
+    let qt = q.top in
+    let rr = r.right in
+    let rb = r.bottom in
+    let sr = s.right in
+    let sb = s.bottom in
+    (record { left = pl; right = omega arith; top = pt; bottom = omega arith }, record { left = ql; right = omega arith; top = qt; bottom = omega arith })
+
+-- the places of a tile
+abbrev pub square : ℕ → ℕ → Area
+square column row = record { x = 16 * column; y = 16 * row; w = 16; h = 16 }
+
+pub square_true : (column row x y : ℕ) → x / 16 ≡ column → y / 16 ≡ row → is_in (square column row) x y ≡ true
+square_true column row x y a d = is_in_true (square column row) x y (record { left = omega arith; right = omega arith; top = omega arith; bottom = omega arith })
+
+pub in_square : (column row x y : ℕ) → is_in (square column row) x y ≡ true → (x / 16 ≡ column) × (y / 16 ≡ row)
+in_square column row x y e =
+    let place = in_is (square column row) x y e in
+    let l = place.left in
+    let r = place.right in
+    let t = place.top in
+    let b = place.bottom in
+    (omega arith, omega arith)
+
+-- lists as long have as many bits
+pub as_long : (columns : ℕ) (area : Area) (words summary now new : List ℕ) → HasTiles columns area words summary → length now ≡ length words → length new ≡ length summary → HasTiles columns area now new
+as_long columns area words summary now new has a b = record {
+  few = has.few;
+  across = has.across;
+  wide = has.wide;
+  high = has.high;
+  bits = omega (arith, has.bits);
+  tiles = omega (arith, has.tiles);
+}
+
+-- the part of an area in a tile
+pub part_is : (columns column row : ℕ) (area part : Area) (words summary : List ℕ) → HasTiles columns area words summary → row < tiles_of (area.y + area.h)
+    → HasJust (λ x y. is_in area x y && is_in (square column row) x y) part → IsTilePart columns part words
+part_is columns column row area part words summary has low is =
+    let both = common_within area (square column row) part is in
+    let p = both.0 in
+    let q = both.1 in
+    let pr = p.right in
+    let pb = p.bottom in
+    let ql = q.left in
+    let qr = q.right in
+    let qt = q.top in
+    let qb = q.bottom in
+    let few = has.few in
+    let across = has.across in
+    let wide = has.wide in
+    let high = has.high in
+    let bits = has.bits in
+    let some = is.across in
+    let deep = is.down in
+    let level : part.y / 16 ≡ row = omega arith in
+    let column_is : part.x / 16 ≡ column = omega arith in
+    let less : column < columns = omega arith in
+    let same : part.y / 16 * columns ≡ row * columns = ap (λ (n : ℕ). n * columns) level in
+    let reach : row + 1 ≤ tiles_of (area.y + area.h) = omega arith in
+    let room : columns * (row + 1) ≤ columns * tiles_of (area.y + area.h) = mul-le-mul_left columns reach in
+    record { few = few; column = omega arith; row = omega arith; across = omega arith; wide = omega arith; high = omega arith; room = omega arith }
+
+pub part_tile : (columns column row : ℕ) (area part : Area) (words summary : List ℕ) → HasTiles columns area words summary → row < tiles_of (area.y + area.h)
+    → HasJust (λ x y. is_in area x y && is_in (square column row) x y) part → tile_at columns part.x part.y < 64 * length summary
+part_tile columns column row area part words summary has low is =
+    let both = common_within area (square column row) part is in
+    let p = both.0 in
+    let q = both.1 in
+    let pr = p.right in
+    let ql = q.left in
+    let qr = q.right in
+    let qt = q.top in
+    let qb = q.bottom in
+    let across = has.across in
+    let tiles = has.tiles in
+    let some = is.across in
+    let deep = is.down in
+    let level : part.y / 16 ≡ row = omega arith in
+    let column_is : part.x / 16 ≡ column = omega arith in
+    let less : column < columns = omega arith in
+    let same : part.y / 16 * columns ≡ row * columns = ap (λ (n : ℕ). n * columns) level in
+    let reach : row + 1 ≤ tiles_of (area.y + area.h) = omega arith in
+    let room : columns * (row + 1) ≤ columns * tiles_of (area.y + area.h) = mul-le-mul_left columns reach in
+    omega arith
+
+-- ---- filling
+
+-- more places are filled
+pub filled_more : (a b c value before old new : Bool) → new ≡ cond b value old → old ≡ cond a value before → (a || b) ≡ c → new ≡ cond c value before
+filled_more a b c value before old new filled so_far is =
+    filled ∙ ap (λ (z : Bool). cond b value z) so_far ∙ chosen_twice a b value before ∙ ap (λ (z : Bool). cond z value before) is
+
+-- the tile of the filled part is summed up
+pub summed : (columns : ℕ) (part : Area) (words now summary new : List ℕ) (value some : Bool) → IsTilePart columns part words
+    → ((x y : ℕ) → x < 16 * columns → is_marked columns now x y ≡ cond (is_in part x y) value (is_marked columns words x y))
+    → ((k : ℕ) → is_set new k ≡ cond (is_between (tile_at columns part.x part.y) (tile_at columns part.x part.y + 1) k) some (is_set summary k))
+    → ((k : ℕ) → (is_between (tile_at columns part.x part.y * 256) ((tile_at columns part.x part.y + 1) * 256) k && is_set now k) ≡ true → some ≡ true)
+    → IsSummary columns words summary → IsSummary columns now new
+summed columns part words now summary new value some is filled put has are x y across marked =
+    let tile = tile_at columns part.x part.y in
+    elim (cases_order (tile_at columns x y) tile) [
+      | inl same ↦
+          (let here : is_between tile (tile + 1) (tile_at columns x y) ≡ true = is_between_true tile (tile + 1) (tile_at columns x y) (omega arith) (omega arith) in
+          let bit : is_between (tile * 256) ((tile + 1) * 256) (number_at columns x y) ≡ true = is_between_true (tile * 256) ((tile + 1) * 256) (number_at columns x y) (omega arith) (omega arith) in
+          put (tile_at columns x y) ∙ ap (λ (z : Bool). cond z some (is_set summary (tile_at columns x y))) here ∙ has (number_at columns x y) (both_true _ _ bit marked))
+      | inr other ↦
+          (let off : tile_at columns x y ≡ tile → ⊥ = λ e. elim other [ inl less ↦ absurd (omega arith) | inr more ↦ absurd (omega arith) ] in
+          let away : is_between tile (tile + 1) (tile_at columns x y) ≡ false = is_between_false tile (tile + 1) (tile_at columns x y) (λ b. let above = b.above in let below = b.below in off (omega arith)) in
+          let out : is_in part x y ≡ false = false_from_ne_true (is_in part x y) (λ e.
+          let place = in_is part x y e in
+          let l = place.left in
+          let r = place.right in
+          let t = place.top in
+          let b = place.bottom in
+          let column = is.column in
+          let row = is.row in
+          let level : y / 16 ≡ part.y / 16 = omega arith in
+          let even : y / 16 * columns ≡ part.y / 16 * columns = ap (λ (n : ℕ). n * columns) level in
+          off (omega arith)) in
+          let old : is_marked columns words x y ≡ true = sym (filled x y across ∙ ap (λ (z : Bool). cond z value (is_marked columns words x y)) out) ∙ marked in
+          put (tile_at columns x y) ∙ ap (λ (z : Bool). cond z some (is_set summary (tile_at columns x y))) away ∙ are x y across old)
+    ]
+
+pub eq_true : (n : ℕ) → nat_eq n n ≡ true
+eq_true n = eq-eqb n n refl
+
+-- the places of a row of tiles up to a column of tiles, and those of the next tile
+pub tiles_more : (area : Area) (column row x y : ℕ)
+    → ((is_in area x y && (nat_eq (y / 16) row && nat_lt (x / 16) column)) || (is_in area x y && is_in (square column row) x y)) ≡ (is_in area x y && (nat_eq (y / 16) row && nat_lt (x / 16) (column + 1)))
+tiles_more area column row x y =
+    same_test ((is_in area x y && (nat_eq (y / 16) row && nat_lt (x / 16) column)) || (is_in area x y && is_in (square column row) x y)) (is_in area x y && (nat_eq (y / 16) row && nat_lt (x / 16) (column + 1)))
+    (λ e. elim (or_parts (is_in area x y && (nat_eq (y / 16) row && nat_lt (x / 16) column)) (is_in area x y && is_in (square column row) x y) e) [
+      | inl before ↦
+          (let a = and_parts (is_in area x y) (nat_eq (y / 16) row && nat_lt (x / 16) column) before in
+          let b = and_parts (nat_eq (y / 16) row) (nat_lt (x / 16) column) a.1 in
+          let less = ltb-true (x / 16) column b.1 in
+          both_true _ _ a.0 (both_true _ _ b.0 (lt-ltb (x / 16) (column + 1) (omega arith))))
+      | inr here ↦
+          (let a = and_parts (is_in area x y) (is_in (square column row) x y) here in
+          let at = in_square column row x y a.1 in
+          let across = at.0 in
+          both_true _ _ a.0 (both_true _ _ (rw (at.1) (eq_true row)) (lt-ltb (x / 16) (column + 1) (omega arith))))
+    ])
+    (λ e. let a = and_parts (is_in area x y) (nat_eq (y / 16) row && nat_lt (x / 16) (column + 1)) e in
+    let b = and_parts (nat_eq (y / 16) row) (nat_lt (x / 16) (column + 1)) a.1 in
+    let less = ltb-true (x / 16) (column + 1) b.1 in
+    elim (cases_lt (x / 16) column) [
+      | inl before ↦ or_left _ _ (both_true _ _ a.0 (both_true _ _ b.0 (lt-ltb (x / 16) column before)))
+      | inr behind ↦ or_right _ _ (both_true _ _ a.0 (square_true column row x y (omega arith) (eqb-true (y / 16) row b.0)))
+    ])
+
+-- the places of rows of tiles, and those of the next one
+pub rows_of_tiles : (area : Area) (row x y : ℕ) → ((is_in area x y && nat_lt (y / 16) row) || (is_in area x y && nat_eq (y / 16) row)) ≡ (is_in area x y && nat_lt (y / 16) (row + 1))
+rows_of_tiles area row x y =
+    same_test ((is_in area x y && nat_lt (y / 16) row) || (is_in area x y && nat_eq (y / 16) row)) (is_in area x y && nat_lt (y / 16) (row + 1))
+    (λ e. elim (or_parts (is_in area x y && nat_lt (y / 16) row) (is_in area x y && nat_eq (y / 16) row) e) [
+      | inl before ↦
+          (let a = and_parts (is_in area x y) (nat_lt (y / 16) row) before in
+          let less = ltb-true (y / 16) row a.1 in
+          both_true _ _ a.0 (lt-ltb (y / 16) (row + 1) (omega arith)))
+      | inr here ↦
+          (let a = and_parts (is_in area x y) (nat_eq (y / 16) row) here in
+          let at = eqb-true (y / 16) row a.1 in
+          both_true _ _ a.0 (lt-ltb (y / 16) (row + 1) (omega arith)))
+    ])
+    (λ e. let a = and_parts (is_in area x y) (nat_lt (y / 16) (row + 1)) e in
+    let less = ltb-true (y / 16) (row + 1) a.1 in
+    elim (cases_lt (y / 16) row) [
+      | inl before ↦ or_left _ _ (both_true _ _ a.0 (lt-ltb (y / 16) row before))
+      | inr behind ↦ (let level : y / 16 ≡ row = omega arith in or_right _ _ (both_true _ _ a.0 (rw level (eq_true row))))
+    ])
+
+-- nothing stands in a tile beside the area
+pub none_there : (area : Area) (column row x y : ℕ) → ((a b : ℕ) → (is_in area a b && is_in (square column row) a b) ≡ true → ⊥) → (is_in area x y && is_in (square column row) x y) ≡ false
+none_there area column row x y none = false_from_ne_true (is_in area x y && is_in (square column row) x y) (none x y)
+
+-- no place stands left of an area's first tile, or above it
+pub none_left : (area : Area) (row x y : ℕ) → (is_in area x y && (nat_eq (y / 16) row && nat_lt (x / 16) (area.x / 16))) ≡ false
+none_left area row x y = false_from_ne_true _ (λ e.
+    let a = and_parts (is_in area x y) (nat_eq (y / 16) row && nat_lt (x / 16) (area.x / 16)) e in
+    let b = and_parts (nat_eq (y / 16) row) (nat_lt (x / 16) (area.x / 16)) a.1 in
+    let less = ltb-true (x / 16) (area.x / 16) b.1 in
+    let l = (in_is area x y a.0).left in
+    absurd (omega arith))
+
+pub none_above : (area : Area) (x y : ℕ) → (is_in area x y && nat_lt (y / 16) (area.y / 16)) ≡ false
+none_above area x y = false_from_ne_true _ (λ e.
+    let a = and_parts (is_in area x y) (nat_lt (y / 16) (area.y / 16)) e in
+    let less = ltb-true (y / 16) (area.y / 16) a.1 in
+    let t = (in_is area x y a.0).top in
+    absurd (omega arith))
+
+-- all its places stand in its tiles
+pub all_left : (area : Area) (row x y column : ℕ) → tiles_of (area.x + area.w) ≤ column → (is_in area x y && (nat_eq (y / 16) row && nat_lt (x / 16) column)) ≡ (is_in area x y && nat_eq (y / 16) row)
+all_left area row x y column le =
+    same_test (is_in area x y && (nat_eq (y / 16) row && nat_lt (x / 16) column)) (is_in area x y && nat_eq (y / 16) row)
+    (λ e. let a = and_parts (is_in area x y) (nat_eq (y / 16) row && nat_lt (x / 16) column) e in
+    both_true _ _ a.0 (and_parts (nat_eq (y / 16) row) (nat_lt (x / 16) column) a.1).0)
+    (λ e. let a = and_parts (is_in area x y) (nat_eq (y / 16) row) e in
+    let r = (in_is area x y a.0).right in
+    both_true _ _ a.0 (both_true _ _ a.1 (lt-ltb (x / 16) column (omega arith))))
+
+pub all_above : (area : Area) (x y row : ℕ) → tiles_of (area.y + area.h) ≤ row → (is_in area x y && nat_lt (y / 16) row) ≡ is_in area x y
+all_above area x y row le =
+    same_test (is_in area x y && nat_lt (y / 16) row) (is_in area x y)
+    (λ e. (and_parts (is_in area x y) (nat_lt (y / 16) row) e).0)
+    (λ e. let b = (in_is area x y e).bottom in
+    both_true _ _ e (lt-ltb (y / 16) row (omega arith)))
+
+-- ---- the smallest area
+
+pub if_some : (P Q : Area → Type 0) → ((a : Area) → P a → Q a) → (o : Option Area) → IfSome o P → IfSome o Q
+if_some P Q then None is = tt
+if_some P Q then (Some a) is = then a is
+
+-- nothing is added
+pub none_added : (p q : ℕ → ℕ → Bool) → ((x y : ℕ) → q x y ≡ true → ⊥) → (o : Option Area) → IsSmallestOf p o → IsSmallestOf (λ x y. p x y || q x y) o
+none_added p q none o is = same_smallest p (λ x y. p x y || q x y) (λ x y. same_test (p x y) (p x y || q x y) (or_left (p x y) (q x y)) (λ e. elim (or_parts (p x y) (q x y) e) [
+  | inl old ↦ old
+  | inr new ↦ absurd (none x y new)
+])) o is
+
+-- a row where there was nothing
+pub first_row : (p q : ℕ → ℕ → Bool) (left right y : ℕ) → left ≤ right → IsSmallestOf p None → IsRow q left right y
+    → IsSmallest (λ a b. p a b || q a b) (record { x = left; y = y; w = right - left + 1; h = 1 })
+first_row p q left right y order none row =
+    let last : left + (right - left + 1) - 1 ≡ right = omega arith in
+    let level : y + 1 - 1 ≡ y = omega arith in
+    record {
+      holds_each = λ a b e. elim (or_parts (p a b) (q a b) e) [
+        | inl old ↦ absurd (none a b old)
+        | inr new ↦
+            (let same = row.level a b new in
+            let ends = row.between a b new in
+            let low = ends.0 in
+            let high = ends.1 in
+            is_in_true (record { x = left; y = y; w = right - left + 1; h = 1 }) a b (record { left = low; right = omega arith; top = omega arith; bottom = omega arith }))
+      ];
+      left = (y, or_right (p left y) (q left y) row.first);
+      right = (y, rw last (or_right (p right y) (q right y) row.last));
+      top = (left, or_right (p left y) (q left y) row.first);
+      bottom = (left, rw level (or_right (p left y) (q left y) row.first));
+    }
+
+-- a row behind an area
+pub more_row : (p q : ℕ → ℕ → Bool) (area : Area) (left right y x end : ℕ) → left ≤ right → area.y + area.h ≤ y → x ≡ min area.x left → end ≡ max (area.x + area.w) (right + 1)
+    → IsSmallest p area → IsRow q left right y
+    → IsSmallest (λ a b. p a b || q a b) (record { x = x; y = area.y; w = end - x; h = y + 1 - area.y })
+more_row p q area left right y x end order above x_is end_is is row =
+    let corner = in_is area area.x is.left.0 (is.holds_each area.x is.left.0 is.left.1) in
+    let some : 0 < area.w = omega (arith, corner.right) in
+    let high : 0 < area.h = omega (arith, corner.top, corner.bottom) in
+    let level : area.y + (y + 1 - area.y) - 1 ≡ y = omega arith in
+    let width : x + (end - x) ≡ end = omega arith in
+    record {
+      holds_each = λ a b e. elim (or_parts (p a b) (q a b) e) [
+        | inl old ↦
+            (let place = in_is area a b (is.holds_each a b old) in
+            let l = place.left in
+            let r = place.right in
+            let t = place.top in
+            let u = place.bottom in
+            is_in_true (record { x = x; y = area.y; w = end - x; h = y + 1 - area.y }) a b (record { left = omega arith; right = omega arith; top = t; bottom = omega arith }))
+        | inr new ↦
+            (let same = row.level a b new in
+            let ends = row.between a b new in
+            let l = ends.0 in
+            let r = ends.1 in
+            is_in_true (record { x = x; y = area.y; w = end - x; h = y + 1 - area.y }) a b (record { left = omega arith; right = omega arith; top = omega arith; bottom = omega arith }))
+      ];
+      left = elim (cases_lt left area.x) [
+        | inl before ↦ (let at : x ≡ left = omega arith in (y, rw at (or_right (p left y) (q left y) row.first)))
+        | inr behind ↦ (let at : x ≡ area.x = omega arith in (is.left.0, rw at (or_left (p area.x is.left.0) (q area.x is.left.0) is.left.1)))
+      ];
+      right = elim (cases_lt right (area.x + area.w)) [
+        | inl before ↦ (let at : x + (end - x) - 1 ≡ area.x + area.w - 1 = omega arith in (is.right.0, rw at (or_left (p (area.x + area.w - 1) is.right.0) (q (area.x + area.w - 1) is.right.0) is.right.1)))
+        | inr behind ↦ (let at : x + (end - x) - 1 ≡ right = omega arith in (y, rw at (or_right (p right y) (q right y) row.last)))
+      ];
+      top = (is.top.0, or_left (p is.top.0 area.y) (q is.top.0 area.y) is.top.1);
+      bottom = (left, rw level (or_right (p left y) (q left y) row.first));
+    }
+
+-- ---- the places of a row that have a 1
+
+pub row_is : (words : List ℕ) (columns : ℕ) (part : Area) (row from : ℕ) (ends : Ends) → IsTilePart columns part words → row < part.h → from ≡ number_at columns part.x part.y + row * 16
+    → AreEnds (λ k. is_between from (from + part.w) k && is_set words k) ends
+    → IsRow (λ a b. is_in (row_of part row) a b && is_marked columns words a b) (part.x + (ends.first - from)) (part.x + (ends.last - from)) (part.y + row)
+row_is words columns part row from ends is low from_is are =
+    let fits = is.column in
+    let deep = is.row in
+    let across = is.across in
+    let p = and_parts (is_between from (from + part.w) ends.first) (is_set words ends.first) are.first in
+    let q = and_parts (is_between from (from + part.w) ends.last) (is_set words ends.last) are.last in
+    let a = between_is from (from + part.w) ends.first p.0 in
+    let b = between_is from (from + part.w) ends.last q.0 in
+    let a_low = a.above in
+    let a_high = a.below in
+    let b_low = b.above in
+    let b_high = b.below in
+    let first_at : number_at columns (part.x + (ends.first - from)) (part.y + row) ≡ ends.first = omega (arith, further columns part.x part.y row (ends.first - from) (omega arith) (omega arith)) in
+    let last_at : number_at columns (part.x + (ends.last - from)) (part.y + row) ≡ ends.last = omega (arith, further columns part.x part.y row (ends.last - from) (omega arith) (omega arith)) in
+    record {
+      first = both_true _ _ (is_in_true (row_of part row) (part.x + (ends.first - from)) (part.y + row) (record { left = omega arith; right = omega arith; top = omega arith; bottom = omega arith })) (ap (is_set words) first_at ∙ p.1);
+      last = both_true _ _ (is_in_true (row_of part row) (part.x + (ends.last - from)) (part.y + row) (record { left = omega arith; right = omega arith; top = omega arith; bottom = omega arith })) (ap (is_set words) last_at ∙ q.1);
+      level = λ x y e.
+          let place = in_is (row_of part row) x y (and_parts (is_in (row_of part row) x y) (is_marked columns words x y) e).0 in
+          let t = place.top in
+          let u = place.bottom in
+          omega arith;
+      between = λ x y e.
+          let parts = and_parts (is_in (row_of part row) x y) (is_marked columns words x y) e in
+          let place = in_is (row_of part row) x y parts.0 in
+          let l = place.left in
+          let r = place.right in
+          let t = place.top in
+          let u = place.bottom in
+          let n = x - part.x in
+          let column : part.x + n ≡ x = omega arith in
+          let level : part.y + row ≡ y = omega arith in
+          let number : number_at columns x y ≡ from + n = rw (column, level) at (further columns part.x part.y row n (omega arith) (omega arith)) ∙ ap (λ (k : ℕ). k + n) (sym from_is) in
+          let at = are.between (number_at columns x y) (both_true _ _ (is_between_true from (from + part.w) (number_at columns x y) (omega (arith, number)) (omega (arith, number))) parts.1) in
+          let first = at.0 in
+          let last = at.1 in
+          (omega (arith, number), omega (arith, number));
+    }
+
+pub none_in_row : (words : List ℕ) (columns : ℕ) (part : Area) (row from : ℕ) → IsTilePart columns part words → row < part.h → from ≡ number_at columns part.x part.y + row * 16
+    → AreEndsOf (λ k. is_between from (from + part.w) k && is_set words k) None → (x y : ℕ) → (is_in (row_of part row) x y && is_marked columns words x y) ≡ true → ⊥
+none_in_row words columns part row from is low from_is none x y e =
+    let fits = is.column in
+    let deep = is.row in
+    let across = is.across in
+    let parts = and_parts (is_in (row_of part row) x y) (is_marked columns words x y) e in
+    let place = in_is (row_of part row) x y parts.0 in
+    let l = place.left in
+    let r = place.right in
+    let within : x < 16 * columns = omega arith in
+    let here = row_between columns row part x y fits (omega arith) across within ∙ parts.0 in
+    none (number_at columns x y) (both_true _ _ (rw (← from_is) at here) parts.1)
+
+either_and : (a b s : Bool) → ((a && s) || (b && s)) ≡ ((a || b) && s)
+either_and true true true = refl
+either_and true true false = refl
+either_and true false true = refl
+either_and true false false = refl
+either_and false true true = refl
+either_and false true false = refl
+either_and false false true = refl
+either_and false false false = refl
+
+-- the first rows, and the next one
+pub rows_looked : (q : ℕ → ℕ → Bool) (area : Area) (row : ℕ) (o : Option Area) → IsSmallestOf (λ x y. (is_in (rows area row) x y && q x y) || (is_in (row_of area row) x y && q x y)) o
+    → IsSmallestOf (λ x y. is_in (rows area (row + 1)) x y && q x y) o
+rows_looked q area row o is =
+    same_smallest (λ x y. (is_in (rows area row) x y && q x y) || (is_in (row_of area row) x y && q x y)) (λ x y. is_in (rows area (row + 1)) x y && q x y)
+    (λ x y. either_and (is_in (rows area row) x y) (is_in (row_of area row) x y) (q x y) ∙ ap (λ (b : Bool). b && q x y) (rows_more area row x y)) o is
+
+-- the row's last place lies in the part
+pub row_right : (q : ℕ → ℕ → Bool) (area : Area) (row left right y : ℕ) → IsRow (λ a b. is_in (row_of area row) a b && q a b) left right y → right < area.x + area.w
+row_right q area row left right y is =
+    (in_is (row_of area row) right y (and_parts (is_in (row_of area row) right y) (q right y) is.last).0).right

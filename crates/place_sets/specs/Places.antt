@@ -1,0 +1,157 @@
+-- Sets of places of a screen, and its tiles.
+use Rattle.std.specs.Prelude.{◌≡◌, ℕ, ◌⊎◌, ◌+◌, ◌*◌, ◌/◌, ◌%◌, ◌<◌, ◌≤◌, ◌^◌, Bool, false, true, ◌&&◌, ◌||◌, nat_eq, List, [], ◌∷◌, length, map, slice_index_or}
+use Rattle.std.specs.List.{range_with_len}
+use Rattle.terms.specs.declared.area.Area.{Area}
+use Rattle.terms.specs.Area.{is_in, HasPlaces, IsSmallest}
+use Rattle.place_sets.specs.Bits.{is_set}
+use Rattle.place_sets.specs.declared.places.TilePart.{TilePart}
+
+-- of a screen of this size, by rows from the top and the left, whether each place is in the set
+pub record PlaceSet : Type 0 where
+  pub width : ℕ
+  pub height : ℕ
+  pub places : List Bool
+
+-- the place is in the set
+abbrev pub holds : PlaceSet → ℕ → ℕ → Bool
+holds set x y = slice_index_or set.places (y * set.width + x) false
+
+-- just the places that pass this test are in the set
+abbrev pub AreJust : PlaceSet → (ℕ → ℕ → Bool) → Type 0
+AreJust set p = (x y : ℕ) → x < set.width → y < set.height → holds set x y ≡ p x y
+
+-- the sets are of screens of one size
+pub record SameSize (old new : PlaceSet) : Type 0 where
+  pub width : new.width ≡ old.width
+  pub height : new.height ≡ old.height
+
+-- ---- tiles
+
+-- how many tiles of 16 places stand side by side, or one below another, where the last may reach
+-- beyond the screen
+abbrev pub tiles_of : ℕ → ℕ
+tiles_of length = (length + 15) / 16
+
+-- how many a screen has
+abbrev pub tile_count : PlaceSet → ℕ
+tile_count set = tiles_of set.height * tiles_of set.width
+
+-- the number of the tile that has a place, by rows of so many tiles from the top, each from the left
+abbrev pub tile_at : ℕ → ℕ → ℕ → ℕ
+tile_at columns x y = (y / 16) * columns + x / 16
+
+-- of a place of a set's screen
+abbrev pub tile_of : PlaceSet → ℕ → ℕ → ℕ
+tile_of set x y = tile_at (tiles_of set.width) x y
+
+-- a place of the set that lies in an area, in the tile of this number
+abbrev pub is_in_tile : PlaceSet → ℕ → Area → ℕ → ℕ → Bool
+is_in_tile set tile area x y = is_in area x y && (nat_eq (tile_of set x y) tile && holds set x y)
+
+-- The first tile, from this number on, that has a place of the set in an area, and the smallest area
+-- that holds those.
+pub record IsFirstTile (set : PlaceSet) (from : ℕ) (area : Area) (part : TilePart) : Type 0 where
+  pub from_on : from ≤ part.tile
+  pub within : part.tile < tile_count set
+  pub few : part.tile < 2 ^ 24
+  pub places : HasPlaces part.area
+  pub smallest : IsSmallest (is_in_tile set part.tile area) part.area
+  pub first : (x y : ℕ) → is_in area x y ≡ true → holds set x y ≡ true → from ≤ tile_of set x y → part.tile ≤ tile_of set x y
+
+-- no tile from this number on has one
+abbrev pub HasNoTile : PlaceSet → ℕ → Area → Type 0
+HasNoTile set from area = (x y : ℕ) → is_in area x y ≡ true → holds set x y ≡ true → tile_of set x y < from
+
+-- The areas of the first tiles, one behind another, that have a place of the set in an area: those
+-- from one number on to before another, and of each tile the smallest area that holds its places.
+abbrev pub AreFirstTiles : PlaceSet → Area → ℕ → ℕ → List Area → Type 0
+AreFirstTiles set area from end [] = from ≡ end
+AreFirstTiles set area from end (first ∷ others) =
+    (tile : ℕ) × IsFirstTile set from area (record { tile = tile; area = first }) × AreFirstTiles set area (tile + 1) end others
+
+-- an area for each tile, of which there are at most 4,096
+pub record AreOfTiles (set : PlaceSet) (area : Area) (areas : List Area) : Type 0 where
+  pub end : ℕ
+  pub first : AreFirstTiles set area 0 end areas
+  pub none_left : HasNoTile set end area
+  pub few : length areas ≤ 4096
+
+-- one area alone, the smallest that holds the places of the set in an area
+pub record IsAlone (set : PlaceSet) (area : Area) (areas : List Area) : Type 0 where
+  pub one : Area
+  pub areas_are : areas ≡ one ∷ []
+  pub smallest : IsSmallest (λ x y. is_in area x y && holds set x y) one
+
+-- in place of those of more than 4,096 tiles
+pub record IsForMany (set : PlaceSet) (area : Area) (areas : List Area) : Type 0 where
+  pub tiles : List Area
+  pub end : ℕ
+  pub first : AreFirstTiles set area 0 end tiles
+  pub many : 4096 < length tiles
+  pub alone : IsAlone set area areas
+
+-- the areas by which the places of the set in an area are sent
+abbrev pub AreSent : PlaceSet → Area → List Area → Type 0
+AreSent set area areas = AreOfTiles set area areas ⊎ IsForMany set area areas
+
+-- one of the areas has the place
+abbrev pub is_in_some : List Area → ℕ → ℕ → Bool
+is_in_some [] x y = false
+is_in_some (area ∷ others) x y = is_in area x y || is_in_some others x y
+
+-- ---- words
+
+-- The number of a place's bit, where so many tiles stand side by side: 256 for each tile, by its
+-- rows.
+abbrev pub number_at : ℕ → ℕ → ℕ → ℕ
+number_at columns x y = tile_at columns x y * 256 + y % 16 * 16 + x % 16
+
+-- the place's bit is 1
+abbrev pub is_marked : ℕ → List ℕ → ℕ → ℕ → Bool
+is_marked columns words x y = is_set words (number_at columns x y)
+
+-- the set whose places have these bits
+abbrev pub places_of : ℕ → ℕ → List ℕ → PlaceSet
+places_of width height words = record {
+  width = width;
+  height = height;
+  places = map (λ k. is_marked (tiles_of width) words (k % width) (k / width)) (range_with_len 0 (height * width));
+}
+
+-- A summary of bits of tiles: the tile of each place whose bit is 1 has a 1 there.
+abbrev pub IsSummary : ℕ → List ℕ → List ℕ → Type 0
+IsSummary columns words summary = (x y : ℕ) → x < 16 * columns → is_marked columns words x y ≡ true → is_set summary (tile_at columns x y) ≡ true
+
+-- bits for each place of so many tiles, and their summary
+pub record AreTiles (width height : ℕ) (words summary : List ℕ) : Type 0 where
+  pub wide : width < 2 ^ 16
+  pub high : height < 2 ^ 16
+  pub bits : 256 * (tiles_of height * tiles_of width) ≤ 64 * length words
+  pub tiles : tiles_of height * tiles_of width ≤ 64 * length summary
+  pub are : IsSummary (tiles_of width) words summary
+
+-- The places that pass a test stand in one row, from one column to another; those at the ends pass.
+pub record IsRow (q : ℕ → ℕ → Bool) (left right y : ℕ) : Type 0 where
+  pub first : q left y ≡ true
+  pub last : q right y ≡ true
+  pub level : (a b : ℕ) → q a b ≡ true → b ≡ y
+  pub between : (a b : ℕ) → q a b ≡ true → (left ≤ a) × (a ≤ right)
+
+-- a part of a screen that lies in one tile, and which bits has a place for
+pub record IsTilePart (columns : ℕ) (part : Area) (words : List ℕ) : Type 0 where
+  pub few : columns ≤ 2 ^ 12
+  pub column : part.x % 16 + part.w ≤ 16
+  pub row : part.y % 16 + part.h ≤ 16
+  pub across : part.x < 16 * columns
+  pub wide : part.x + part.w < 2 ^ 16
+  pub high : part.y + part.h < 2 ^ 16
+  pub room : 256 * (tile_at columns part.x part.y + 1) ≤ 64 * length words
+
+-- an area that has bits, and whose tiles have a summary
+pub record HasTiles (columns : ℕ) (area : Area) (words summary : List ℕ) : Type 0 where
+  pub few : columns ≤ 2 ^ 12
+  pub across : area.x + area.w ≤ 16 * columns
+  pub wide : area.x + area.w < 2 ^ 16
+  pub high : area.y + area.h < 2 ^ 16
+  pub bits : 256 * (tiles_of (area.y + area.h) * columns) ≤ 64 * length words
+  pub tiles : tiles_of (area.y + area.h) * columns ≤ 64 * length summary

@@ -1,0 +1,209 @@
+//! Sets of places of a screen.
+
+ghost use Rattle.std.specs.Prelude.{◌≡◌, ◌+◌, ◌*◌, ◌<◌, ◌||◌, ◌&&◌, not, ℕ, true, All, IfOk, MatchOption, if◌then◌else◌};
+ghost use Rattle.terms.specs.Area.{is_in, IsSmallestOf};
+ghost use Rattle.rect_data.specs.Data.{LiesWithin};
+
+use crate::bits::{are_full, first};
+use crate::tiles::{fill_area, smallest_in, tile_area, tile_at, tiles_of};
+use std::alloc::Global;
+use std::marker::Model;
+use terms::{Area, NoMemory};
+
+const MOST_AREAS: usize = 4096;
+
+/// A tile of a screen, and the smallest area that holds some places of it.
+#[derive(Clone, Copy)]
+pub struct TilePart {
+    /// Its number: tiles of 16 by 16 by rows from the top, each from the left.
+    pub tile: usize,
+    pub area: Area,
+}
+
+/// A set of places of a screen. It takes a bit a place, and one a tile of 16 by 16.
+#[derive(Drop)]
+pub struct Places {
+    width: u16,
+    height: u16,
+    // Four words a tile: its 16 rows of 16 bits. Tiles by rows from the top, each from the left.
+    words: Vec<u64>,
+    // A bit a tile: 1 where it may have a place of the set.
+    summary: Vec<u64>,
+}
+
+impl Model for Places {
+    ghost use Rattle.place_sets.specs.Places.{PlaceSet, places_of, AreTiles};
+
+    ghost Value = { PlaceSet };
+
+    ghost view = { λ s. places_of s.width s.height s.words.items };
+
+    ghost invariant = { λ s. AreTiles s.width s.height s.words.items s.summary.items };
+}
+
+impl Places {
+    ghost use Rattle.place_sets.specs.Places.{holds, AreJust, SameSize, tile_count, is_in_tile, is_in_some, IsFirstTile, HasNoTile, IsAlone, AreSent};
+
+    /// All places of a screen of this size.
+    pub fn all(alloc: Global, width: u16, height: u16) -> Result<Places, NoMemory>
+        ensures width { IfOk result (λ set. set.width ≡ width) }
+        ensures height { IfOk result (λ set. set.height ≡ height) }
+        ensures all { IfOk result (λ set. AreJust set (λ x y. true)) }
+    {
+        let tiles = tiles_of(height) * tiles_of(width);
+        let words = vec![in alloc; 0; 4 * tiles]?;
+        let summary = vec![in alloc; 0; tiles.div_ceil(64)]?;
+        let mut places = Places {
+            width,
+            height,
+            words,
+            summary,
+        };
+        places.insert_all();
+        Ok(places)
+    }
+
+    // Puts the places of an area into the set, or takes them out of it.
+    fn fill(&mut self, area: Area, value: bool)
+        requires { LiesWithin self.old.width self.old.height area }
+        ensures size { SameSize self.old self.new }
+        ensures just { AreJust self.new
+            (λ x y. if is_in area x y then value else holds self.old x y) }
+    {
+        let columns = tiles_of(self.width);
+        fill_area(&mut self.words, &mut self.summary, columns, area, value);
+    }
+
+    /// Puts the places of an area into the set. It costs what the area costs.
+    pub fn insert(&mut self, area: Area)
+        requires { LiesWithin self.old.width self.old.height area }
+        ensures size { SameSize self.old self.new }
+        ensures just { AreJust self.new (λ x y. is_in area x y || holds self.old x y) }
+    {
+        self.fill(area, true);
+    }
+
+    /// Puts all places into the set.
+    pub fn insert_all(&mut self)
+        ensures size { SameSize self.old self.new }
+        ensures just { AreJust self.new (λ x y. true) }
+    {
+        self.insert(Area {
+            x: 0,
+            y: 0,
+            w: self.width,
+            h: self.height,
+        });
+    }
+
+    /// Takes the places of an area out of the set.
+    pub fn remove(&mut self, area: Area)
+        requires { LiesWithin self.old.width self.old.height area }
+        ensures size { SameSize self.old self.new }
+        ensures just { AreJust self.new (λ x y. holds self.old x y && not (is_in area x y)) }
+    {
+        self.fill(area, false);
+    }
+
+    /// The smallest area that holds the places of the set in one tile's part of an area.
+    pub fn smallest_in_tile(&self, tile: usize, area: Area) -> Option<Area>
+        requires area { LiesWithin self.now.width self.now.height area }
+        requires tile { tile < tile_count self.now }
+        ensures { IsSmallestOf (is_in_tile self.now tile area) result }
+    {
+        let columns = tiles_of(self.width);
+        let Some(part) = area.common(tile_area(tile % columns, tile / columns)) else {
+            return None;
+        };
+        if are_full(&self.words, 4 * tile) {
+            return Some(part);
+        }
+        smallest_in(&self.words, columns, part)
+    }
+
+    /// The first tile, from this number on, that has a place of the set in an area. It looks at the
+    /// summary's words, and at tiles that may have one.
+    pub fn next_tile(&self, from: usize, area: Area) -> Option<TilePart>
+        requires { LiesWithin self.now.width self.now.height area }
+        ensures { MatchOption result (HasNoTile self.now from area)
+            (IsFirstTile self.now from area) }
+    {
+        if area.w == 0 || area.h == 0 {
+            return None;
+        }
+        let columns = tiles_of(self.width);
+        let end = tile_at(columns, area.x + area.w - 1, area.y + area.h - 1) + 1;
+        let mut next = tile_at(columns, area.x, area.y).max(from);
+        while next < end {
+            let Some(tile) = first(&self.summary, next, end) else {
+                return None;
+            };
+            if let Some(area) = self.smallest_in_tile(tile, area) {
+                return Some(TilePart { tile, area });
+            }
+            next = tile + 1;
+        }
+        None
+    }
+
+    /// The smallest area that holds the places of the set in an area.
+    pub fn smallest(&self, area: Area) -> Option<Area>
+        requires { LiesWithin self.now.width self.now.height area }
+        ensures { IsSmallestOf (λ x y. is_in area x y && holds self.now x y) result }
+    {
+        let mut found: Option<Area> = None;
+        let mut next = 0;
+        'tiles: while let Some(part) = self.next_tile(next, area) {
+            found = Some(match found {
+                Some(found) => found.around(part.area),
+                None => part.area,
+            });
+            next = part.tile + 1;
+        }
+        found
+    }
+
+    // That area alone.
+    fn one_area(&self, alloc: Global, area: Area) -> Result<Vec<Area>, NoMemory>
+        requires { LiesWithin self.now.width self.now.height area }
+        ensures { IfOk result (λ areas. (x y : ℕ) → is_in area x y ≡ true
+            → holds self.now x y ≡ true → IsAlone self.now area areas.items) }
+    {
+        let mut areas = Vec::new(alloc);
+        if let Some(one) = self.smallest(area) {
+            areas.push(one)?;
+        }
+        Ok(areas)
+    }
+
+    /// Of each tile the smallest area that holds the places of the set in its part of an area, by
+    /// rows of tiles from the top, each from the left. Where there are more than 4,096 tiles, the
+    /// smallest area that holds the places of all, alone.
+    pub fn areas(&self, alloc: Global, area: Area) -> Result<Vec<Area>, NoMemory>
+        requires { LiesWithin self.now.width self.now.height area }
+        ensures { IfOk result (λ areas. AreSent self.now area areas.items) }
+    {
+        let mut areas = Vec::new(alloc);
+        let mut next = 0;
+        'tiles: while let Some(part) = self.next_tile(next, area) {
+            if areas.len() == MOST_AREAS {
+                return self.one_area(alloc, area);
+            }
+            areas.push(part.area)?;
+            next = part.tile + 1;
+        }
+        Ok(areas)
+    }
+
+    /// Takes the places of areas out of the set.
+    pub fn remove_all(&mut self, areas: &[Area])
+        requires { All (LiesWithin self.old.width self.old.height) areas.now }
+        ensures size { SameSize self.old self.new }
+        ensures just { AreJust self.new
+            (λ x y. holds self.old x y && not (is_in_some areas.now x y)) }
+    {
+        for area in areas {
+            self.remove(*area);
+        }
+    }
+}

@@ -1,0 +1,173 @@
+//! Bits for the places of a screen, in the order of tiles.
+
+ghost use Rattle.std.specs.Prelude.{◌≡◌, ◌+◌, ◌-◌, ◌*◌, ◌/◌, ◌%◌, ◌<◌, ◌≤◌, ◌^◌, ◌||◌, ◌&&◌, ℕ, Bool, length, IfSome, nat_eq, if◌then◌else◌};
+ghost use Rattle.terms.specs.Area.{is_in, IsSmallest, IsSmallestOf};
+ghost use Rattle.place_sets.specs.Places.{tiles_of, tile_at, number_at, is_marked, IsSummary, IsRow, IsTilePart, HasTiles};
+
+use crate::bits::{fill, first, first_and_last};
+use terms::Area;
+
+/// How many places stand side by side in a tile, and how many rows of them there are.
+pub const SIDE: u16 = 16;
+
+/// How many bits a tile has.
+pub const TILE_BITS: usize = 256;
+
+/// How many tiles so many places take, side by side.
+pub fn tiles_of(length: u16) -> usize
+    ensures is { result ≡ tiles_of length }
+    ensures few { result ≤ 2 ^ 12 }
+{
+    (usize::from(length) + 15) / 16
+}
+
+/// The number of the tile that has a place.
+pub fn tile_at(columns: usize, x: u16, y: u16) -> usize
+    requires { columns ≤ 2 ^ 12 }
+    ensures { result ≡ tile_at columns x y }
+{
+    usize::from(y / SIDE) * columns + usize::from(x / SIDE)
+}
+
+// The number of a place's bit.
+fn number_at(columns: usize, x: u16, y: u16) -> usize
+    requires { columns ≤ 2 ^ 12 }
+    ensures { result ≡ number_at columns x y }
+{
+    tile_at(columns, x, y) * TILE_BITS + usize::from(y % SIDE) * 16 + usize::from(x % SIDE)
+}
+
+// Gives the places of a part of a tile one value.
+fn fill_part(words: &mut [u64], columns: usize, part: Area, value: bool)
+    requires { IsTilePart columns part words.old }
+    ensures { (x y : ℕ) → x < 16 * columns → is_marked columns words.new x y
+        ≡ (if is_in part x y then value else is_marked columns words.old x y) }
+{
+    let start = number_at(columns, part.x, part.y);
+    if part.w == SIDE {
+        // Whole rows of a tile stand side by side.
+        fill(words, start, start + usize::from(part.h) * 16, value);
+        return;
+    }
+    let w = usize::from(part.w);
+    for row in 0..usize::from(part.h) {
+        let from = start + row * 16;
+        fill(words, from, from + w, value);
+    }
+}
+
+// Gives the places of a part of a tile one value, and sums the tile up.
+fn fill_tile(words: &mut [u64], summary: &mut [u64], columns: usize, part: Area, value: bool)
+    requires part { IsTilePart columns part words.old }
+    requires room { tile_at columns part.x part.y < 64 * length summary.old }
+    ensures filled { (x y : ℕ) → x < 16 * columns → is_marked columns words.new x y
+        ≡ (if is_in part x y then value else is_marked columns words.old x y) }
+    ensures summary { IsSummary columns words.old summary.old
+        → IsSummary columns words.new summary.new }
+{
+    fill_part(words, columns, part, value);
+    let tile = tile_at(columns, part.x, part.y);
+    let has_some = value || first(words, tile * TILE_BITS, (tile + 1) * TILE_BITS).is_some();
+    fill(summary, tile, tile + 1, has_some);
+}
+
+/// The places of a tile, from its column and its row of tiles.
+pub fn tile_area(column: usize, row: usize) -> Area
+    requires column { column < 2 ^ 12 }
+    requires row { row < 2 ^ 12 }
+    ensures { result ≡ record { x = 16 * column; y = 16 * row; w = 16; h = 16 } }
+{
+    Area {
+        x: (16 * column) as u16,
+        y: (16 * row) as u16,
+        w: SIDE,
+        h: SIDE,
+    }
+}
+
+// Gives the places of an area one value that stand in one row of tiles.
+fn fill_tiles(
+    words: &mut [u64],
+    summary: &mut [u64],
+    columns: usize,
+    area: Area,
+    row: usize,
+    value: bool,
+)
+    requires area { HasTiles columns area words.old summary.old }
+    requires row { row < tiles_of (area.y + area.h) }
+    ensures filled { (x y : ℕ) → x < 16 * columns → is_marked columns words.new x y
+        ≡ (if is_in area x y && nat_eq (y / 16) row then value
+        else is_marked columns words.old x y) }
+    ensures summary { IsSummary columns words.old summary.old
+        → IsSummary columns words.new summary.new }
+{
+    for column in usize::from(area.x / SIDE)..tiles_of(area.x + area.w) {
+        if let Some(part) = area.common(tile_area(column, row)) {
+            fill_tile(words, summary, columns, part, value);
+        }
+    }
+}
+
+/// Gives the places of an area one value, and sums their tiles up.
+pub fn fill_area(words: &mut [u64], summary: &mut [u64], columns: usize, area: Area, value: bool)
+    requires { HasTiles columns area words.old summary.old }
+    ensures filled { (x y : ℕ) → x < 16 * columns → is_marked columns words.new x y
+        ≡ (if is_in area x y then value else is_marked columns words.old x y) }
+    ensures summary { IsSummary columns words.old summary.old
+        → IsSummary columns words.new summary.new }
+{
+    for row in usize::from(area.y / SIDE)..tiles_of(area.y + area.h) {
+        fill_tiles(words, summary, columns, area, row, value);
+    }
+}
+
+// The smallest area that holds one that stands above a row, and the places of the row from one
+// column to another.
+fn with_row(found: Option<Area>, left: u16, right: u16, y: u16) -> Area
+    requires order { left ≤ right }
+    requires column { right + 1 < 2 ^ 16 }
+    requires row { y + 1 < 2 ^ 16 }
+    requires above { IfSome found (λ a. (a.x + a.w < 2 ^ 16) × (a.y + a.h ≤ y)) }
+    ensures smallest { (p q : ℕ → ℕ → Bool) → IsSmallestOf p found → IsRow q left right y
+        → IsSmallest (λ a b. p a b || q a b) result }
+    ensures within { (width : ℕ) → right < width → IfSome found (λ a. a.x + a.w ≤ width)
+        → result.x + result.w ≤ width }
+    ensures end { result.y + result.h ≡ y + 1 }
+{
+    let Some(area) = found else {
+        return Area {
+            x: left,
+            y,
+            w: right - left + 1,
+            h: 1,
+        };
+    };
+    let x = area.x.min(left);
+    let end = (area.x + area.w).max(right + 1);
+    Area {
+        x,
+        y: area.y,
+        w: end - x,
+        h: y + 1 - area.y,
+    }
+}
+
+/// The smallest area that holds the places with a 1 in a part of a tile.
+pub fn smallest_in(words: &[u64], columns: usize, part: Area) -> Option<Area>
+    requires { IsTilePart columns part words.now }
+    ensures { IsSmallestOf (λ x y. is_in part x y && is_marked columns words.now x y) result }
+{
+    let mut found: Option<Area> = None;
+    let start = number_at(columns, part.x, part.y);
+    let w = usize::from(part.w);
+    for row in 0..part.h {
+        let from = start + usize::from(row) * 16;
+        if let Some(ends) = first_and_last(words, from, from + w) {
+            let left = part.x + (ends.first - from) as u16;
+            let right = part.x + (ends.last - from) as u16;
+            found = Some(with_row(found, left, right, part.y + row));
+        }
+    }
+    found
+}

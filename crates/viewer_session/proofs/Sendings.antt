@@ -1,0 +1,125 @@
+-- What a viewer sees once it has painted an update of some areas.
+use Rattle.std.proofs.Common.{◌≡◌, ℕ, ◌+◌, ◌-◌, inl, inr, Bool, true, false, List, [], ◌∷◌, refl, sym, ap, ◌∙◌, subst, arith}
+use Rattle.std.specs.Prelude.{◌||◌, All, map}
+use Rattle.std.specs.List.{AllZip, AllByRecursion}
+use Rattle.std.proofs.lemmas.Bool.{cases_Bool}
+use Rattle.std.proofs.lemmas.List.Elements.{All-nil, All-cons}
+use Rattle.pixel_format.specs.declared.Color.{Color}
+use Rattle.pixel_format.specs.Format.{Format}
+use Rattle.pixel_format.specs.Pixel.{converted}
+use Rattle.pixel_format.specs.Canvas.{Picture}
+use Rattle.terms.specs.declared.area.Area.{Area}
+use Rattle.terms.specs.Area.{is_in}
+use Rattle.terms.proofs.Areas.{in_is}
+use Rattle.rect_data.specs.Data.{LiesWithin}
+use Rattle.rect_data.specs.declared.encoding.Encoding.{Encoding}
+use Rattle.rect_codec.specs.declared.parts.Part.{Part}
+use Rattle.rect_codec.specs.declared.parts.Part.TheVariants as parts
+use Rattle.rect_codec.specs.Parts.{Draws, PartLiesWithin}
+use Rattle.rect_codec.specs.Update.{Drawn, HasColors, painted, all_painted}
+use Rattle.painter.specs.Framebuffer.{Framebuffer, color_at}
+use Rattle.place_sets.specs.Places.{is_in_some}
+use Rattle.place_sets.proofs.Sent.{IsInside}
+use Rattle.viewer_session.specs.View.{AreConverted, is_covered}
+use Rattle.viewer_session.specs.Encoded.{IsScreenPart}
+use Rattle.viewer_session.proofs.Views.{neither}
+
+-- what is painted shows the screen in an area, and is elsewhere as it was
+pub record ShowsArea (f : Format) (screen : Framebuffer) (area : Area) (before after : Picture) : Type 0 where
+  pub here : (x y : ℕ) → is_in area x y ≡ true → after x y ≡ converted f (color_at screen x y)
+  pub elsewhere : (x y : ℕ) → is_in area x y ≡ false → after x y ≡ before x y
+
+colors_shown : (f : Format) (screen : Framebuffer) (area : Area) (colors : List Color) (before after : Picture) → AreConverted f screen area colors → HasColors area colors before after
+    → ShowsArea f screen area before after
+colors_shown f screen area colors before after are has = record {
+  here = λ x y e.
+      let place = in_is area x y e in
+      let l = place.left in
+      let r = place.right in
+      let column : area.x + (x - area.x) ≡ x = omega arith in
+      let t = place.top in
+      let u = place.bottom in
+      let row : area.y + (y - area.y) ≡ y = omega arith in
+      ap (λ (n : ℕ). after n y) (sym column) ∙ ap (λ (n : ℕ). after (area.x + (x - area.x)) n) (sym row)
+      ∙ has.here (x - area.x) (y - area.y) (omega arith) (omega arith)
+      ∙ are.value (x - area.x) (y - area.y) (omega arith) (omega arith)
+      ∙ ap (λ (n : ℕ). converted f (color_at screen n (area.y + (y - area.y)))) column ∙ ap (λ (n : ℕ). converted f (color_at screen x n)) row;
+  elsewhere = has.elsewhere;
+}
+
+-- the rectangle is of this area, and shows the screen there
+pub record IsShown (f : Format) (screen : Framebuffer) (area : Area) (drawn : Drawn) : Type 0 where
+  pub area_is : drawn.area ≡ area
+  pub shows : (before : Picture) → ShowsArea f screen area before (painted f drawn before)
+
+part_shown : (f : Format) (asked : Encoding) (screen : Framebuffer) (area : Area) (part : Part) (drawn : Drawn) → IsScreenPart f asked screen area part → Draws f part drawn → IsShown f screen area drawn
+part_shown f asked screen area (parts.Copy to x y) drawn is draws = absurd is
+part_shown f asked screen area (parts.Colors to colors encoding) drawn is draws = record {
+  area_is = draws.area_is ∙ is.0;
+  shows = λ before. colors_shown f screen area colors.now before (painted f drawn before) is.2
+      (subst (λ (a : Area). HasColors a colors.now before (painted f drawn before)) is.0 (draws.paints before));
+}
+
+-- a rectangle for each area
+pub all_shown : (f : Format) (asked : Encoding) (screen : Framebuffer) (areas : List Area) (list : List Part) (drawn : List Drawn)
+    → AllZip (IsScreenPart f asked screen) areas list → AllZip (Draws f) list drawn → AllZip (IsShown f screen) areas drawn
+all_shown f asked screen [] [] [] are draw = tt
+all_shown f asked screen [] [] (d ∷ drawn) are draw = absurd draw
+all_shown f asked screen [] (p ∷ list) drawn are draw = absurd are
+all_shown f asked screen (a ∷ areas) [] drawn are draw = absurd are
+all_shown f asked screen (a ∷ areas) (p ∷ list) [] are draw = absurd draw
+all_shown f asked screen (a ∷ areas) (p ∷ list) (d ∷ drawn) are draw =
+    (part_shown f asked screen a p d are.0 draw.0, all_shown f asked screen areas list drawn are.1 draw.1)
+
+-- they cover the places of the areas
+pub covered_is : (f : Format) (screen : Framebuffer) (areas : List Area) (drawn : List Drawn) → AllZip (IsShown f screen) areas drawn → (x y : ℕ) → is_covered drawn x y ≡ is_in_some areas x y
+covered_is f screen [] [] are x y = refl
+covered_is f screen [] (d ∷ drawn) are x y = absurd are
+covered_is f screen (a ∷ areas) [] are x y = absurd are
+covered_is f screen (a ∷ areas) (d ∷ drawn) are x y =
+    ap (λ (b : Area). is_in b x y || is_covered drawn x y) are.0.area_is ∙ ap (λ (b : Bool). is_in a x y || b) (covered_is f screen areas drawn are.1 x y)
+
+-- their areas are these
+pub areas_are : (f : Format) (screen : Framebuffer) (areas : List Area) (drawn : List Drawn) → AllZip (IsShown f screen) areas drawn → map (λ (d : Drawn). d.area) drawn ≡ areas
+areas_are f screen [] [] are = refl
+areas_are f screen [] (d ∷ drawn) are = absurd are
+areas_are f screen (a ∷ areas) [] are = absurd are
+areas_are f screen (a ∷ areas) (d ∷ drawn) are = ap (λ (b : Area). b ∷ map (λ (e : Drawn). e.area) drawn) are.0.area_is ∙ ap (λ (l : List Area). a ∷ l) (areas_are f screen areas drawn are.1)
+
+-- places of no area are as they were
+pub elsewhere : (f : Format) (screen : Framebuffer) (areas : List Area) (drawn : List Drawn) → AllZip (IsShown f screen) areas drawn → (before : Picture) (x y : ℕ)
+    → is_in_some areas x y ≡ false → all_painted f drawn before x y ≡ before x y
+elsewhere f screen [] [] are before x y off = refl
+elsewhere f screen [] (d ∷ drawn) are before x y off = absurd are
+elsewhere f screen (a ∷ areas) [] are before x y off = absurd are
+elsewhere f screen (a ∷ areas) (d ∷ drawn) are before x y off =
+    let parts = neither (is_in a x y) (is_in_some areas x y) off in
+    elsewhere f screen areas drawn are.1 (painted f d before) x y parts.1 ∙ (are.0.shows before).elsewhere x y parts.0
+
+here_alone : (a b : Bool) → (a || b) ≡ true → b ≡ false → a ≡ true
+here_alone true b on off = refl
+here_alone false b on off = absurd (cc)
+
+-- the others show the screen
+pub shown : (f : Format) (screen : Framebuffer) (areas : List Area) (drawn : List Drawn) → AllZip (IsShown f screen) areas drawn → (before : Picture) (x y : ℕ)
+    → is_in_some areas x y ≡ true → all_painted f drawn before x y ≡ converted f (color_at screen x y)
+shown f screen [] [] are before x y on = absurd (cc)
+shown f screen [] (d ∷ drawn) are before x y on = absurd are
+shown f screen (a ∷ areas) [] are before x y on = absurd are
+shown f screen (a ∷ areas) (d ∷ drawn) are before x y on = elim (cases_Bool (is_in_some areas x y)) [
+  | inl later ↦ shown f screen areas drawn are.1 (painted f d before) x y later
+  | inr last ↦ elsewhere f screen areas drawn are.1 (painted f d before) x y last ∙ (are.0.shows before).here x y (here_alone (is_in a x y) (is_in_some areas x y) on last)
+]
+
+-- parts of areas within a screen lie within it
+part_within : (width height : ℕ) (f : Format) (asked : Encoding) (screen : Framebuffer) (area : Area) (part : Part) → LiesWithin width height area → IsScreenPart f asked screen area part → PartLiesWithin width height part
+part_within width height f asked screen area (parts.Copy to x y) within is = absurd is
+part_within width height f asked screen area (parts.Colors to colors encoding) within is = subst (λ (a : Area). LiesWithin width height a) (sym is.0) within
+
+pub parts_within : (width height : ℕ) (f : Format) (asked : Encoding) (screen : Framebuffer) (outer : Area) (areas : List Area) (list : List Part)
+    → AllByRecursion (IsInside width height outer) areas → AllZip (IsScreenPart f asked screen) areas list → All (PartLiesWithin width height) list
+parts_within width height f asked screen outer [] [] within are = All-nil (PartLiesWithin width height)
+parts_within width height f asked screen outer [] (p ∷ list) within are = absurd are
+parts_within width height f asked screen outer (a ∷ areas) [] within are = absurd are
+parts_within width height f asked screen outer (a ∷ areas) (p ∷ list) within are =
+    All-cons (PartLiesWithin width height) p list (part_within width height f asked screen a p within.0.within are.0) (parts_within width height f asked screen outer areas list within.1 are.1)
