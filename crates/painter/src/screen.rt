@@ -13,6 +13,7 @@ ghost use Rattle.rect_codec.specs.Written.{ArePixels};
 ghost use Rattle.terms.specs.Appending.{Appends};
 ghost use Rattle.painter.specs.Sent.{area_colors, sent_colors};
 ghost use Rattle.painter.specs.Numbered.{AreNumbersOf};
+ghost use Rattle.terms.specs.declared.area.Area.{Area};
 
 use crate::colors::read_area;
 use crate::numbering::number_area;
@@ -99,11 +100,10 @@ impl Screen {
         Ok(())
     }
 
-    /// Which colours `area_colors` are: those of the places of the area, by rows. (It does nothing.)
-    pub fn known_colors(&self, area: Area)
-        requires columns { area.x + area.w ≤ self.now.width }
-        requires rows { area.y + area.h ≤ self.now.height }
-        ensures { AreColorsOf self.now area (area_colors self.now area) }
+    /// Which colours `area_colors` are: those of the places of an area, by rows. (It does nothing.)
+    pub fn known_colors(&self)
+        ensures { (area : Area) → area.x + area.w ≤ self.now.width → area.y + area.h ≤ self.now.height
+            → AreColorsOf self.now area (area_colors self.now area) }
     {
         let _ = &self.width;
     }

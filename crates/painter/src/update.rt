@@ -45,7 +45,7 @@ impl Screen {
         ensures ok { OnOk result (Appends (IsRectangle format.now area (sent_colors format.now self.now area) Encoding.Raw) out.old.items out.new.items) }
         ensures err { OnErr result (out.new.items ≡ out.old.items) }
     {
-        self.known_colors(area);
+        self.known_colors();
         let start = out.len();
         append_head(area, Encoding::Raw, out)?;
         let appended = self.append_pixels(format, area, out);
@@ -65,7 +65,7 @@ impl Screen {
         ensures ok { OnOk result (Appends (IsRectangleFor format.now area (sent_colors format.now self.now area) Encoding.Hextile) out.old.items out.new.items) }
         ensures err { OnErr result (out.new.items ≡ out.old.items) }
     {
-        self.known_colors(area);
+        self.known_colors();
         let numbers = self.numbers(alloc, format, area)?;
         if append_hextile(format, area, &numbers, out)? {
             return Ok(());
@@ -86,7 +86,7 @@ impl Screen {
         ensures within { IfOk result (λ colors. All (IsWithin format.now) colors.items) }
         ensures size { IfOk result (λ colors. length colors.items ≡ area.h * area.w) }
     {
-        self.known_colors(area);
+        self.known_colors();
         let mut read = Vec::new(alloc);
         self.area(area, &mut read)?;
         let mut colors = vec![in alloc; Color { r: 0, g: 0, b: 0 }; read.len()]?;
