@@ -1,26 +1,17 @@
 -- Parts that show the colours of a tile.
-use Rattle.std.proofs.Common.{◌≡◌, ℕ, ◌+◌, ◌-◌, ◌*◌, ◌/◌, ◌%◌, ◌<◌, ◌≤◌, false, inl, inr, true, cond, List, [], ◌∷◌, ◌++◌, length, set, refl, sym, ap, ◌∙◌, arith}
+use Rattle.std.proofs.Common.{◌≡◌, ℕ, ◌+◌, ◌-◌, ◌*◌, ◌/◌, ◌%◌, ◌<◌, ◌≤◌, false, inl, inr, true, cond, List, [], ◌∷◌, ◌++◌, length, refl, sym, ap, ◌∙◌, arith}
 use Rattle.std.specs.Prelude.{reverse, nat_lt, nat_le, ◌&&◌}
 use Rattle.std.proofs.Math.Nat.{div-add-mod, mul_comm}
 use Rattle.std.proofs.lemmas.Nat.{div-mul-add, mod-mul-add, mul-add-lt}
 use Rattle.std.proofs.lemmas.Bool.{cases_Bool, cases_eq, lt-ltb, le-leb, leb-true, ltb-true, and_parts, and_from}
-use Rattle.std.proofs.lemmas.List.{get_or-set_same, get_or-set_other, reverse-append}
+use Rattle.std.proofs.lemmas.List.{reverse-append}
 use Rattle.std.proofs.lemmas.List.Elements.{All-nil, All-push}
 use Rattle.pixel_format.specs.declared.Color.{Color}
 use Rattle.pixel_format.specs.Format.{Format}
-use Rattle.pixel_format.specs.Canvas.{covers, black, nth}
+use Rattle.pixel_format.specs.Canvas.{covers, nth}
 use Rattle.pixel_format.proofs.Covering.{in_is, is_in, not_in}
 use Rattle.hextile.specs.declared.cover.Part.{Part}
-use Rattle.hextile.specs.Encoded.{AreTileColors, IsPart, IsUniform, IsCover, ShownUpto, part_picture}
-
--- one more of a tile's colours
-pub colors_more : (colors : List Color) (w left top tw : ℕ) (tile : List Color) (k : ℕ) (color : Color) → k < length tile
-    → AreTileColors colors w left top tw tile k → color ≡ nth colors ((top + k / tw) * w + (left + k % tw))
-    → AreTileColors colors w left top tw (set tile k color) (k + 1)
-colors_more colors w left top tw tile k color fits are is = λ i less. elim (cases_eq i k) [
-  | inl same ↦ ap (λ n. nth (set tile k color) n) same ∙ get_or-set_same tile k color black fits ∙ is ∙ ap (λ n. nth colors ((top + n / tw) * w + (left + n % tw))) (sym same)
-  | inr other ↦ get_or-set_other tile k i color black other ∙ are i (omega (arith, other))
-]
+use Rattle.hextile.specs.Encoded.{IsPart, IsUniform, IsCover, ShownUpto, part_picture}
 
 -- the place of an index
 pub index_of : (w k : ℕ) → k / w * w + k % w ≡ k
@@ -132,7 +123,7 @@ same_rows w x y v done i fits off = elim (cases_Bool (covers x y v (done + 1) (i
 ]
 
 -- a row more of a part is shown
-pub row_shown : (w x y v done i : ℕ) (color before : Color) → x + v ≤ w
+pub row_shown : {X : Type 0} (w x y v done i : ℕ) (color before : X) → x + v ≤ w
     → cond (nat_le ((y + done) * w + x) i && nat_lt i ((y + done) * w + x + v)) color (cond (covers x y v done (i % w) (i / w)) color before)
     ≡ cond (covers x y v (done + 1) (i % w) (i / w)) color before
 row_shown w x y v done i color before fits =

@@ -11,3 +11,4 @@ pub mod Written
 pub mod EncodedTile
 pub mod EncodedTiles
 pub mod Held
+pub mod NumberTiles

@@ -7,3 +7,4 @@ pub mod Picture
 pub mod Measuring
 pub mod Painting
 pub mod Encoded
+pub mod Numbered

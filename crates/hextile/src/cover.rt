@@ -1,15 +1,16 @@
 //! Which parts of a tile an encoder lists.
 
-ghost use Rattle.std.specs.Prelude.{◌≡◌, ◌↔◌, ℕ, ◌+◌, ◌*◌, ◌/◌, ◌%◌, ◌<◌, ◌≤◌, ◌&&◌, length, All, IsTrue, [], nat_lt, nat_le, reverse, true, if◌then◌else◌};
-ghost use Rattle.pixel_format.specs.Format.{Format};
+ghost use Rattle.std.specs.Prelude.{◌≡◌, ◌↔◌, ℕ, ◌+◌, ◌*◌, ◌/◌, ◌%◌, ◌<◌, ◌≤◌, ◌&&◌, length, All, IsTrue, [], nat_lt, nat_le, reverse, true, if◌then◌else◌, slice_index};
 ghost use Rattle.pixel_format.specs.Pixel.{IsWithin};
-ghost use Rattle.pixel_format.specs.Canvas.{covers, nth, rows_of};
+ghost use Rattle.pixel_format.specs.Number.{number_color, IsNumber};
+ghost use Rattle.pixel_format.specs.Canvas.{covers};
 ghost use Rattle.pixel_format.specs.declared.Color.{Color};
 ghost use Rattle.hextile.specs.Encoded.{AreTileColors, IsPart, IsUniform, IsCover, ShownUpto};
+ghost use Rattle.hextile.specs.Numbered.{colors_of, AreTileNumbers, AreNumbersUpto};
 
 use crate::position::TileArea;
 use arrayvec::ArrayVec;
-use pixel_format::{Color, end_of_color, same};
+use pixel_format::{Color, PixelFormat, end_of_number};
 
 /// The most subrectangles that a tile may have.
 pub(crate) const MOST_PARTS: usize = 255;
@@ -41,22 +42,51 @@ impl Default for Part {
     }
 }
 
-/// The colours of a tile's places, by rows, from those of a rectangle whose rows have w places.
-pub(crate) fn tile_colors(colors: &[Color], w: u16, area: TileArea) -> [Color; 256]
+/// The pixels of a tile's places as numbers, by rows, from those of a rectangle whose rows have w
+/// places.
+pub(crate) fn tile_numbers(numbers: &[u32], w: u16, area: TileArea) -> [u32; 256]
+    requires across { 0 < area.w }
+    requires columns { area.x + area.w ≤ w }
+    requires rows { (area.y + area.h) * w ≤ length numbers.now }
+    requires wide { area.w ≤ 16 }
+    requires high { area.h ≤ 16 }
+    ensures size { length result ≡ 256 }
+    ensures numbers { AreTileNumbers numbers.now w area.x area.y area.w result (area.w * area.h) }
+{
+    let mut tile = [0; 256];
+    let width = area.w as usize;
+    for row in 0..area.h as usize {
+        let from = (area.y as usize + row) * w as usize + area.x as usize;
+        for column in 0..width {
+            tile[row * width + column] = numbers[from + column];
+        }
+    }
+    tile
+}
+
+/// The same from the colours of the rectangle's places, in a format to whose maxima they keep.
+pub(crate) fn tile_of_colors(
+    format: &PixelFormat,
+    colors: &[Color],
+    w: u16,
+    area: TileArea,
+) -> [u32; 256]
+    requires within { All (IsWithin format.now) colors.now }
     requires across { 0 < area.w }
     requires columns { area.x + area.w ≤ w }
     requires rows { (area.y + area.h) * w ≤ length colors.now }
     requires wide { area.w ≤ 16 }
     requires high { area.h ≤ 16 }
     ensures size { length result ≡ 256 }
-    ensures colors { AreTileColors colors.now w area.x area.y area.w result (area.w * area.h) }
+    ensures colors { AreTileColors colors.now w area.x area.y area.w (colors_of format.now result) (area.w * area.h) }
+    ensures numbers { AreNumbersUpto format.now result (area.w * area.h) }
 {
-    let mut tile = [BLACK; 256];
+    let mut tile = [0; 256];
     let width = area.w as usize;
     for row in 0..area.h as usize {
         let from = (area.y as usize + row) * w as usize + area.x as usize;
         for column in 0..width {
-            tile[row * width + column] = colors[from + column];
+            tile[row * width + column] = format.number_of(colors[from + column]);
         }
     }
     tile
@@ -72,39 +102,39 @@ pub(crate) struct Background {
 }
 
 /// A vote for a tile's background: each place of another colour takes one away.
-pub(crate) fn most_voted(colors: &[Color]) -> Background
-    requires { 0 < length colors.now }
-    ensures place { result.place < length colors.now }
-    ensures only { result.is_only ≡ true → (k : ℕ) → k < length colors.now → nth colors.now k ≡ nth colors.now result.place }
+pub(crate) fn most_voted(numbers: &[u32]) -> Background
+    requires { 0 < length numbers.now }
+    ensures place { result.place < length numbers.now }
+    ensures only { result.is_only ≡ true → (k : ℕ) → k < length numbers.now → slice_index numbers.now k ≡ slice_index numbers.now result.place }
 {
-    let run = end_of_color(colors, 0, colors[0]);
+    let run = end_of_number(numbers, 0, numbers[0]);
     let mut place = 0;
     let mut votes = run;
-    for k in run..colors.len() {
+    for k in run..numbers.len() {
         if votes == 0 {
             place = k;
             votes = 1;
-        } else if same(colors[k], colors[place]) {
+        } else if numbers[k] == numbers[place] {
             votes += 1;
         } else {
             votes -= 1;
         }
     }
     Background {
-        place: if run == colors.len() { 0 } else { place },
-        is_only: run == colors.len(),
+        place: if run == numbers.len() { 0 } else { place },
+        is_only: run == numbers.len(),
     }
 }
 
-// How many places from an index on, at most so many, have the colour.
-fn run_length(colors: &[Color], start: usize, most: u8, color: Color) -> u8
-    requires { start + most ≤ length colors.now }
+// How many places from an index on, at most so many, have the pixel.
+fn run_length(numbers: &[u32], start: usize, most: u8, number: u32) -> u8
+    requires { start + most ≤ length numbers.now }
     ensures most { result ≤ most }
-    ensures some { 0 < most → nth colors.now start ≡ color → 0 < result }
-    ensures same { (k : ℕ) → k < result → nth colors.now (start + k) ≡ color }
+    ensures some { 0 < most → slice_index numbers.now start ≡ number → 0 < result }
+    ensures same { (k : ℕ) → k < result → slice_index numbers.now (start + k) ≡ number }
 {
     for k in 0..most {
-        if !same(colors[start + k as usize], color) {
+        if numbers[start + k as usize] != number {
             return k;
         }
     }
@@ -113,29 +143,29 @@ fn run_length(colors: &[Color], start: usize, most: u8, color: Color) -> u8
 
 // The part of one colour whose upper left corner is a place of a tile of w by h: as wide as its row
 // lets it be, and then as high as it can be.
-fn grow(w: u8, h: u8, colors: &[Color], column: u8, row: u8) -> Part
+fn grow(format: &PixelFormat, w: u8, h: u8, numbers: &[u32], column: u8, row: u8) -> Part
     requires column { column < w }
     requires row { row < h }
-    requires size { length colors.now ≡ w * h }
+    requires size { length numbers.now ≡ w * h }
     ensures x { result.x ≡ column }
     ensures y { result.y ≡ row }
     ensures columns { result.x + result.w ≤ w }
     ensures rows { result.y + result.h ≤ h }
     ensures across { 0 < result.w }
     ensures down { 0 < result.h }
-    ensures color { result.color ≡ rows_of colors.now w column row }
-    ensures uniform { IsUniform colors.now w result }
+    ensures color { result.color ≡ number_color format.now (slice_index numbers.now (row * w + column)) }
+    ensures uniform { IsUniform (colors_of format.now numbers.now) w result }
 {
     let start = row as usize * w as usize + column as usize;
-    let color = colors[start];
-    let width = run_length(colors, start, w - column, color);
+    let number = numbers[start];
+    let width = run_length(numbers, start, w - column, number);
     let mut end = row + 1;
     while end < h
         && run_length(
-            colors,
+            numbers,
             end as usize * w as usize + column as usize,
             width,
-            color,
+            number,
         ) == width
     {
         end += 1;
@@ -145,56 +175,58 @@ fn grow(w: u8, h: u8, colors: &[Color], column: u8, row: u8) -> Part
         y: row,
         w: width,
         h: end - row,
-        color,
+        color: format.color_of(number),
     }
 }
 
-// Gives so many places from an index on a colour.
-fn show_run(shown: &mut [Color], start: usize, count: u8, color: Color)
+// Gives so many places from an index on a pixel.
+fn show_run(shown: &mut [u32], start: usize, count: u8, number: u32)
     requires { start + count ≤ length shown.old }
     ensures { (k : ℕ) → k < length shown.old
-        → nth shown.new k ≡ (if nat_le start k && nat_lt k (start + count) then color else nth shown.old k) }
+        → slice_index shown.new k ≡ (if nat_le start k && nat_lt k (start + count) then number else slice_index shown.old k) }
 {
     for k in start..start + count as usize {
-        shown[k] = color;
+        shown[k] = number;
     }
 }
 
-// Gives the places of a part its colour, in a tile of width w, row by row.
-fn show(shown: &mut [Color], w: u8, part: Part)
+// Gives the places of a part a pixel, in a tile of width w, row by row.
+fn show(shown: &mut [u32], w: u8, part: Part, number: u32)
     requires width { 0 < w }
     requires across { 0 < part.w }
     requires down { 0 < part.h }
     requires columns { part.x + part.w ≤ w }
     requires rows { (part.y + part.h) * w ≤ length shown.old }
     ensures { (k : ℕ) → k < length shown.old
-        → nth shown.new k ≡ (if covers part.x part.y part.w part.h (k % w) (k / w) then part.color else nth shown.old k) }
+        → slice_index shown.new k ≡ (if covers part.x part.y part.w part.h (k % w) (k / w) then number else slice_index shown.old k) }
 {
     for row in 0..part.h {
         let start = (part.y as usize + row as usize) * w as usize + part.x as usize;
-        show_run(shown, start, part.w, part.color);
+        show_run(shown, start, part.w, number);
     }
 }
 
 // Sees to it that a place is shown, by a part more where it isn't. Answers whether there was room
 // for it.
 fn show_place(
+    format: &PixelFormat,
     w: u8,
     h: u8,
-    colors: &[Color],
+    numbers: &[u32],
     k: usize,
     parts: &mut Parts,
-    shown: &mut [Color],
+    shown: &mut [u32],
 ) -> bool
     requires across { 0 < w }
-    requires colors { length colors.now ≡ w * h }
-    requires shown { length colors.now ≤ length shown.old }
-    requires place { k < length colors.now }
-    ensures { IsTrue result → (format : Format) → (background : Color) → All (IsWithin format) colors.now
-        → ShownUpto format w h colors.now background parts.old.items shown.old k
-        → ShownUpto format w h colors.now background parts.new.items shown.new (k + 1) }
+    requires numbers { length numbers.now ≡ w * h }
+    requires shown { length numbers.now ≤ length shown.old }
+    requires place { k < length numbers.now }
+    ensures { IsTrue result → (background : Color) → All (IsNumber format.now) numbers.now
+        → ShownUpto format.now w h (colors_of format.now numbers.now) background parts.old.items (colors_of format.now shown.old) k
+        → ShownUpto format.now w h (colors_of format.now numbers.now) background parts.new.items (colors_of format.now shown.new) (k + 1) }
 {
-    if same(shown[k], colors[k]) {
+    let number = numbers[k];
+    if shown[k] == number {
         return true;
     }
     if parts.is_full() {
@@ -202,52 +234,61 @@ fn show_place(
     }
     let column = (k % w as usize) as u8;
     let row = (k / w as usize) as u8;
-    let part = grow(w, h, colors, column, row);
+    let part = grow(format, w, h, numbers, column, row);
     parts.push(part);
-    show(shown, w, part);
+    show(shown, w, part, number);
     true
 }
 
 // Adds the parts of a tile that shows the background everywhere. Answers whether there was room for
 // them.
-fn parts_over(w: u8, h: u8, colors: &[Color], parts: &mut Parts, shown: &mut [Color]) -> bool
+fn parts_over(
+    format: &PixelFormat,
+    w: u8,
+    h: u8,
+    numbers: &[u32],
+    parts: &mut Parts,
+    shown: &mut [u32],
+) -> bool
     requires across { 0 < w }
-    requires colors { length colors.now ≡ w * h }
-    requires shown { length colors.now ≤ length shown.old }
+    requires numbers { length numbers.now ≡ w * h }
+    requires shown { length numbers.now ≤ length shown.old }
     requires none { parts.old.items ≡ [] }
-    ensures { result ≡ true → (format : Format) → (background : Color) → All (IsWithin format) colors.now
-        → ((i : ℕ) → i < length colors.now → nth shown.old i ≡ background) → IsCover format w h colors.now background parts.new.items }
+    ensures { result ≡ true → (background : ℕ) → All (IsNumber format.now) numbers.now
+        → ((i : ℕ) → i < length numbers.now → slice_index shown.old i ≡ background)
+        → IsCover format.now w h (colors_of format.now numbers.now) (number_color format.now background) parts.new.items }
 {
-    for k in 0..colors.len() {
-        if !show_place(w, h, colors, k, parts, shown) {
+    for k in 0..numbers.len() {
+        if !show_place(format, w, h, numbers, k, parts, shown) {
             return false;
         }
     }
     true
 }
 
-/// Leaves those parts in the list, of one colour each, that, over the background, give every place
-/// of a tile of w by h its colour. Answers `false` where they would be too many. Where the
-/// background is the only colour there are none.
+/// Leaves those parts in the list, of one pixel each, that, over the background, give every place of
+/// a tile of w by h its pixel. Answers `false` where they would be too many. Where the background is
+/// the only pixel there are none.
 pub(crate) fn cover(
+    format: &PixelFormat,
     w: u8,
     h: u8,
-    colors: &[Color],
-    background: Color,
+    numbers: &[u32],
+    background: u32,
     is_only: bool,
     parts: &mut Parts,
 ) -> bool
     requires across { 0 < w }
-    requires size { length colors.now ≡ w * h }
-    requires most { length colors.now ≤ 256 }
-    requires only { is_only ≡ true → (k : ℕ) → k < length colors.now → nth colors.now k ≡ background }
-    ensures { result ≡ true → (format : Format) → All (IsWithin format) colors.now
-        → IsCover format w h colors.now background parts.new.items }
+    requires size { length numbers.now ≡ w * h }
+    requires most { length numbers.now ≤ 256 }
+    requires only { is_only ≡ true → (k : ℕ) → k < length numbers.now → slice_index numbers.now k ≡ background }
+    ensures { result ≡ true → All (IsNumber format.now) numbers.now
+        → IsCover format.now w h (colors_of format.now numbers.now) (number_color format.now background) parts.new.items }
 {
     parts.clear();
     if is_only {
         return true;
     }
     let mut shown = [background; 256];
-    parts_over(w, h, colors, parts, &mut shown)
+    parts_over(format, w, h, numbers, parts, &mut shown)
 }

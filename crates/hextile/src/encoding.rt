@@ -5,9 +5,11 @@ ghost use Rattle.pixel_format.specs.Pixel.{IsWithin};
 ghost use Rattle.terms.specs.Appending.{Appends, Grows};
 ghost use Rattle.hextile.specs.declared.cover.Part.{Part};
 ghost use Rattle.hextile.specs.Grammar.{Tile};
+ghost use Rattle.pixel_format.specs.Number.{IsNumber};
+ghost use Rattle.hextile.specs.Numbered.{colors_of};
 ghost use Rattle.hextile.specs.Encoded.{IsMaskFor, known_behind, IsKnown, ShowsTile, Shows};
 
-use crate::cover::{Part, Parts, cover, most_voted, tile_colors};
+use crate::cover::{Part, Parts, cover, most_voted, tile_numbers, tile_of_colors};
 use crate::fields::{Mask, pixel_size};
 use crate::position::{count_tiles, tile_area};
 use crate::writing::{Known, append_parts_tile, append_raw_tile};
@@ -92,37 +94,38 @@ fn append_tile(
     known: Known,
     w: u8,
     h: u8,
-    colors: &[Color],
+    numbers: &[u32],
     room: &mut Parts,
     bytes: &mut Vec<u8>,
 ) -> Result<Known, NoMemory>
-    requires size { length colors.now ≡ w * h }
-    requires within { All (IsWithin format.now) colors.now }
+    requires size { length numbers.now ≡ w * h }
+    requires numbers { All (IsNumber format.now) numbers.now }
     requires across { 0 < w }
     requires down { 0 < h }
     requires wide { w ≤ 16 }
     requires high { h ≤ 16 }
     ensures ok { IfOk result (λ after. (before : List Tile) → IsKnown before known
-        → Appends (ShowsTile format.now w h colors.now before after) bytes.old.items bytes.new.items) }
+        → Appends (ShowsTile format.now w h (colors_of format.now numbers.now) before after) bytes.old.items bytes.new.items) }
     ensures grows { Grows bytes.old.items bytes.new.items }
 {
-    let chosen = most_voted(colors);
-    let background = colors[chosen.place];
-    if cover(w, h, colors, background, chosen.is_only, room) {
+    let chosen = most_voted(numbers);
+    let number = numbers[chosen.place];
+    if cover(format, w, h, numbers, number, chosen.is_only, room) {
+        let background = format.color_of(number);
         let parts = room.as_slice();
         let ink = shared_color(parts);
         let mask = mask_for(known, background, ink, parts.len());
-        if parts_size(format, mask, parts.len()) <= 1 + colors.len() * format.bytes() {
+        if parts_size(format, mask, parts.len()) <= 1 + numbers.len() * format.bytes() {
             let foreground = ink.unwrap_or(background);
             append_parts_tile(format, mask, background, foreground, parts, bytes)?;
             return Ok(known_after(known, background, ink, mask.colored));
         }
     }
-    append_raw_tile(format, colors, bytes)?;
+    append_raw_tile(format, numbers, bytes)?;
     Ok(NOTHING_KNOWN)
 }
 
-// Appends the tiles of a rectangle.
+// Appends the tiles of a rectangle of these colours.
 fn append_tiles(
     w: u16,
     h: u16,
@@ -139,7 +142,39 @@ fn append_tiles(
     let mut room = Parts::new();
     for number in 0..count_tiles(w, h) {
         let area = tile_area(w, h, number);
-        let tile = tile_colors(colors, w, area);
+        let tile = tile_of_colors(format, colors, w, area);
+        let places = area.w as usize * area.h as usize;
+        known = append_tile(
+            format,
+            known,
+            area.w,
+            area.h,
+            &tile[..places],
+            &mut room,
+            bytes,
+        )?;
+    }
+    Ok(())
+}
+
+// The same of these pixels.
+fn append_number_tiles(
+    w: u16,
+    h: u16,
+    format: &PixelFormat,
+    numbers: &[u32],
+    bytes: &mut Vec<u8>,
+) -> Result<(), NoMemory>
+    requires size { length numbers.now ≡ h * w }
+    requires numbers { All (IsNumber format.now) numbers.now }
+    ensures ok { OnOk result (Appends (Shows format.now w h (colors_of format.now numbers.now)) bytes.old.items bytes.new.items) }
+    ensures grows { Grows bytes.old.items bytes.new.items }
+{
+    let mut known = NOTHING_KNOWN;
+    let mut room = Parts::new();
+    for number in 0..count_tiles(w, h) {
+        let area = tile_area(w, h, number);
+        let tile = tile_numbers(numbers, w, area);
         let places = area.w as usize * area.h as usize;
         known = append_tile(
             format,
@@ -175,5 +210,24 @@ pub fn encode(
 {
     let start = bytes.len();
     let appended = append_tiles(w, h, format, colors, bytes);
+    whole_or_none(appended, start, bytes)
+}
+
+/// Appends data of a rectangle of w by h that has these pixels, by rows, as [`encode`] does of their
+/// colours. Want of memory leaves `bytes` as it was.
+pub fn encode_numbers(
+    format: &PixelFormat,
+    w: u16,
+    h: u16,
+    numbers: &[u32],
+    bytes: &mut Vec<u8>,
+) -> Result<(), NoMemory>
+    requires size { length numbers.now ≡ h * w }
+    requires numbers { All (IsNumber format.now) numbers.now }
+    ensures ok { OnOk result (Appends (Shows format.now w h (colors_of format.now numbers.now)) bytes.old.items bytes.new.items) }
+    ensures err { OnErr result (bytes.new.items ≡ bytes.old.items) }
+{
+    let start = bytes.len();
+    let appended = append_number_tiles(w, h, format, numbers, bytes);
     whole_or_none(appended, start, bytes)
 }

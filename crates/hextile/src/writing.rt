@@ -5,6 +5,8 @@ ghost use Rattle.pixel_format.specs.Format.{pixel_bytes};
 ghost use Rattle.pixel_format.specs.Pixel.{IsWithin, pixel_of};
 ghost use Rattle.terms.specs.Appending.{Appends, Grows};
 ghost use Rattle.std.specs.List.{flat_map};
+ghost use Rattle.pixel_format.specs.Number.{IsNumber};
+ghost use Rattle.hextile.specs.Numbered.{colors_of};
 ghost use Rattle.hextile.specs.Grammar.{mask_of};
 ghost use Rattle.hextile.specs.Data.{IsPixelIf, AreBytesOf, AreSubrectangles, IsHead, AreRaw};
 ghost use Rattle.hextile.specs.Encoded.{shown_if, drawn, pixel_if, part_bytes, mask_number, parts_tile_bytes, IsPart, IsWritten};
@@ -148,16 +150,16 @@ pub(crate) fn append_parts_tile(
 /// Appends a raw tile. Want of memory may leave some of the bytes.
 pub(crate) fn append_raw_tile(
     format: &PixelFormat,
-    colors: &[Color],
+    numbers: &[u32],
     bytes: &mut Vec<u8>,
 ) -> Result<(), NoMemory>
-    requires { All (IsWithin format.now) colors.now }
-    ensures ok { OnOk result ((w h : ℕ) → length colors.now ≡ w * h
-        → Appends (AreRaw format.now w h colors.now) bytes.old.items bytes.new.items) }
-    ensures written { OnOk result (bytes.new.items ≡ bytes.old.items ++ 1 ∷ flat_map (pixel_of format.now) colors.now) }
+    requires { All (IsNumber format.now) numbers.now }
+    ensures ok { OnOk result ((w h : ℕ) → length numbers.now ≡ w * h
+        → Appends (AreRaw format.now w h (colors_of format.now numbers.now)) bytes.old.items bytes.new.items) }
+    ensures written { OnOk result (bytes.new.items ≡ bytes.old.items ++ 1 ∷ flat_map (pixel_of format.now) (colors_of format.now numbers.now)) }
     ensures grows { Grows bytes.old.items bytes.new.items }
 {
     bytes.push(1)?;
-    format.append_pixels(colors, bytes)?;
+    format.append_numbers(numbers, bytes)?;
     Ok(())
 }

@@ -11,3 +11,4 @@ pub mod Whole
 pub mod SentRows
 pub mod SentColors
 pub mod SentParts
+pub mod SentNumbers

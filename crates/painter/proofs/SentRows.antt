@@ -1,5 +1,5 @@
 -- Appending the pixels of an area.
-use Rattle.std.proofs.Common.{◌≡◌, ℕ, zero, suc, ◌+◌, ◌-◌, ◌*◌, ◌<◌, List, [], ◌∷◌, ◌++◌, length, take, drop, get_or, map, refl, sym, ap, subst, ◌∙◌, arith, zero-mul, append_assoc}
+use Rattle.std.proofs.Common.{◌≡◌, ℕ, zero, suc, ◌+◌, ◌-◌, ◌*◌, ◌/◌, ◌%◌, ◌<◌, ◌≤◌, List, [], ◌∷◌, ◌++◌, length, take, drop, get_or, map, refl, sym, ap, subst, ◌∙◌, arith, zero-mul, append_assoc}
 use Rattle.std.specs.Prelude.{Result, Ok, Err, OnOk}
 use Rattle.std.specs.List.{flat_map, range_with_len}
 use Rattle.std.proofs.lemmas.List.{append-nil, get_or-map, length-map, map-append}
@@ -7,6 +7,7 @@ use Rattle.std.proofs.lemmas.Grind.{flat_map-append}
 use borrow.Rule.Slice.PartMut.{put_mid}
 use Rattle.pixel_format.specs.declared.Color.{Color}
 use Rattle.pixel_format.specs.Format.{Format, pixel_bytes, host_format}
+use Rattle.pixel_format.specs.Number.{IsNumber}
 use Rattle.pixel_format.specs.Pixel.{pixel_of, pixel_color, converted, converted_channel}
 use Rattle.pixel_format.specs.Canvas.{black, nth}
 use Rattle.terms.specs.Appending.{Appends, Grows}
@@ -25,6 +26,20 @@ same_channel v = omega arith
 
 pub same_color : (c : Color) → converted host_format c ≡ c
 same_color c = rw (same_channel c.r, same_channel c.g, same_channel c.b) refl
+
+small_channel : (n : ℕ) → n % 256 ≤ 255
+small_channel n = omega arith
+
+-- what a screen keeps for a place is the number of its pixel there
+pub host_number : (p : Pixel) → IsNumber host_format p.number
+host_number p =
+    let short = p.short in
+    let whole : p.number / 65536 % 256 * 65536 + p.number / 256 % 256 * 256 + p.number / 1 % 256 * 1 ≡ p.number = omega (arith, short) in
+    record {
+      fits = omega (arith, short);
+      within = record { red = small_channel (p.number / 65536); green = small_channel (p.number / 256); blue = small_channel (p.number / 1) };
+      is = whole;
+    }
 
 -- one pixel more of a row
 pub row_more : (f : Format) (row : List Pixel) (bytes pixel : List ℕ) (k s : ℕ) (d : Pixel) (color : Color) → s ≡ pixel_bytes f → length bytes ≡ length row * s → k < length row

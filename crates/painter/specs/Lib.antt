@@ -6,3 +6,4 @@ pub mod Update
 pub mod Key
 pub mod Sent
 pub mod SentUpdate
+pub mod Numbered

@@ -4,6 +4,7 @@
 mod colors;
 mod key;
 mod laws;
+mod numbering;
 mod pixel;
 mod rectangle;
 mod row;

@@ -12,8 +12,11 @@ ghost use Rattle.rect_data.specs.Data.{AreData};
 ghost use Rattle.rect_codec.specs.Written.{ArePixels};
 ghost use Rattle.terms.specs.Appending.{Appends};
 ghost use Rattle.painter.specs.Sent.{area_colors, sent_colors};
+ghost use Rattle.painter.specs.Numbered.{AreNumbersOf};
+ghost use Rattle.terms.specs.declared.area.Area.{Area};
 
 use crate::colors::read_area;
+use crate::numbering::number_area;
 use crate::pixel::{BLACK, Pixel};
 use crate::rectangle::{copy_area, fill_area, paint_raw};
 use crate::row::{color_of_pixel, pixel_of_color};
@@ -97,11 +100,10 @@ impl Screen {
         Ok(())
     }
 
-    /// Which colours `area_colors` are: those of the places of the area, by rows. (It does nothing.)
-    pub fn known_colors(&self, area: Area)
-        requires columns { area.x + area.w ≤ self.now.width }
-        requires rows { area.y + area.h ≤ self.now.height }
-        ensures { AreColorsOf self.now area (area_colors self.now area) }
+    /// Which colours `area_colors` are: those of the places of an area, by rows. (It does nothing.)
+    pub fn known_colors(&self)
+        ensures { (area : Area) → area.x + area.w ≤ self.now.width → area.y + area.h ≤ self.now.height
+            → AreColorsOf self.now area (area_colors self.now area) }
     {
         let _ = &self.width;
     }
@@ -123,6 +125,22 @@ impl Screen {
         let start = out.len();
         let appended = append_area(format, &self.pixels, self.width, area, out);
         whole_or_none(appended, start, out)
+    }
+
+    /// The numbers of the pixels of the places of an area, by rows, as a format has them.
+    pub(crate) fn numbers(
+        &self,
+        alloc: Global,
+        format: &PixelFormat,
+        area: Area,
+    ) -> Result<Vec<u32>, NoMemory>
+        requires columns { area.x + area.w ≤ self.now.width }
+        requires rows { area.y + area.h ≤ self.now.height }
+        ensures { IfOk result (λ numbers. AreNumbersOf format.now (sent_colors format.now self.now area) numbers.items) }
+    {
+        let mut numbers = Vec::new(alloc);
+        number_area(format, &self.pixels, self.width, area, &mut numbers)?;
+        Ok(numbers)
     }
 
     /// Whether the other screen is the same: it has this size, and the same colour at each place.

@@ -25,7 +25,7 @@ fn put_host(row: &[Pixel], bytes: &mut [u8])
     let host = PixelFormat::host();
     for (k, place) in row.iter().enumerate() {
         let start = k * 4;
-        host.put(color_of_pixel(*place), &mut bytes[start..start + 4]);
+        host.write_number(place.number, &mut bytes[start..start + 4]);
     }
 }
 

@@ -9,7 +9,7 @@ ghost use Rattle.painter.specs.SentUpdate.{part_of, parts_of, CanBeSent};
 
 use crate::screen::Screen;
 use pixel_format::{Color, PixelFormat};
-use rect_codec::{append_colors, append_copy, append_head};
+use rect_codec::{append_colors, append_copy, append_head, append_hextile};
 use rect_data::Encoding;
 use std::alloc::Global;
 use terms::{Area, NoMemory, whole_or_none};
@@ -45,11 +45,32 @@ impl Screen {
         ensures ok { OnOk result (Appends (IsRectangle format.now area (sent_colors format.now self.now area) Encoding.Raw) out.old.items out.new.items) }
         ensures err { OnErr result (out.new.items ≡ out.old.items) }
     {
-        self.known_colors(area);
+        self.known_colors();
         let start = out.len();
         append_head(area, Encoding::Raw, out)?;
         let appended = self.append_pixels(format, area, out);
         whole_or_none(appended, start, out)
+    }
+
+    // Appends a Hextile rectangle of the places of an area, or a Raw one where that isn't longer.
+    fn append_hextile_or_raw(
+        &self,
+        alloc: Global,
+        format: &PixelFormat,
+        area: Area,
+        out: &mut Vec<u8>,
+    ) -> Result<(), NoMemory>
+        requires columns { area.x + area.w ≤ self.now.width }
+        requires rows { area.y + area.h ≤ self.now.height }
+        ensures ok { OnOk result (Appends (IsRectangleFor format.now area (sent_colors format.now self.now area) Encoding.Hextile) out.old.items out.new.items) }
+        ensures err { OnErr result (out.new.items ≡ out.old.items) }
+    {
+        self.known_colors();
+        let numbers = self.numbers(alloc, format, area)?;
+        if append_hextile(format, area, &numbers, out)? {
+            return Ok(());
+        }
+        self.append_raw(format, area, out)
     }
 
     // The colours of the places of an area, as a format has them.
@@ -65,7 +86,7 @@ impl Screen {
         ensures within { IfOk result (λ colors. All (IsWithin format.now) colors.items) }
         ensures size { IfOk result (λ colors. length colors.items ≡ area.h * area.w) }
     {
-        self.known_colors(area);
+        self.known_colors();
         let mut read = Vec::new(alloc);
         self.area(area, &mut read)?;
         let mut colors = vec![in alloc; Color { r: 0, g: 0, b: 0 }; read.len()]?;
@@ -87,7 +108,10 @@ impl Screen {
         ensures ok { OnOk result (Appends (IsRectangleFor format.now area (sent_colors format.now self.now area) encoding) out.old.items out.new.items) }
         ensures err { OnErr result (out.new.items ≡ out.old.items) }
     {
-        if encoding == Encoding::Raw || encoding == Encoding::CopyRect {
+        if encoding == Encoding::Hextile {
+            return self.append_hextile_or_raw(alloc, format, area, out);
+        }
+        if encoding != Encoding::Rre {
             return self.append_raw(format, area, out);
         }
         let colors = self.colors_for(alloc, format, area)?;

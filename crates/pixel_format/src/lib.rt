@@ -8,12 +8,14 @@ mod colors;
 mod format;
 mod kind;
 mod laws;
+mod runs;
 
 pub use canvas::Canvas;
 pub use colors::{end_of_color, same};
 pub use format::{PixelFormat, host_pixel};
 pub use kind::Format;
 pub use laws::{valid_formats, written_as_read};
+pub use runs::end_of_number;
 
 /// A colour: how much of red, green and blue, each from 0 to its channel's maximum. A colour of a
 /// screen has channels of at most 255.

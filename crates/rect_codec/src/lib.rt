@@ -4,11 +4,13 @@
 
 mod encoding;
 mod laws;
+mod numbers;
 mod parts;
 mod pixels;
 mod update;
 
 pub use encoding::pick;
 pub use laws::{written_parts_are_read, written_update_is_read};
+pub use numbers::append_hextile;
 pub use parts::{Part, append_copy, write_parts};
 pub use update::{append_colors, append_head, write_update};

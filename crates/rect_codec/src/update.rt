@@ -16,7 +16,7 @@ use std::alloc::Global;
 use terms::{Area, NoMemory};
 
 // How many bytes a rectangle's header has.
-const HEAD_SIZE: usize = 12;
+pub(crate) const HEAD_SIZE: usize = 12;
 
 /// Appends the header of a rectangle: its area, and the number of its encoding (RFC 6143, section
 /// 7.6.1). Want of memory leaves `out` as it was.

@@ -55,8 +55,29 @@ impl PixelFormat {
         ensures written { OnOk result (bytes.new.items ≡ bytes.old.items ++ pixel_of self.now (number_color self.now number)) }
         ensures grows { Grows bytes.old.items bytes.new.items }
     {
+        match self.bytes() {
+            1 => self.append_sized_number(1, number, bytes),
+            2 => self.append_sized_number(2, number, bytes),
+            _ => self.append_sized_number(4, number, bytes),
+        }
+    }
+
+    // The same for pixels of so many bytes, which the compiler knows where it is called.
+    #[inline(always)]
+    fn append_sized_number(
+        &self,
+        size: usize,
+        number: u32,
+        bytes: &mut Vec<u8>,
+    ) -> Result<(), NoMemory>
+        requires bytes { size ≡ pixel_bytes self.now }
+        requires small { size ≤ 4 }
+        requires number { IsNumber self.now number }
+        ensures ok { OnOk result (Appends (IsPixel self.now (number_color self.now number)) bytes.old.items bytes.new.items) }
+        ensures written { OnOk result (bytes.new.items ≡ bytes.old.items ++ pixel_of self.now (number_color self.now number)) }
+        ensures grows { Grows bytes.old.items bytes.new.items }
+    {
         let mut pixel = [0; 4];
-        let size = self.bytes();
         self.write_number(number, &mut pixel[..size]);
         bytes.extend_from_slice(&pixel[..size])
     }
@@ -68,8 +89,30 @@ impl PixelFormat {
         ensures written { OnOk result (bytes.new.items ≡ bytes.old.items ++ flat_map (pixel_of self.now) (map (number_color self.now) numbers.now)) }
         ensures grows { Grows bytes.old.items bytes.new.items }
     {
+        match self.bytes() {
+            1 => self.append_sized_numbers(1, numbers, bytes),
+            2 => self.append_sized_numbers(2, numbers, bytes),
+            _ => self.append_sized_numbers(4, numbers, bytes),
+        }
+    }
+
+    // The same for pixels of so many bytes: a loop for each size.
+    #[inline(always)]
+    fn append_sized_numbers(
+        &self,
+        size: usize,
+        numbers: &[u32],
+        bytes: &mut Vec<u8>,
+    ) -> Result<(), NoMemory>
+        requires bytes { size ≡ pixel_bytes self.now }
+        requires small { size ≤ 4 }
+        requires numbers { All (IsNumber self.now) numbers.now }
+        ensures ok { OnOk result (Appends (ArePixels self.now (map (number_color self.now) numbers.now)) bytes.old.items bytes.new.items) }
+        ensures written { OnOk result (bytes.new.items ≡ bytes.old.items ++ flat_map (pixel_of self.now) (map (number_color self.now) numbers.now)) }
+        ensures grows { Grows bytes.old.items bytes.new.items }
+    {
         for number in numbers {
-            self.append_number(*number, bytes)?;
+            self.append_sized_number(size, *number, bytes)?;
         }
         Ok(())
     }

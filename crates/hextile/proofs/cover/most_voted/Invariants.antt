@@ -2,4 +2,4 @@ use Rattle.std.proofs.Common.{◌<◌, ◌≤◌, length}
 use Rattle.hextile.proofs.cover.most_voted.Given as goal
 
 abbrev pub invariant-loop-k : goal.invariant-loop-k
-invariant-loop-k l = record { place : l.place < length l.colors; votes : l.votes ≤ l.k }
+invariant-loop-k l = record { place : l.place < length l.numbers; votes : l.votes ≤ l.k }

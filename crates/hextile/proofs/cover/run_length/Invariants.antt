@@ -1,6 +1,5 @@
-use Rattle.std.proofs.Common.{◌≡◌, ℕ, ◌+◌, ◌<◌}
-use Rattle.pixel_format.specs.Canvas.{nth}
+use Rattle.std.proofs.Common.{◌≡◌, ℕ, ◌+◌, ◌<◌, get_or}
 use Rattle.hextile.proofs.cover.run_length.Given as goal
 
 abbrev pub invariant-loop-k : goal.invariant-loop-k
-invariant-loop-k l = (i : ℕ) → i < l.k → nth l.colors (l.start + i) ≡ l.color
+invariant-loop-k l = (i : ℕ) → i < l.k → get_or l.numbers (l.start + i) 0 ≡ l.number

@@ -15,7 +15,7 @@ returns-clause-ok c =
     let area = c.args.area in
     let colors = sent_colors f c.args.self.now area in
     let old = c.args.out.now.items in
-    let many : length colors ≡ area.h * area.w = length-map (area_colors c.args.self.now area) (converted f) ∙ c.known_colors.ensures.size in
+    let many : length colors ≡ area.h * area.w = length-map (area_colors c.args.self.now area) (converted f) ∙ (c.known_colors.ensures area c.requires.columns c.requires.rows).size in
     both_ok c.whole_or_none.result c.append_pixels-appended.result _ _ _ c.whole_or_none.ensures.same c.append_pixels-appended.ensures.ok c.whole_or_none.ensures.ok
     (λ first kept. subst (λ (z : List ℕ). Appends (IsRectangle f area colors encodings.Raw) old z) (sym kept)
     (raw_rectangle f area colors old c.append_head.new.out.items c.append_pixels-appended.new.out.items many c.in_ok-append_head.ensures.ok first))

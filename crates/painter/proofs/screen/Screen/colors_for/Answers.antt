@@ -19,6 +19,6 @@ returns-clause-value c =
     let none : drop (length row) items ≡ [] = drop_all (length row) items (omega arith) in
     let a = c.in_ok-area.ensures.ok in
     let read : c.area.new.out.items ≡ area_colors screen area = a.new_is ∙ ap (λ (l : List Color). l ++ a.colors) c.new-read.ensures.items
-    ∙ colors_unique screen area a.colors (area_colors screen area) a.has c.known_colors.ensures in
+    ∙ colors_unique screen area a.colors (area_colors screen area) a.has (c.known_colors.ensures area c.requires.columns c.requires.rows) in
     ap (λ (z : List Color). take len (row ++ z)) none ∙ ap (take len) (append-nil row) ∙ take_all len row (omega arith)
     ∙ c.convert_row.ensures.value ∙ ap (map (converted f)) (c.deref.ensures.value ∙ read)

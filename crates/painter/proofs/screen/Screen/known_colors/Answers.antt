@@ -5,7 +5,7 @@ use Rattle.painter.proofs.SentColors.{colors_are}
 use Rattle.painter.proofs.screen.Screen.known_colors.Goals as goal
 
 pub returns : goal.returns
-returns c =
+returns c = λ area columns rows.
     let s = c.self.inside in
-    subst (λ (screen : Framebuffer). AreColorsOf screen c.args.area (area_colors screen c.args.area)) c.self.view_is
-    (colors_are s.width s.height s.pixels.items c.args.area (sym s.pixels.ok.0 ∙ c.self.invariant) (rw (← c.self.view_is) at c.requires.columns) (rw (← c.self.view_is) at c.requires.rows))
+    subst (λ (screen : Framebuffer). AreColorsOf screen area (area_colors screen area)) c.self.view_is
+    (colors_are s.width s.height s.pixels.items area (sym s.pixels.ok.0 ∙ c.self.invariant) (rw (← c.self.view_is) at columns) (rw (← c.self.view_is) at rows))

@@ -5,8 +5,9 @@ use Rattle.std.proofs.Math.Nat.{mul-le-mul}
 use Rattle.std.specs.Prelude.{slice_set}
 use Rattle.pixel_format.specs.Canvas.{nth}
 use Rattle.hextile.specs.Encoded.{AreTileColors}
-use Rattle.hextile.proofs.Covered.{colors_more}
-use Rattle.hextile.proofs.cover.tile_colors.Goals as goal
+use Rattle.hextile.specs.Numbered.{colors_of, AreNumbersUpto}
+use Rattle.hextile.proofs.NumberTiles.{colors_more, upto_more}
+use Rattle.hextile.proofs.cover.tile_of_colors.Goals as goal
 
 pub loop-column-preserved : goal.loop-column-preserved
 loop-column-preserved c =
@@ -23,9 +24,13 @@ loop-column-preserved c =
     ap (λ (n : ℕ). (area.y + n) * c.args.w + (area.x + k % tw)) (div-mul-add row tw column across)
     ∙ ap (λ (n : ℕ). (area.y + row) * c.args.w + (area.x + n)) (mod-mul-add row tw column across) ∙ omega arith in
     let next : k + 1 ≡ row * tw + (column + 1) = omega arith in
+    let f = c.args.format.now in
+    let n = c.number_of.result in
     record {
       size = length-set _ _ _ ∙ c.loop-column.invariant.size;
-      are = subst (λ (n : ℕ). AreTileColors c.args.colors.now c.args.w area.x area.y tw
-          (slice_set c.loop-column.tile k (nth c.args.colors.now ((area.y + row) * c.args.w + area.x + column))) n) next
-          (colors_more c.args.colors.now c.args.w area.x area.y tw c.loop-column.tile k _ fits c.loop-column.invariant.are (ap (nth c.args.colors.now) (sym at)));
+      are = subst (λ (m : ℕ). AreTileColors c.args.colors.now c.args.w area.x area.y tw (colors_of f (slice_set c.loop-column.tile k n)) m) next
+          (colors_more f c.args.colors.now c.args.w area.x area.y tw c.loop-column.tile k n fits c.loop-column.invariant.are
+          (c.number_of.ensures.color ∙ ap (nth c.args.colors.now) (sym at)));
+      numbers = subst (λ (m : ℕ). AreNumbersUpto f (slice_set c.loop-column.tile k n) m) next
+          (upto_more f c.loop-column.tile k n fits c.loop-column.invariant.numbers c.number_of.ensures.number);
     }

@@ -3,7 +3,7 @@ use Rattle.std.specs.List.{flat_map}
 use Rattle.pixel_format.specs.Pixel.{ArePixels, pixel_of}
 use Rattle.pixel_format.specs.Number.{number_color}
 use Rattle.terms.specs.Appending.{Appends}
-use Rattle.pixel_format.proofs.format.PixelFormat.append_numbers.Given as goal
+use Rattle.pixel_format.proofs.format.PixelFormat.append_sized_numbers.Given as goal
 
 -- the pixels of the numbers so far
 abbrev pub invariant-loop-number : goal.invariant-loop-number

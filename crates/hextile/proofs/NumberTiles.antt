@@ -1,0 +1,77 @@
+-- Tiles whose pixels are numbers, and the colours of these.
+use Rattle.std.proofs.Common.{◌≡◌, ℕ, zero, suc, ◌+◌, ◌*◌, ◌/◌, ◌%◌, ◌<◌, ◌≤◌, Bool, true, false, cond, inl, inr, List, [], ◌∷◌, length, set, take, get_or, refl, sym, ap, subst, ◌∙◌, arith}
+use Rattle.std.specs.Prelude.{All}
+use Rattle.std.proofs.Math.Nat.{zero-div, zero-mod, mod-lt, div-lt_iff_lt-mul, mul_comm}
+use Rattle.std.proofs.lemmas.Bool.{cases_eq}
+use Rattle.std.proofs.lemmas.List.{get_or-set_same, get_or-set_other, get_or-take, get_or_default, length-take-le}
+use Rattle.std.proofs.lemmas.Nat.{mul-add-lt}
+use Rattle.pixel_format.specs.declared.Color.{Color}
+use Rattle.pixel_format.specs.Format.{Channel, Format}
+use Rattle.pixel_format.specs.Pixel.{channel_value}
+use Rattle.pixel_format.specs.Number.{number_color, IsNumber}
+use Rattle.pixel_format.specs.Canvas.{nth}
+use Rattle.hextile.specs.Tiles.{tile_count, tile_left, tile_top, tile_width, tile_height}
+use Rattle.hextile.specs.Encoded.{AreTileColors}
+use Rattle.hextile.specs.Numbered.{colors_of, AreTileNumbers, AreNumbersUpto}
+use Rattle.hextile.proofs.Tiling.{some_places, some_width, tile_across, tile_down}
+
+no_value : (c : Channel) → channel_value c 0 ≡ 0
+no_value c = rw (zero-div, zero-mod) refl
+
+-- the colour of a place is that of its number
+pub color_nth : (f : Format) (numbers : List ℕ) (k : ℕ) → nth (colors_of f numbers) k ≡ number_color f (get_or numbers k 0)
+color_nth f [] k = rw (no_value f.red, no_value f.green, no_value f.blue) refl
+color_nth f (n ∷ numbers) zero = refl
+color_nth f (n ∷ numbers) (suc k) = color_nth f numbers k
+
+pub color_if : (f : Format) (b : Bool) (m n : ℕ) → number_color f (cond b m n) ≡ cond b (number_color f m) (number_color f n)
+color_if f true m n = refl
+color_if f false m n = refl
+
+-- one more of a tile's pixels
+pub numbers_more : (numbers : List ℕ) (w left top tw : ℕ) (tile : List ℕ) (k n : ℕ) → k < length tile
+    → AreTileNumbers numbers w left top tw tile k → n ≡ get_or numbers ((top + k / tw) * w + (left + k % tw)) 0
+    → AreTileNumbers numbers w left top tw (set tile k n) (k + 1)
+numbers_more numbers w left top tw tile k n fits are is = λ i less. elim (cases_eq i k) [
+  | inl same ↦ ap (λ m. get_or (set tile k n) m 0) same ∙ get_or-set_same tile k n 0 fits ∙ is ∙ ap (λ m. get_or numbers ((top + m / tw) * w + (left + m % tw)) 0) (sym same)
+  | inr other ↦ get_or-set_other tile k i n 0 other ∙ are i (omega (arith, other))
+]
+
+pub colors_more : (f : Format) (colors : List Color) (w left top tw : ℕ) (tile : List ℕ) (k n : ℕ) → k < length tile
+    → AreTileColors colors w left top tw (colors_of f tile) k → number_color f n ≡ nth colors ((top + k / tw) * w + (left + k % tw))
+    → AreTileColors colors w left top tw (colors_of f (set tile k n)) (k + 1)
+colors_more f colors w left top tw tile k n fits are is = λ i less. color_nth f (set tile k n) i ∙ elim (cases_eq i k) [
+  | inl same ↦ ap (number_color f) (ap (λ m. get_or (set tile k n) m 0) same ∙ get_or-set_same tile k n 0 fits) ∙ is ∙ ap (λ m. nth colors ((top + m / tw) * w + (left + m % tw))) (sym same)
+  | inr other ↦ ap (number_color f) (get_or-set_other tile k i n 0 other) ∙ sym (color_nth f tile i) ∙ are i (omega (arith, other))
+]
+
+pub upto_more : (f : Format) (tile : List ℕ) (k n : ℕ) → k < length tile → AreNumbersUpto f tile k → IsNumber f n → AreNumbersUpto f (set tile k n) (k + 1)
+upto_more f tile k n fits are is = λ i less. elim (cases_eq i k) [
+  | inl same ↦ subst (IsNumber f) (sym (ap (λ m. get_or (set tile k n) m 0) same ∙ get_or-set_same tile k n 0 fits)) is
+  | inr other ↦ subst (IsNumber f) (sym (get_or-set_other tile k i n 0 other)) (are i (omega (arith, other)))
+]
+
+-- the colours of a tile's pixels are those of the rectangle's
+pub tile_is : (f : Format) (numbers : List ℕ) (w left top tw : ℕ) (tile : List ℕ) (count : ℕ) → AreTileNumbers numbers w left top tw tile count
+    → AreTileColors (colors_of f numbers) w left top tw (colors_of f tile) count
+tile_is f numbers w left top tw tile count are = λ k less.
+    color_nth f tile k ∙ ap (number_color f) (are k less) ∙ sym (color_nth f numbers ((top + k / tw) * w + (left + k % tw)))
+
+pub numbers_taken : (f : Format) (tile : List ℕ) (n : ℕ) → n ≤ length tile → AreNumbersUpto f tile n → All (IsNumber f) (take n tile)
+numbers_taken f tile n fits are = λ k d in_it.
+    let short : k < n = omega (arith, length-take-le n tile fits, in_it) in
+    subst (IsNumber f) (sym (get_or-take n tile k d short ∙ get_or_default tile k d 0 (omega (arith, short, fits)))) (are k short)
+
+-- the pixels of a tile are numbers where the rectangle's are
+pub numbers_within : (f : Format) (w h : ℕ) (numbers tile : List ℕ) (number tw th : ℕ) → number < tile_count w h → tw ≡ tile_width w number → th ≡ tile_height w h number
+    → length numbers ≡ h * w → AreTileNumbers numbers w (tile_left w number) (tile_top w number) tw tile (tw * th)
+    → All (IsNumber f) numbers → AreNumbersUpto f tile (tw * th)
+numbers_within f w h numbers tile number tw th less tw_is th_is size are within = λ k short.
+    let some = some_places w h number less in
+    let wide : 0 < tw = rw tw_is (some_width w number some.0) in
+    let across : tile_left w number + k % tw < w = let m = mod-lt k wide in let t = tile_across w number some.0 in omega (arith, tw_is) in
+    let down : tile_top w number + k / tw < h =
+    let m = (div-lt_iff_lt-mul {x = k} {y = th} wide).1 (rw (mul_comm th tw) short) in let t = tile_down w h number some.0 less in omega (arith, th_is) in
+    let at : (tile_top w number + k / tw) * w + (tile_left w number + k % tw) < length numbers =
+    rw size (rw (mul_comm h w) (mul-add-lt (tile_top w number + k / tw) w (tile_left w number + k % tw) h down across)) in
+    subst (IsNumber f) (sym (are k short)) (within ((tile_top w number + k / tw) * w + (tile_left w number + k % tw)) 0 at)

@@ -1,0 +1,121 @@
+//! The pixels of areas of places as numbers of a viewer's format.
+
+ghost use Rattle.std.specs.Prelude.{◌≡◌, ◌+◌, ◌*◌, ◌<◌, ◌≤◌, ℕ, OnOk, length, slice_index};
+ghost use Rattle.pixel_format.specs.Canvas.{nth};
+ghost use Rattle.pixel_format.specs.Format.{host_format};
+ghost use Rattle.pixel_format.specs.Number.{number_color, IsNumber};
+ghost use Rattle.pixel_format.specs.Pixel.{AreSmall};
+ghost use Rattle.terms.specs.Appending.{Appends};
+ghost use Rattle.painter.specs.Sent.{seen_colors, seen_area};
+ghost use Rattle.painter.specs.Numbered.{AreNumbersOf, HasNumber};
+
+use crate::pixel::Pixel;
+use crate::row::color_of_pixel;
+use pixel_format::PixelFormat;
+use terms::{Area, NoMemory};
+
+// How many numbers are appended at once.
+const AT_ONCE: usize = 256;
+
+// The numbers of a row of places in the host's format: they are copied.
+fn number_host(row: &[Pixel], numbers: &mut [u32])
+    requires { length numbers.old ≡ length row.now }
+    ensures { (k : ℕ) → k < length row.now → HasNumber host_format (nth (seen_colors host_format row.now) k) (slice_index numbers.new k) }
+{
+    for (k, place) in row.iter().enumerate() {
+        numbers[k] = place.number;
+    }
+}
+
+// The same in a format that has no channel of more than 255.
+fn number_small(format: &PixelFormat, row: &[Pixel], numbers: &mut [u32])
+    requires small { AreSmall format.now }
+    requires room { length numbers.old ≡ length row.now }
+    ensures { (k : ℕ) → k < length row.now → HasNumber format.now (nth (seen_colors format.now row.now) k) (slice_index numbers.new k) }
+{
+    for (k, place) in row.iter().enumerate() {
+        numbers[k] = format.number_of(format.convert_small(color_of_pixel(*place)));
+    }
+}
+
+// The same in any format.
+fn number_any(format: &PixelFormat, row: &[Pixel], numbers: &mut [u32])
+    requires { length numbers.old ≡ length row.now }
+    ensures { (k : ℕ) → k < length row.now → HasNumber format.now (nth (seen_colors format.now row.now) k) (slice_index numbers.new k) }
+{
+    for (k, place) in row.iter().enumerate() {
+        numbers[k] = format.number_of(format.convert(color_of_pixel(*place)));
+    }
+}
+
+// The numbers of a row of places.
+fn number_row(format: &PixelFormat, row: &[Pixel], numbers: &mut [u32])
+    requires { length numbers.old ≡ length row.now }
+    ensures { (k : ℕ) → k < length row.now → HasNumber format.now (nth (seen_colors format.now row.now) k) (slice_index numbers.new k) }
+{
+    if format.is_host() {
+        number_host(row, numbers);
+    } else if format.has_small_maxima() {
+        number_small(format, row, numbers);
+    } else {
+        number_any(format, row, numbers);
+    }
+}
+
+// Appends the numbers of so few places that the block has room for them. There they are put together
+// first: so what they are appended to need not be cleared.
+fn append_some(
+    format: &PixelFormat,
+    row: &[Pixel],
+    block: &mut [u32; AT_ONCE],
+    out: &mut Vec<u32>,
+) -> Result<(), NoMemory>
+    requires { length row.now ≤ 256 }
+    ensures { OnOk result (Appends (AreNumbersOf format.now (seen_colors format.now row.now)) out.old.items out.new.items) }
+{
+    let count = row.len();
+    number_row(format, row, &mut block[..count]);
+    out.extend_from_slice(&block[..count])
+}
+
+// Appends the numbers of a row of places.
+fn append_row(
+    format: &PixelFormat,
+    row: &[Pixel],
+    block: &mut [u32; AT_ONCE],
+    out: &mut Vec<u32>,
+) -> Result<(), NoMemory>
+    ensures { OnOk result (Appends (AreNumbersOf format.now (seen_colors format.now row.now)) out.old.items out.new.items) }
+{
+    let mut rest = row;
+    while !rest.is_empty() {
+        let (some, behind) = rest.split_at(rest.len().min(AT_ONCE));
+        append_some(format, some, block, out)?;
+        rest = behind;
+    }
+    Ok(())
+}
+
+/// Appends the numbers of the pixels of the places of an area, row by row. Want of memory may leave a
+/// part of them.
+pub(crate) fn number_area(
+    format: &PixelFormat,
+    pixels: &[Pixel],
+    width: u16,
+    area: Area,
+    out: &mut Vec<u32>,
+) -> Result<(), NoMemory>
+    requires columns { area.x + area.w ≤ width }
+    requires rows { (area.y + area.h) * width ≤ length pixels.now }
+    ensures { OnOk result (Appends (AreNumbersOf format.now (seen_area format.now pixels.now width area area.h)) out.old.items out.new.items) }
+{
+    let (line, w) = (usize::from(width), usize::from(area.w));
+    let (left, top) = (usize::from(area.x), usize::from(area.y));
+    out.reserve(usize::from(area.h) * w)?;
+    let mut block = [0; AT_ONCE];
+    for row in 0..usize::from(area.h) {
+        let start = (top + row) * line + left;
+        append_row(format, &pixels[start..start + w], &mut block, out)?;
+    }
+    Ok(())
+}
