@@ -31,6 +31,12 @@ fn convert_all(format: &PixelFormat, colors: &mut [Color])
     ensures value { (k : ℕ) → k < length colors.old
         → nth colors.new k ≡ converted format.now (nth colors.old k) }
 {
+    if format.has_small_maxima() {
+        for color in colors.iter_mut() {
+            *color = format.convert_small(*color);
+        }
+        return;
+    }
     for color in colors.iter_mut() {
         *color = format.convert(*color);
     }
