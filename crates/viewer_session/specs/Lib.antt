@@ -2,7 +2,7 @@ pub use Rattle.terms.specs.Reading
 pub use Rattle.terms.specs.Talk
 pub mod View
 pub mod Encoded
-pub mod Patches
+pub mod Parts
 pub mod Fault
 pub mod Handshake
 pub mod Stage
