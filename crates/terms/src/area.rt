@@ -43,8 +43,8 @@ impl Area {
     // Its columns, and its rows.
     fn runs(self) -> (Run, Run)
         ensures { result ≡ record {
-            0 = record { first = self.x; length = self.w };
-            1 = record { first = self.y; length = self.h };
+          0 = record { first = self.x; length = self.w };
+          1 = record { first = self.y; length = self.h };
         } }
     {
         let columns = Run {
