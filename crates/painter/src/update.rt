@@ -1,6 +1,7 @@
 //! Updates of a screen, as a viewer is sent them.
 
-ghost use Rattle.std.specs.Prelude.{◌≡◌, ◌+◌, ◌*◌, ◌<◌, ◌≤◌, ◌^◌, All, IfOk, OnOk, OnErr, length, take};
+ghost use Rattle.std.specs.Prelude.{◌≡◌, ◌+◌, ◌*◌, ◌<◌, ◌≤◌, ◌^◌, All, IfOk, OnOk, OnErr, length, map, take};
+ghost use Rattle.pixel_format.specs.Number.{number_color};
 ghost use Rattle.pixel_format.specs.Pixel.{IsWithin};
 ghost use Rattle.terms.specs.Appending.{Appends};
 ghost use Rattle.rect_codec.specs.Parts.{IsRectangle, IsRectangleFor, IsPart, AreParts};
@@ -30,6 +31,16 @@ pub enum ScreenPart {
         area: Area,
         encoding: Encoding,
     },
+}
+
+// The colours whose pixels have these numbers.
+fn colors_of(alloc: Global, format: &PixelFormat, numbers: &[u32]) -> Result<Vec<Color>, NoMemory>
+    ensures { IfOk result (λ colors. colors.items ≡ map (number_color format.now) numbers.now) }
+{
+    numbers
+        .iter()
+        .map(|number| format.color_of(*number))
+        .collect(alloc)
 }
 
 impl Screen {
@@ -87,11 +98,8 @@ impl Screen {
         ensures size { IfOk result (λ colors. length colors.items ≡ area.h * area.w) }
     {
         self.known_colors();
-        let mut read = Vec::new(alloc);
-        self.area(area, &mut read)?;
-        let mut colors = vec![in alloc; Color { r: 0, g: 0, b: 0 }; read.len()]?;
-        format.convert_row(&read, &mut colors);
-        Ok(colors)
+        let numbers = self.numbers(alloc, format, area)?;
+        colors_of(alloc, format, &numbers)
     }
 
     // Appends a rectangle of the places of an area.
