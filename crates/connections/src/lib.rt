@@ -13,6 +13,7 @@ mod viewer;
 
 pub use clock::{Stopwatch, time_after};
 pub use host::{Host, Messages};
+pub use pixel_format::Format;
 pub use plan::{Audience, Beginning, Origin, Plan, Playing};
 pub use refusal::{Ends, HostEnd, Refusal, first_refusal};
 pub use room::{Hall, Intake, Room};

@@ -4,6 +4,7 @@ ghost use Rattle.std.specs.Prelude.{◌≡◌, ◌≤◌, ℕ, Some};
 ghost use Rattle.reception.specs.State.{viewers_of};
 
 use broadcast::Start;
+use pixel_format::Format;
 use playing::{Pace, Program};
 use reception::Term;
 use sockets::Stop;
@@ -55,6 +56,8 @@ pub struct Plan<'a> {
     pub listen: &'a str,
     /// The host's address; without one the recording is served alone.
     pub host: Option<&'a str>,
+    /// The format of a new recording.
+    pub format: Format,
     /// After how many messages a new recording has a key screen.
     pub key_interval: u16,
     /// How many viewers are served.

@@ -9,6 +9,7 @@ use drill_script::{Line, LineFault, read_line};
 use flusher_core::Book;
 use gated_journal::{CreateFault, Header, Refused};
 use key_index::IndexFault;
+use pixel_format::Format;
 use std::alloc::{AllocError, Global};
 use std::io::{BufRead, BufReader, Read, Write};
 use std::{io, mem};
@@ -88,6 +89,7 @@ impl Drill {
     // A second `new` begins again with an empty disk.
     fn start(
         &mut self,
+        format: Format,
         width: u16,
         height: u16,
         key_interval: u16,
@@ -95,7 +97,7 @@ impl Drill {
     ) -> Result<Answer, AllocError> {
         self.fuse.disarm();
         let disk = self.fuse.on(MemoryDisk::new(self.alloc))?;
-        match Header::new(self.alloc, width, height, key_interval, name) {
+        match Header::with_format(self.alloc, format, width, height, key_interval, name) {
             Ok(header) => Ok(self.create(disk, header)),
             Err(fault) => {
                 self.bench = Bench::Disk(disk);
@@ -156,11 +158,12 @@ impl Drill {
     fn answer(&mut self, line: Line) -> Result<Answer, AllocError> {
         match line {
             Line::New {
+                format,
                 width,
                 height,
                 key_interval,
                 name,
-            } => self.start(width, height, key_interval, &name),
+            } => self.start(format, width, height, key_interval, &name),
             Line::Open => self.open(),
             Line::OnDesk(line) => match &mut self.bench {
                 Bench::Empty | Bench::Disk(_) => Ok(Answer::Bad),

@@ -4,6 +4,8 @@ use Rattle.std.specs.Char.{is_ascii_digit, IsAsciiDigit}
 use Rattle.std.specs.List.{AllByRecursion, concat, list_all, list_any}
 use Rattle.std.proofs.lemmas.Bool.{lt-ltb, ne_eqb, or_from}
 use Rattle.std.proofs.lemmas.Bool.Decides.{nat_tests}
+use Rattle.pixel_format.specs.declared.kind.Format.{Format}
+use Rattle.pixel_format.specs.declared.kind.Format.TheVariants.{One, Two}
 use Rattle.drill_script.specs.Grammar.{Command, NewCommand, HostCommand, TakeCommand, BodyCommand, GateCommand, OpenCommand, PixelCommand, FailCommand, StopCommand, JoinCommand, NextCommand, SeekCommand, LeaveCommand, IsNumber, IsName, IsHex, IsFill, IsStart, Says}
 use Rattle.terms.specs.Decimal.{decimal, number_of}
 use Rattle.drill_script.specs.Reading.{number_at, name_at, joined_at, hex_at, kind_by, new_at, host_at, pixel_at, fill_of, start_of, read_at, one_at, two_at, command_at}
@@ -65,10 +67,10 @@ hex_again : (words : List (List ℕ)) (bytes : List ℕ) → AreSome words → I
 unfolding hex_at
 hex_again words bytes some h = rw (joined_again words some, long words h.some some, h.spelled) refl
 
-new_again : (w h k name : List ℕ) (width height key_interval : ℕ) → IsNumber (2 ^ 16) w width → IsNumber (2 ^ 16) h height → IsNumber (2 ^ 16) k key_interval → name ≢ [] → IsName name
-    → new_at (w ∷ h ∷ k ∷ name ∷ []) ≡ Some (NewCommand width height key_interval name, [])
+new_again : (f : Format) (w h k name : List ℕ) (width height key_interval : ℕ) → IsNumber (2 ^ 16) w width → IsNumber (2 ^ 16) h height → IsNumber (2 ^ 16) k key_interval → name ≢ [] → IsName name
+    → new_at f (w ∷ h ∷ k ∷ name ∷ []) ≡ Some (NewCommand f width height key_interval name, [])
 unfolding new_at
-new_again w h k name width height key_interval a b d some e =
+new_again f w h k name width height key_interval a b d some e =
     rw (number_again (2 ^ 16) w width (h ∷ k ∷ name ∷ []) a, number_again (2 ^ 16) h height (k ∷ name ∷ []) b, number_again (2 ^ 16) k key_interval (name ∷ []) d, name_again name [] some e) refl
 
 host_again : (t : List ℕ) (hex : List (List ℕ)) (time : ℕ) (bytes : List ℕ) → IsNumber (2 ^ 32) t time → AreSome hex → IsHex hex bytes → host_at (t ∷ hex) ≡ Some (HostCommand time bytes, [])
@@ -122,9 +124,12 @@ two_again Is reads written Also others also_written say word other it also some 
 -- the words say one command, as which they are read
 pub command_again : (words : List (List ℕ)) (command : Command) → AreSome words → Says words command → command_at words ≡ Some command
 unfolding command_at kind_by
-command_again words (NewCommand width height key_interval name) some says =
+command_again words (NewCommand One width height key_interval name) some says =
     let all = rw says.3 at some in
-    rw says.3 (rw (new_again says.0 says.1 says.2 name width height key_interval says.4 says.5 says.6 all.1.1.1.1.0 says.7) refl)
+    rw says.3 (rw (new_again One says.0 says.1 says.2 name width height key_interval says.4 says.5 says.6 all.1.1.1.1.0 says.7) refl)
+command_again words (NewCommand Two width height key_interval name) some says =
+    let all = rw says.3 at some in
+    rw says.3 (rw (new_again Two says.0 says.1 says.2 name width height key_interval says.4 says.5 says.6 all.1.1.1.1.0 says.7) refl)
 command_again words (HostCommand time bytes) some says =
     let all = rw says.2 at some in
     rw says.2 (rw (host_again says.0 says.1 time bytes says.3 all.1.1 says.4) refl)

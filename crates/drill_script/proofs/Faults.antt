@@ -21,5 +21,6 @@ text_takes it first text rest at named takes =
     let begins = sym (parts_begin text first rest (word_takes (parts text) (first, rest) at).0) ∙ kind_named first it named in
     elim takes [
       | inl new ↦ inl (begins ∙ ap keyword new)
-      | inr host ↦ inr (begins ∙ ap keyword host)
+      | inr (inl chained) ↦ inr (inl (begins ∙ ap keyword chained))
+      | inr (inr host) ↦ inr (inr (begins ∙ ap keyword host))
     ]

@@ -16,7 +16,9 @@ use Rattle.drill_script.specs.declared.line.Start.TheVariants as starts
 use Rattle.hex.specs.declared.error.FromHexError.{FromHexError}
 use Rattle.drill_script.specs.declared.words.Kind.{Kind}
 use Rattle.drill_script.specs.declared.words.Kind.TheVariants as kind
-use Rattle.drill_script.specs.Grammar.{Command, NewCommand, HostCommand, TakeCommand, BodyCommand, GateCommand, OpenCommand, PixelCommand, FailCommand, StopCommand, JoinCommand, NextCommand, SeekCommand, LeaveCommand, IsNumber, IsName, IsHex, IsFill, IsStart, Says}
+use Rattle.pixel_format.specs.declared.kind.Format.{Format}
+use Rattle.pixel_format.specs.declared.kind.Format.TheVariants.{One, Two}
+use Rattle.drill_script.specs.Grammar.{Command, new_word, NewCommand, HostCommand, TakeCommand, BodyCommand, GateCommand, OpenCommand, PixelCommand, FailCommand, StopCommand, JoinCommand, NextCommand, SeekCommand, LeaveCommand, IsNumber, IsName, IsHex, IsFill, IsStart, Says}
 use Rattle.terms.specs.Decimal.{decimal, number_of}
 use Rattle.drill_script.specs.Reading.{◌>>=◌, word_at, number_at, name_at, joined_at, spelled_by, hex_at, kind_by, kind_among, kinds, keyword, new_at, host_at, pixel_at, byte_told, fill_of, start_of, read_at, one_at, two_at, rest_at, ended, command_at}
 use Rattle.drill_script.proofs.Steps.{bind_some, test_some, test_none, chosen}
@@ -202,9 +204,10 @@ ended_is (said, word ∷ words) command e = absurd cc
 abbrev pub Told : List (List ℕ) → Command → Type 0
 Told words command = Says words command × AreSome words
 
-new_tells : (w h k name : List ℕ) (width height key_interval : ℕ) → IsNumber (2 ^ 16) w width → IsNumber (2 ^ 16) h height → IsNumber (2 ^ 16) k key_interval → name ≢ [] → IsName name
-    → Told (codes "new" ∷ w ∷ h ∷ k ∷ name ∷ []) (NewCommand width height key_interval name)
-new_tells w h k name width height key_interval a b c some d = ((w, h, k, refl, a, b, c, d), (λ empty. absurd cc, (a.some, (b.some, (c.some, (some, tt))))))
+new_tells : (f : Format) (w h k name : List ℕ) (width height key_interval : ℕ) → IsNumber (2 ^ 16) w width → IsNumber (2 ^ 16) h height → IsNumber (2 ^ 16) k key_interval → name ≢ [] → IsName name
+    → Told (new_word f ∷ w ∷ h ∷ k ∷ name ∷ []) (NewCommand f width height key_interval name)
+new_tells One w h k name width height key_interval a b c some d = ((w, h, k, refl, a, b, c, d), (λ empty. absurd cc, (a.some, (b.some, (c.some, (some, tt))))))
+new_tells Two w h k name width height key_interval a b c some d = ((w, h, k, refl, a, b, c, d), (λ empty. absurd cc, (a.some, (b.some, (c.some, (some, tt))))))
 
 host_tells : (t : List ℕ) (hex : List (List ℕ)) (time : ℕ) (bytes : List ℕ) → IsNumber (2 ^ 32) t time → IsHex hex bytes → AreSome hex → Told (codes "host" ∷ t ∷ hex) (HostCommand time bytes)
 host_tells t hex time bytes a b some = ((t, hex, refl, a, b), (λ empty. absurd cc, (a.some, some)))
@@ -218,21 +221,21 @@ told_at : (first : List ℕ) (words others : List (List ℕ)) (said command : Co
 told_at first words others said command same is told =
     subst (λ (ws : List (List ℕ)). Told (first ∷ ws) command) (sym same) (subst (λ (c : Command). Told (first ∷ others) c) is told)
 
-new_told : (words : List (List ℕ)) (x : Command × List (List ℕ)) → new_at words ≡ Some x → x.1 ≡ [] → Told (codes "new" ∷ words) x.0
+new_told : (f : Format) (words : List (List ℕ)) (x : Command × List (List ℕ)) → new_at f words ≡ Some x → x.1 ≡ [] → Told (new_word f ∷ words) x.0
 unfolding new_at
-new_told words x e none =
-    option_and_then_some (λ width. number_at (2 ^ 16) width.1 >>= λ height. number_at (2 ^ 16) height.1 >>= λ key_interval. name_at key_interval.1 >>= λ name. Some (NewCommand width.0 height.0 key_interval.0 name.0, name.1)) (number_at (2 ^ 16) words) x e (λ width is_width e_height.
-    option_and_then_some (λ height. number_at (2 ^ 16) height.1 >>= λ key_interval. name_at key_interval.1 >>= λ name. Some (NewCommand width.0 height.0 key_interval.0 name.0, name.1)) (number_at (2 ^ 16) width.1) x e_height (λ height is_height e_key_interval.
-    option_and_then_some (λ key_interval. name_at key_interval.1 >>= λ name. Some (NewCommand width.0 height.0 key_interval.0 name.0, name.1)) (number_at (2 ^ 16) height.1) x e_key_interval (λ key_interval is_key_interval e_name.
-    option_and_then_some (λ name. Some (NewCommand width.0 height.0 key_interval.0 name.0, name.1)) (name_at key_interval.1) x e_name (λ name is_name e_said.
+new_told f words x e none =
+    option_and_then_some (λ width. number_at (2 ^ 16) width.1 >>= λ height. number_at (2 ^ 16) height.1 >>= λ key_interval. name_at key_interval.1 >>= λ name. Some (NewCommand f width.0 height.0 key_interval.0 name.0, name.1)) (number_at (2 ^ 16) words) x e (λ width is_width e_height.
+    option_and_then_some (λ height. number_at (2 ^ 16) height.1 >>= λ key_interval. name_at key_interval.1 >>= λ name. Some (NewCommand f width.0 height.0 key_interval.0 name.0, name.1)) (number_at (2 ^ 16) width.1) x e_height (λ height is_height e_key_interval.
+    option_and_then_some (λ key_interval. name_at key_interval.1 >>= λ name. Some (NewCommand f width.0 height.0 key_interval.0 name.0, name.1)) (number_at (2 ^ 16) height.1) x e_key_interval (λ key_interval is_key_interval e_name.
+    option_and_then_some (λ name. Some (NewCommand f width.0 height.0 key_interval.0 name.0, name.1)) (name_at key_interval.1) x e_name (λ name is_name e_said.
     let w = number_takes (2 ^ 16) words width is_width in
     let h = number_takes (2 ^ 16) width.1 height is_height in
     let k = number_takes (2 ^ 16) height.1 key_interval is_key_interval in
     let n = name_takes key_interval.1 name is_name in
-    let said = some_pair_parts (NewCommand width.0 height.0 key_interval.0 name.0) x.0 name.1 x.1 e_said in
+    let said = some_pair_parts (NewCommand f width.0 height.0 key_interval.0 name.0) x.0 name.1 x.1 e_said in
     let all = then_words w.word w.first (then_words h.word h.first (then_words k.word k.first (then_words name.0 n.first (said.1 ∙ none)))) in
-    told_at (codes "new") words (w.word ∷ h.word ∷ k.word ∷ name.0 ∷ []) (NewCommand width.0 height.0 key_interval.0 name.0) x.0 all said.0
-    (new_tells w.word h.word k.word name.0 width.0 height.0 key_interval.0 w.it h.it k.it n.some n.name)))))
+    told_at (new_word f) words (w.word ∷ h.word ∷ k.word ∷ name.0 ∷ []) (NewCommand f width.0 height.0 key_interval.0 name.0) x.0 all said.0
+    (new_tells f w.word h.word k.word name.0 width.0 height.0 key_interval.0 w.it h.it k.it n.some n.name)))))
 
 host_told : (words : List (List ℕ)) (x : Command × List (List ℕ)) → host_at words ≡ Some x → x.1 ≡ [] → Told (codes "host" ∷ words) x.0
 unfolding host_at
@@ -291,7 +294,8 @@ bare_told word said words x some says e none =
     subst (λ (ws : List (List ℕ)). Told (word ∷ ws) x.0) (sym (parts.1 ∙ none)) (subst (λ (c : Command). Told (word ∷ []) c) parts.0 (says, (some, tt)))
 
 pub rest_told : (it : Kind) (words : List (List ℕ)) (x : Command × List (List ℕ)) → rest_at it words ≡ Some x → x.1 ≡ [] → Told (keyword it ∷ words) x.0
-rest_told kind.New words x e none = new_told words x e none
+rest_told kind.New words x e none = new_told One words x e none
+rest_told kind.NewChained words x e none = new_told Two words x e none
 rest_told kind.Host words x e none = host_told words x e none
 rest_told kind.Take words x e none = bare_told (codes "take") TakeCommand words x (λ empty. absurd cc) refl e none
 rest_told kind.Body words x e none = bare_told (codes "body") BodyCommand words x (λ empty. absurd cc) refl e none

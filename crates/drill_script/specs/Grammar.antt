@@ -4,6 +4,8 @@ use Rattle.std.specs.List.{AllByRecursion, before_first, concat, join_with_byte}
 use Rattle.std.specs.Char.{IsAsciiDigit}
 use Rattle.hex.specs.Hex.{decode_of, decode_sized}
 use Rattle.terms.specs.Decimal.{decimal}
+use Rattle.pixel_format.specs.declared.kind.Format.{Format}
+use Rattle.pixel_format.specs.declared.kind.Format.TheVariants.{One, Two}
 use Rattle.drill_script.specs.declared.line.Fill.{Fill}
 use Rattle.drill_script.specs.declared.line.Fill.TheVariants as fill
 use Rattle.drill_script.specs.declared.line.Start.{Start}
@@ -15,7 +17,7 @@ use Rattle.drill_script.specs.declared.line.DeskLine.TheVariants as desk
 
 -- what a line says; its bytes are lists, wherever they lie in memory
 pub data Command : Type 0 where
-  NewCommand : (width height key_interval : ℕ) (name : List ℕ) → Command
+  NewCommand : (format : Format) (width height key_interval : ℕ) (name : List ℕ) → Command
   HostCommand : (time : ℕ) (bytes : List ℕ) → Command
   TakeCommand : Command
   BodyCommand : Command
@@ -44,7 +46,7 @@ command_on_desk (desk.Seek seat count) = SeekCommand seat count
 command_on_desk (desk.Leave seat) = LeaveCommand seat
 
 abbrev pub command_of : Line → Command
-command_of (line.New width height key_interval name) = NewCommand width height key_interval name.items
+command_of (line.New format width height key_interval name) = NewCommand format width height key_interval name.items
 command_of line.Open = OpenCommand
 command_of (line.OnDesk it) = command_on_desk it
 
@@ -85,10 +87,15 @@ abbrev pub IsStart : List ℕ → Start → Type 0
 IsStart word start.Live = word ≡ codes "live"
 IsStart word (start.At count) = IsNumber (2 ^ 64) word count
 
+-- the first word of a line for a new recording, by its format
+abbrev pub new_word : Format → List ℕ
+new_word One = codes "new"
+new_word Two = codes "new2"
+
 -- the words say the command
 abbrev pub Says : List (List ℕ) → Command → Type 0
-Says words (NewCommand width height key_interval name) =
-    (w : List ℕ) × (h : List ℕ) × (k : List ℕ) × (words ≡ codes "new" ∷ w ∷ h ∷ k ∷ name ∷ [])
+Says words (NewCommand format width height key_interval name) =
+    (w : List ℕ) × (h : List ℕ) × (k : List ℕ) × (words ≡ new_word format ∷ w ∷ h ∷ k ∷ name ∷ [])
     × IsNumber (2 ^ 16) w width × IsNumber (2 ^ 16) h height × IsNumber (2 ^ 16) k key_interval × IsName name
 Says words (HostCommand time bytes) =
     (t : List ℕ) × (hex : List (List ℕ)) × (words ≡ codes "host" ∷ t ∷ hex) × IsNumber (2 ^ 32) t time × IsHex hex bytes
@@ -119,4 +126,4 @@ first_word text = before_first (λ byte. byte == 32) text
 
 -- the text begins as a line that holds bytes, for which memory is taken
 abbrev pub TakesMemory : List ℕ → Type 0
-TakesMemory text = (first_word text ≡ codes "new") ⊎ (first_word text ≡ codes "host")
+TakesMemory text = (first_word text ≡ codes "new") ⊎ (first_word text ≡ codes "new2") ⊎ (first_word text ≡ codes "host")

@@ -16,6 +16,8 @@ use Rattle.drill_script.specs.declared.line.Start.TheVariants as starts
 use Rattle.drill_script.specs.declared.line.Line.{Line}
 use Rattle.drill_script.specs.Grammar.{Command, command_of, NewCommand, HostCommand, TakeCommand, BodyCommand, GateCommand, OpenCommand, PixelCommand, FailCommand, StopCommand, JoinCommand, NextCommand, SeekCommand, LeaveCommand}
 use Rattle.terms.specs.Decimal.{number_of}
+use Rattle.pixel_format.specs.declared.kind.Format.{Format}
+use Rattle.pixel_format.specs.declared.kind.Format.TheVariants.{One, Two}
 
 -- What a call that takes no memory answered, seen by view, and the words that it left, are what
 -- reading gives.
@@ -90,6 +92,7 @@ hex_at words = do
 -- what a line of a kind begins with
 abbrev pub keyword : Kind → List ℕ
 keyword kind.New = codes "new"
+keyword kind.NewChained = codes "new2"
 keyword kind.Host = codes "host"
 keyword kind.Take = codes "take"
 keyword kind.Body = codes "body"
@@ -110,20 +113,20 @@ kind_among (it ∷ others) word = if bytes_eq word (keyword it) then Some it els
 
 -- the kinds of lines
 abbrev pub kinds : List Kind
-kinds = kind.New ∷ kind.Host ∷ kind.Take ∷ kind.Body ∷ kind.Gate ∷ kind.Open ∷ kind.Pixel ∷ kind.Fail ∷ kind.Stop ∷ kind.Join ∷ kind.Next ∷ kind.Seek ∷ kind.Leave ∷ []
+kinds = kind.New ∷ kind.NewChained ∷ kind.Host ∷ kind.Take ∷ kind.Body ∷ kind.Gate ∷ kind.Open ∷ kind.Pixel ∷ kind.Fail ∷ kind.Stop ∷ kind.Join ∷ kind.Next ∷ kind.Seek ∷ kind.Leave ∷ []
 
 -- the kind of line that begins with a word
 unfoldable pub kind_by : List ℕ → Option Kind
 kind_by word = kind_among kinds word
 
--- what follows `new`
-unfoldable pub new_at : List (List ℕ) → Option (Command × List (List ℕ))
-new_at words = do
+-- what follows `new`, or `new2`, for a recording of this format
+unfoldable pub new_at : Format → List (List ℕ) → Option (Command × List (List ℕ))
+new_at format words = do
   width ← number_at (2 ^ 16) words
   height ← number_at (2 ^ 16) width.1
   key_interval ← number_at (2 ^ 16) height.1
   name ← name_at key_interval.1
-  Some (NewCommand width.0 height.0 key_interval.0 name.0, name.1)
+  Some (NewCommand format width.0 height.0 key_interval.0 name.0, name.1)
 
 -- what follows `host`, all the words that are left
 unfoldable pub host_at : List (List ℕ) → Option (Command × List (List ℕ))
@@ -172,7 +175,8 @@ two_at reads others say words = do
 
 -- what follows a line's first word, and the words that it leaves
 abbrev pub rest_at : Kind → List (List ℕ) → Option (Command × List (List ℕ))
-rest_at kind.New words = new_at words
+rest_at kind.New words = new_at One words
+rest_at kind.NewChained words = new_at Two words
 rest_at kind.Host words = host_at words
 rest_at kind.Take words = Some (TakeCommand, words)
 rest_at kind.Body words = Some (BodyCommand, words)
@@ -188,7 +192,7 @@ rest_at kind.Leave words = one_at (number_of (2 ^ 32)) (λ seat. LeaveCommand se
 
 -- a line of this kind takes memory
 abbrev pub KindTakesMemory : Kind → Type 0
-KindTakesMemory it = (it ≡ kind.New) ⊎ (it ≡ kind.Host)
+KindTakesMemory it = (it ≡ kind.New) ⊎ (it ≡ kind.NewChained) ⊎ (it ≡ kind.Host)
 
 -- a whole line leaves no word
 abbrev pub ended : Command × List (List ℕ) → Option Command

@@ -1,5 +1,7 @@
 //! What a line says.
 
+use pixel_format::Format;
+
 /// What a stop leaves of the bytes that were not synced.
 #[derive(Clone, Copy, Debug, PartialEq, Eq)]
 pub enum Fill {
@@ -23,8 +25,10 @@ pub enum Start {
 /// A line of a drill script.
 #[derive(Debug, PartialEq, Eq, Drop)]
 pub enum Line {
-    /// `new W H K NAME`: a new recording of a screen of W by H, with a key each K messages.
+    /// `new W H K NAME`: a new recording of format 1, of a screen of W by H, with a key each K
+    /// messages; `new2 W H K NAME`: one of format 2.
     New {
+        format: Format,
         width: u16,
         height: u16,
         key_interval: u16,

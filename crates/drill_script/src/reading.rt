@@ -9,6 +9,7 @@ ghost use Rattle.drill_script.specs.Reading.{parts, Reads, ReadsInMemory, GivesL
 use crate::fault::LineFault;
 use crate::line::{DeskLine, Fill, Line, Start};
 use crate::words::{Kind, Words, kind_of};
+use pixel_format::Format;
 use std::alloc::Global;
 use terms::decimal_number;
 
@@ -74,14 +75,15 @@ fn hex_words(alloc: Global, words: &mut Words) -> Result<Vec<u8>, LineFault>
 }
 
 #[tactic(auto, unfolding(crate::specs::Reading::new_at))]
-fn new_line(alloc: Global, words: &mut Words) -> Result<Line, LineFault>
-    ensures { ReadsInMemory command_of result words.new (new_at words.old) }
+fn new_line(alloc: Global, format: Format, words: &mut Words) -> Result<Line, LineFault>
+    ensures { ReadsInMemory command_of result words.new (new_at format words.old) }
 {
     let width = u16_word(words)?;
     let height = u16_word(words)?;
     let key_interval = u16_word(words)?;
     let name = name_word(alloc, words)?;
     Ok(Line::New {
+        format,
         width,
         height,
         key_interval,
@@ -162,7 +164,8 @@ fn rest_of_line(alloc: Global, kind: Kind, words: &mut Words) -> Result<Line, Li
     ensures memory { result ≡ Err LineFault.NoMemory → KindTakesMemory kind }
 {
     match kind {
-        Kind::New => new_line(alloc, words),
+        Kind::New => new_line(alloc, Format::One, words),
+        Kind::NewChained => new_line(alloc, Format::Two, words),
         Kind::Host => host_line(alloc, words),
         Kind::Take => Ok(Line::OnDesk(DeskLine::Take)),
         Kind::Body => Ok(Line::OnDesk(DeskLine::Body)),
@@ -220,7 +223,7 @@ fn line(alloc: Global, text: &[u8]) -> Result<Line, LineFault>
 /// or more, joined before they are judged. A name is one word of any bytes. What follows the first
 /// word is as the variants of [`Line`] say.
 ///
-/// Only a text that begins with `new` or `host` takes memory.
+/// Only a text that begins with `new`, `new2` or `host` takes memory.
 pub fn read_line(alloc: Global, text: &[u8]) -> Result<Line, LineFault>
     // What is read is what the text spells.
     ensures spelled { IfOk result (λ line. Spells text.now (command_of line)) }

@@ -11,6 +11,7 @@ use std::marker::Model;
 #[derive(Clone, Copy)]
 pub(crate) enum Kind {
     New,
+    NewChained,
     Host,
     Take,
     Body,
@@ -32,6 +33,7 @@ pub(crate) fn kind_of(word: &[u8]) -> Option<Kind>
 {
     match word {
         b"new" => Some(Kind::New),
+        b"new2" => Some(Kind::NewChained),
         b"host" => Some(Kind::Host),
         b"take" => Some(Kind::Take),
         b"body" => Some(Kind::Body),

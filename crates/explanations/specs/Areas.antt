@@ -8,6 +8,8 @@ abbrev pub word_of : Area → List ℕ
 word_of area.Journal = codes "journal"
 word_of area.Index = codes "index"
 word_of area.Replay = codes "replay"
+word_of area.Digest = codes "digest"
+word_of area.Migrate = codes "migrate"
 word_of area.Export = codes "export"
 word_of area.Fbs = codes "fbs"
 word_of area.Wire = codes "wire"
@@ -19,9 +21,11 @@ word_of area.Thread = codes "thread"
 
 -- the number is one of an area's refusals
 abbrev pub IsNumberOf : Area → ℕ → Type 0
-IsNumberOf area.Journal number = (1 ≤ number) × (number ≤ 4)
+IsNumberOf area.Journal number = (1 ≤ number) × (number ≤ 5)
 IsNumberOf area.Index number = (1 ≤ number) × (number ≤ 5)
 IsNumberOf area.Replay number = (1 ≤ number) × (number ≤ 3)
+IsNumberOf area.Digest number = (1 ≤ number) × (number ≤ 2)
+IsNumberOf area.Migrate number = (1 ≤ number) × (number ≤ 6)
 IsNumberOf area.Export number = (1 ≤ number) × (number ≤ 5)
 IsNumberOf area.Fbs number = (1 ≤ number) × (number ≤ 9)
 IsNumberOf area.Wire number = (1 ≤ number) × (number ≤ 9)

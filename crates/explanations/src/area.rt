@@ -9,6 +9,10 @@ pub enum Area {
     Index,
     /// A screen of a recording.
     Replay,
+    /// The digest of a recording's block.
+    Digest,
+    /// A recording of format 1, written again in format 2.
+    Migrate,
     /// A part of a recording, written as an FBS file.
     Export,
     /// An FBS file that is read.
@@ -40,6 +44,8 @@ impl Area {
             "journal" => Some(Area::Journal),
             "index" => Some(Area::Index),
             "replay" => Some(Area::Replay),
+            "digest" => Some(Area::Digest),
+            "migrate" => Some(Area::Migrate),
             "export" => Some(Area::Export),
             "fbs" => Some(Area::Fbs),
             "wire" => Some(Area::Wire),

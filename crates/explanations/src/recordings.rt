@@ -19,6 +19,11 @@ const NO_MEMORY_TO_OPEN: &str = "\
 Memory ran out while a recording was opened. Nothing was written to it.
 Free memory or raise its limit, and start again.";
 
+const BAD_DIGEST: &str = "\
+The digest of block B isn't that of its bytes behind the blocks before it: block
+B was changed, or one before it dropped, inserted or changed.
+Nothing was written: restore the file from a copy.";
+
 const BAD_ENTRY: &str = "\
 An entry of block B is damaged: its kind or its length, or how the block ends.
 The device or another program changed the file. Nothing was written: restore
@@ -76,7 +81,13 @@ All that was committed is safe. Free memory or raise its limit, and start again:
 the recorder opens the recording and goes on.";
 
 /// The texts of `journal`, from 1 on.
-pub const JOURNAL: [&str; 4] = [NO_RECORDING, DAMAGED, DEVICE_FAILED, NO_MEMORY_TO_OPEN];
+pub const JOURNAL: [&str; 5] = [
+    NO_RECORDING,
+    DAMAGED,
+    DEVICE_FAILED,
+    NO_MEMORY_TO_OPEN,
+    BAD_DIGEST,
+];
 
 /// The texts of `index`, from 1 on.
 pub const INDEX: [&str; 5] = [
@@ -89,6 +100,52 @@ pub const INDEX: [&str; 5] = [
 
 /// The texts of `replay`, from 1 on.
 pub const REPLAY: [&str; 3] = [NOT_COMMITTED, DEVICE_FAILED_AT_SCREEN, NO_MEMORY_FOR_SCREEN];
+
+const NO_DIGESTS: &str = "\
+The recording is of format 1, whose blocks have no digests.
+A new recording has them, unless `serve` is told `--format 1`.";
+
+const NO_SUCH_DIGEST: &str = "\
+No block of the recording has this digest; without one, it has no blocks.
+A recording whose digest was kept isn't the beginning of this one: compare with
+a copy of it.";
+
+/// The texts of `digest`, from 1 on.
+pub const DIGEST: [&str; 2] = [NO_DIGESTS, NO_SUCH_DIGEST];
+
+const TARGET_NOT_EMPTY: &str = "\
+The file to write has bytes, and is as it was.
+Name a file that isn't there; what an earlier `migrate` was refused in, remove.";
+
+const SOURCE_FAILED: &str = "\
+The recording can't be read: its disk failed, or the file changed meanwhile.
+What was written is no recording, or isn't read again: remove it.";
+
+const TARGET_FAILED: &str = "\
+The file to write can't be written, synced or read: full, gone, or failing.
+Remove it, mend that, and migrate again; the recording is as it was.";
+
+const NO_MEMORY_TO_MIGRATE: &str = "\
+Out of memory. The largest block is read whole, and two screens are painted.
+Remove the file to write, and migrate again with more memory.";
+
+const ALREADY_TWO: &str = "\
+The recording is of format 2 already, so that its blocks have digests.
+There is nothing to do; `digest` tells the last one.";
+
+const TOO_LONG_IN_TWO: &str = "\
+In format 2 the recording would be longer than one may be, which is 2^40 bytes.
+It stays readable in format 1; `export` takes parts of it.";
+
+/// The texts of `migrate`, from 1 on.
+pub const MIGRATE: [&str; 6] = [
+    TARGET_NOT_EMPTY,
+    SOURCE_FAILED,
+    TARGET_FAILED,
+    NO_MEMORY_TO_MIGRATE,
+    ALREADY_TWO,
+    TOO_LONG_IN_TWO,
+];
 
 /// The texts of `book`, from 1 on.
 pub const BOOK: [&str; 4] = [BACKLOG, FULL, BROKEN, NO_MEMORY_FOR_MESSAGE];

@@ -1,9 +1,11 @@
 //! The commands on files, and how one is run.
 
+use crate::chaining::{Chaining, write_digest};
 use crate::checking::{write_size, write_summary};
 use crate::exporting::{Extract, write_extract};
 use crate::framing::{Filming, write_filming};
 use crate::listing::write_list;
+use crate::migrating::{Migration, write_migration};
 use crate::picturing::{Scene, write_scene};
 use crate::recording::open_path;
 use crate::refusal::{Ended, answer};
@@ -21,6 +23,9 @@ pub enum FileCommand<'a> {
     List(&'a str),
     /// `check` prints the size of the recording at a path, and how many messages and blocks count.
     Check(&'a str),
+    /// `digest` prints the number and the digest of the last block that counts, or of the one that has
+    /// a given digest.
+    Digest(Chaining<'a>),
     /// `times` prints a line for each stretch of a recording's time in which a message came: the
     /// time, number and block of its first message, and how many updates and bytes it has. The
     /// recording is read twice.
@@ -36,6 +41,10 @@ pub enum FileCommand<'a> {
     /// That file is created, or emptied where it is there, only once it is known that there are such
     /// a block and such an end; one that can't be, and the recording itself, are refused as a file.
     Export(Extract<'a>),
+    /// `migrate` writes a recording of format 1 again in format 2, and prints how many messages it
+    /// has. The new file is created only once it is known that the recording can be migrated; one
+    /// with bytes is refused, and stays as it is.
+    Migrate(Migration<'a>),
     /// `fbs-check` prints the size of the FBS file at a path, how many messages it has, and how many
     /// bytes of an unfinished last one.
     FbsCheck(&'a str),
@@ -47,10 +56,12 @@ impl FileCommand<'_> {
         match self {
             FileCommand::List(_) => "list",
             FileCommand::Check(_) => "check",
+            FileCommand::Digest(_) => "digest",
             FileCommand::Times(_) => "times",
             FileCommand::Picture(_) => "picture",
             FileCommand::Frames(_) => "frames",
             FileCommand::Export(_) => "export",
+            FileCommand::Migrate(_) => "migrate",
             FileCommand::FbsCheck(_) => "fbs-check",
         }
     }
@@ -72,6 +83,10 @@ impl FileCommand<'_> {
                 let index = open_path(rt, path, progress)?;
                 Ok(write_size(&index, out)?)
             }
+            FileCommand::Digest(what) => {
+                let mut index = open_path(rt, what.recording, progress)?;
+                write_digest(alloc, &mut index, what, out)
+            }
             FileCommand::Times(what) => {
                 let mut index = open_path(rt, what.recording, progress)?;
                 write_times(alloc, &mut index, what, out)
@@ -84,6 +99,10 @@ impl FileCommand<'_> {
             FileCommand::Export(what) => {
                 let count = write_extract(rt, what, progress)?;
                 Ok(writeln!(out, "exported {count}")?)
+            }
+            FileCommand::Migrate(what) => {
+                let count = write_migration(rt, what, progress)?;
+                Ok(writeln!(out, "migrated {count}")?)
             }
             FileCommand::FbsCheck(path) => write_summary(rt, path, progress, out),
         }

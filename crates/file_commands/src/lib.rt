@@ -1,25 +1,29 @@
 //! The commands on recordings and FBS files in files of the operating system.
 #![tactic(auto)]
 
+mod chaining;
 mod checking;
 mod command;
 mod exporting;
 mod framing;
 mod keeping;
 mod listing;
+mod migrating;
 mod picturing;
 mod recording;
 mod refusal;
 mod surveying;
 mod timing;
 
+pub use chaining::Chaining;
 pub use command::{FileCommand, run};
 pub use exporting::Extract;
 pub use framing::Filming;
 pub use keeping::{create_new, keep};
+pub use migrating::Migration;
 pub use pictures::PictureFormat;
 pub use picturing::{Moment, Scene, screen_of};
 pub use recording::open_path;
-pub use refusal::{Ended, Refusal, answer, refuse};
+pub use refusal::{DigestFault, Ended, Refusal, answer, refuse};
 pub use surveying::{Stretch, StretchSink, survey};
 pub use timing::Timing;

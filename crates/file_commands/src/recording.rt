@@ -1,7 +1,10 @@
 //! A recording in a file, opened to be read.
 
+ghost use Rattle.std.specs.Prelude.{◌≡◌, IfOk};
+
 use crate::refusal::Refusal;
 use file_disk::{FileDisk, Progress};
+use gated_journal::State;
 use key_index::Indexed;
 use std::alloc::Global;
 use std::fs::File;
@@ -30,7 +33,9 @@ pub fn open_recording(
     alloc: Global,
     file: File,
     progress: Progress,
-) -> Result<Indexed<FileDisk>, Refusal> {
+) -> Result<Indexed<FileDisk>, Refusal>
+    ensures ready { IfOk result (λ i. i.numbers.state ≡ State.Ready) }
+{
     match Indexed::open(alloc, FileDisk::watched(file, progress)) {
         Ok(index) => Ok(index),
         Err(refused) => Err(Refusal::Recording(refused.fault)),

@@ -1,13 +1,13 @@
 //! The command line: what the program prints, and how it ends.
 
 mod browsing;
-mod files;
 mod serving;
+mod transcripts;
 
 use crate::command::command;
 use file_disk::Progress;
+use std::alloc::Global;
 use std::fs::File;
-use std::io;
 use std::io::{Read, Write};
 use std::net::{Net, TcpListener, TcpStream};
 use std::rt::Files;
@@ -15,102 +15,149 @@ use std::sync::Wait;
 use std::test::Fail;
 use std::thread::Threads;
 use std::time::Clock;
+use std::{fs, io};
+use transcripts::{CHAINED, DAMAGED, DRILLS, FBS_FILES, KEPT, NOTHING_IS_LOST, SHOWN, WRONG_WORDS};
+
+// A command line of these words, behind the program's own name.
+fn line_of(alloc: Global, words: &[&str]) -> Result<Vec<String>, Fail> {
+    let mut line = Vec::new(alloc);
+    line.push("recorderd".to_string(alloc)?)?;
+    for word in words {
+        line.push((*word).to_string(alloc)?)?;
+    }
+    Ok(line)
+}
 
 // The exit status of a command line on this input, and what is written on both outputs.
-fn written<R>(rt: &R, line: &str, input: &str) -> Result<(u8, Vec<u8>, Vec<u8>), Fail>
+fn ran<R>(rt: &R, words: &[&str], input: &str) -> Result<(u8, Vec<u8>), Fail>
 where
     R: AllocGlobal + Clock + Eprint + Files<File = File> + Sync + Threads + Wait,
     R: Net<Stream = TcpStream, Listener = TcpListener>,
 {
     let alloc = rt.alloc();
-    let mut words = Vec::new(alloc);
-    for word in line.split_whitespace() {
-        words.push(word.to_string(alloc)?)?;
-    }
+    let line = line_of(alloc, words)?;
     let mut out = Vec::new(alloc);
     let mut err = Vec::new(alloc);
     let status = command(
         rt,
-        &words,
+        &line,
         Progress::silent(),
         input.as_bytes(),
         &mut out,
         &mut err,
     );
-    Ok((status, out, err))
+    out.extend_from_slice(&err)?;
+    Ok((status, out))
 }
 
-// The same of a command that prints text.
-fn ran<R>(rt: &R, line: &str, input: &str) -> Result<(u8, String, String), Fail>
+// The bytes that words of hexadecimal digits spell.
+fn bytes_of(alloc: Global, digits: &str) -> Result<Vec<u8>, Fail> {
+    let mut bytes = Vec::new(alloc);
+    for word in digits.split_whitespace() {
+        let part = hex::decode(alloc, word).ok().ok_or("digits")?;
+        bytes.extend_from_slice(&part)?;
+    }
+    Ok(bytes)
+}
+
+// What a paragraph's lines say that is put in, and that is printed.
+fn input_and_output(alloc: Global, lines: &str) -> Result<(String, Vec<u8>), Fail> {
+    let mut input = String::new(alloc);
+    let mut output = Vec::new(alloc);
+    for line in lines.lines() {
+        match line.split_once(" ") {
+            Some(("<", text)) => {
+                input.push_str(text)?;
+                input.push_str("\n")?;
+            }
+            Some(("|", text)) => {
+                output.extend_from_slice(text.as_bytes())?;
+                output.push(b'\n')?;
+            }
+            Some((":", digits)) => output.extend_from_slice(&bytes_of(alloc, digits)?)?,
+            _ => return Err("a line of a transcript".into()),
+        }
+    }
+    Ok((input, output))
+}
+
+// Whether the program ends and prints as a paragraph says.
+fn runs<R>(rt: &R, status: &str, words: &[&str], lines: &str) -> Result<bool, Fail>
 where
     R: AllocGlobal + Clock + Eprint + Files<File = File> + Sync + Threads + Wait,
     R: Net<Stream = TcpStream, Listener = TcpListener>,
 {
-    let (status, out, err) = written(rt, line, input)?;
-    let out = String::from_utf8(out).ok().ok_or("output")?;
-    let err = String::from_utf8(err).ok().ok_or("error output")?;
-    Ok((status, out, err))
+    let (input, output) = input_and_output(rt.alloc(), lines)?;
+    let (ended, printed) = ran(rt, words, &input)?;
+    Ok(status.parse::<u8>().ok() == Some(ended) && printed.as_slice() == output.as_slice())
 }
 
-#[test]
-fn a_drill_is_run(rt: HostRuntime) -> Result<(), Fail> {
-    let script =
-        "new 1 1 4 x\nhost 0 0000 0001 0000 0000 0001 0001 00000000 0000ff00\ntake\nbody\ngate\nopen\npixel 1 0 0";
-    let answers =
-        "recording 1 1 4\naccepted 0\ntaken 0 1\nwritten\ncommitted 1\nopened 1\nff0000\n";
-    let (status, out, err) = ran(&rt, "recorderd drill", script)?;
-    assert!(rt; status == 0 && out.as_str() == answers && err.is_empty());
-    let (status, _, err) = ran(&rt, "recorderd drill", "open\n")?;
-    assert!(rt; status == 1 && err.is_empty());
+// Writes a file as another one, with another byte at a place.
+fn change<R: AllocGlobal + Files<File = File>>(
+    rt: &R,
+    from: &str,
+    name: &str,
+    place: &str,
+    byte: &str,
+) -> Result<(), Fail> {
+    let mut file = fs::read(rt, from)?;
+    if let (Ok(place), Ok(byte)) = (place.parse::<usize>(), byte.parse::<u8>()) {
+        *file.get_mut(place).ok_or("place")? = byte;
+    }
+    fs::write(rt, name, file.as_slice())?;
     Ok(())
 }
 
-#[test]
-fn words_that_are_no_command_line(rt: HostRuntime) -> Result<(), Fail> {
-    for wrong in [
-        "",
-        "serve",
-        "--drill",
-        "drill x",
-        "drill --keep",
-        "check",
-        "list a b",
-        "export r 0 1",
-        "export r 0 x o",
-        "export r -1 1 o",
-        "export r +1 1 o",
-        "export r 0 18446744073709551616 o",
-        "frames r",
-        "frames r --rate 61",
-        "frames r --rate 10 --to later",
-        "times r --every 0",
-        "browse",
-        "browse r --seconds soon",
-        "picture r o.ppm",
-        "picture r o.png --at 0",
-        "picture r o.ppm --at 0 --message 0",
-        "picture r o.ppm --at 4294967296",
-        "serve --file r",
-        "serve --listen 127.0.0.1:0",
-        "serve --file r --listen a b",
-        "serve --file r --listen a --viewers 0",
-        "serve --file r --listen a --viewers 65",
-        "serve --file r --listen a --key 0",
-        "serve --file r --listen a --key 4097",
-        "serve --file r --listen a --from then",
-        "serve --file r --listen a --viewers all",
-        "serve --file r --listen a --seconds soon",
-        "explain journal",
-        "explain moon 1",
-        "explain journal 9",
-    ] {
-        let line = format!(in rt.alloc(); "recorderd {wrong}")?;
-        let (status, out, err) = ran(&rt, &line, "")?;
-        assert!(rt; status == 2 && out.is_empty(), "{wrong}");
-        assert!(rt; err.as_str() == "recorderd: bad command line\n");
+// Does what a paragraph of a transcript says: whether all is as it has it.
+fn is_so<R>(rt: &R, paragraph: &str) -> Result<bool, Fail>
+where
+    R: AllocGlobal + Clock + Eprint + Files<File = File> + Sync + Threads + Wait,
+    R: Net<Stream = TcpStream, Listener = TcpListener>,
+{
+    let alloc = rt.alloc();
+    let (head, lines) = paragraph.split_once("\n").unwrap_or((paragraph, ""));
+    let words: Vec<&str> = head.split_whitespace().collect(alloc)?;
+    match words.as_slice() {
+        ["#", ..] => {}
+        ["file", name] => fs::write(rt, *name, bytes_of(alloc, lines)?.as_slice())?,
+        ["change", from, name, place, byte] => change(rt, from, name, place, byte)?,
+        ["link", from, name] => fs::hard_link(rt, *from, *name)?,
+        ["remove", names @ ..] => {
+            for name in names {
+                let _ = fs::remove_file(rt, *name);
+            }
+        }
+        ["here", name] => {
+            let file = fs::read(rt, *name)?;
+            return Ok(file.as_slice() == bytes_of(alloc, lines)?.as_slice());
+        }
+        [status, words @ ..] => return runs(rt, status, words, lines),
+        [] => {}
     }
-    let (status, out, err) = ran(&rt, "recorderd --help", "")?;
-    assert!(rt; status == 0 && out.len() > 0 && err.is_empty());
+    Ok(true)
+}
+
+#[test]
+fn what_transcripts_say(rt: HostRuntime) -> Result<(), Fail> {
+    for transcript in [
+        DRILLS,
+        KEPT,
+        NOTHING_IS_LOST,
+        DAMAGED,
+        CHAINED,
+        FBS_FILES,
+        SHOWN,
+    ] {
+        for paragraph in transcript.split("\n\n") {
+            assert!(rt; is_so(&rt, paragraph)?, "{paragraph}");
+        }
+    }
+    for words in WRONG_WORDS.lines() {
+        let paragraph = format!(in rt.alloc(); "2 {words}\n| recorderd: bad command line")?;
+        assert!(rt; is_so(&rt, &paragraph)?, "{words}");
+    }
+    let (status, help) = ran(&rt, &["--help"], "")?;
+    assert!(rt; status == 0 && help.len() > 0);
     Ok(())
 }
 
@@ -145,28 +192,25 @@ impl Read for Unreadable {
     }
 }
 
+// The exit status of a drill whose answers have so much room.
+fn status_within<R, I: Read + Drop>(rt: &R, room: usize, script: I) -> Result<u8, Fail>
+where
+    R: AllocGlobal + Clock + Eprint + Files<File = File> + Sync + Threads + Wait,
+    R: Net<Stream = TcpStream, Listener = TcpListener>,
+{
+    let alloc = rt.alloc();
+    let line = line_of(alloc, &["drill"])?;
+    let (mut out, mut err) = (Full { room }, Vec::new(alloc));
+    Ok(command(rt, &line, Progress::silent(), script, &mut out, &mut err))
+}
+
 #[test]
 fn streams_that_fail(rt: HostRuntime) -> Result<(), Fail> {
-    let alloc = rt.alloc();
-    let words = ["recorderd".to_string(alloc)?, "drill".to_string(alloc)?];
-    let mut err = Vec::new(alloc);
     let script = b"new 1 1 4 x\nopen\n".as_slice();
-    for room in 0..25 {
-        let mut out = Full { room };
-        let status = command(&rt, &words, Progress::silent(), script, &mut out, &mut err);
-        assert!(rt; status == 1, "with room for {room}");
+    for room in 0..=25 {
+        let status = status_within(&rt, room, script)?;
+        assert!(rt; (status == 0) == (room == 25), "with room for {room}");
     }
-    let mut out = Full { room: 25 };
-    assert!(rt; command(&rt, &words, Progress::silent(), script, &mut out, &mut err) == 0);
-    assert!(rt;
-        command(
-            &rt,
-            &words,
-            Progress::silent(),
-            Unreadable,
-            &mut Full { room: 25 },
-            &mut err
-        ) == 1
-    );
+    assert!(rt; status_within(&rt, 25, Unreadable)? == 1);
     Ok(())
 }

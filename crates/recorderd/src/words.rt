@@ -3,8 +3,11 @@
 use browse::Browsing;
 use clap::error::ErrorKind;
 use clap::{Arg, ArgAction, ArgMatches, Command};
-use file_commands::{Extract, FileCommand, Filming, Moment, PictureFormat, Scene, Timing};
-use serve::{Audience, Origin, Pace, Plan, Playing, Stop};
+use file_commands::{
+    Chaining, Extract, FileCommand, Filming, Migration, Moment, PictureFormat, Scene, Timing,
+};
+use hex::FromHex;
+use serve::{Audience, Format, Origin, Pace, Plan, Playing, Stop};
 use std::alloc::{AllocError, Global};
 use std::io;
 
@@ -53,6 +56,30 @@ fn check<'a>(alloc: Global) -> Result<Command<'a>, AllocError> {
         .about("Reads a whole recording, and prints its size and how much it holds")
         .after_help("Example: recorderd check r")
         .arg(required(alloc, "PATH", "The recording"))
+}
+
+fn digest<'a>(alloc: Global) -> Result<Command<'a>, AllocError> {
+    Command::new(alloc, "digest")
+        .about("Prints the digest of a recording's last block, which stands for all before it too")
+        .after_help("Example, a day later: recorderd digest r DIGEST finds the block of that day")
+        .arg(required(alloc, "PATH", "The recording"))?
+        .arg(
+            Arg::new(alloc, "DIGEST")
+                .help("Prints the block that has this digest, or refuses: 64 hexadecimal digits")
+                .action(ArgAction::Set),
+        )
+}
+
+fn migrate<'a>(alloc: Global) -> Result<Command<'a>, AllocError> {
+    Command::new(alloc, "migrate")
+        .about("Writes a recording of format 1 again in format 2, whose blocks have digests")
+        .after_help("Example: recorderd migrate r chained")
+        .arg(required(alloc, "PATH", "The recording"))?
+        .arg(required(
+            alloc,
+            "OUT",
+            "The file to write, without bytes or not there yet",
+        ))
 }
 
 fn export<'a>(alloc: Global) -> Result<Command<'a>, AllocError> {
@@ -249,6 +276,12 @@ fn serving<'a>(alloc: Global) -> Result<Command<'a>, AllocError> {
         ))?
         .arg(option(
             alloc,
+            "format",
+            "FORMAT",
+            "A new recording's format, 1 or 2, whose blocks have digests [default: 2]",
+        ))?
+        .arg(option(
+            alloc,
             "viewers",
             "N",
             "How many viewers are waited for, 1 to 64, or any: whoever comes [default: 1]",
@@ -264,6 +297,8 @@ fn all_commands<'a>(alloc: Global) -> Result<Command<'a>, AllocError> {
         .subcommand(drill(alloc)?)?
         .subcommand(list(alloc)?)?
         .subcommand(check(alloc)?)?
+        .subcommand(digest(alloc)?)?
+        .subcommand(migrate(alloc)?)?
         .subcommand(export(alloc)?)?
         .subcommand(fbs_check(alloc)?)?
         .subcommand(times(alloc)?)?
@@ -349,6 +384,26 @@ fn filmed<'a>(matches: &ArgMatches<'a>) -> Option<Filming<'a>> {
     })
 }
 
+// Which digest is asked for.
+fn chained<'a>(matches: &ArgMatches<'a>) -> Option<Chaining<'a>> {
+    let digest = match matches.get_str("DIGEST") {
+        None => None,
+        Some(word) => Some(<[u8; 32] as FromHex>::from_hex(word).ok()?),
+    };
+    Some(Chaining {
+        recording: matches.get_str("PATH")?,
+        digest,
+    })
+}
+
+// Which recording is migrated, and where to.
+fn migration<'a>(matches: &ArgMatches<'a>) -> Option<Migration<'a>> {
+    Some(Migration {
+        recording: matches.get_str("PATH")?,
+        out: matches.get_str("OUT")?,
+    })
+}
+
 // Which stretches are asked for.
 fn timed<'a>(matches: &ArgMatches<'a>) -> Option<Timing<'a>> {
     let seconds = within(matches.get_str("SECONDS"), 1, 86_400, 10)?;
@@ -419,6 +474,15 @@ fn playing(matches: &ArgMatches<'_>) -> Option<Option<Playing>> {
     }))
 }
 
+// The format of a new recording.
+fn format(word: Option<&str>) -> Option<Format> {
+    match word {
+        Some("1") => Some(Format::One),
+        None | Some("2") => Some(Format::Two),
+        Some(_) => None,
+    }
+}
+
 // How many viewers are served.
 fn audience(word: Option<&str>) -> Option<Audience> {
     if word == Some("any") {
@@ -445,6 +509,7 @@ fn plan<'a>(matches: &ArgMatches<'a>) -> Option<Plan<'a>> {
         file: matches.get_str("PATH")?,
         listen: matches.get_str("ADDR")?,
         host: matches.get_str("HOST"),
+        format: format(matches.get_str("FORMAT"))?,
         key_interval: u16::try_from(within(matches.get_str("K"), 1, 4096, 256)?).ok()?,
         audience: audience(matches.get_str("N"))?,
         from: origin(matches.get_str("FROM"), matches.get_str("TIME"))?,
@@ -460,9 +525,11 @@ fn on_files<'a>(name: &str, matches: &ArgMatches<'a>) -> Option<FileCommand<'a>>
     match name {
         "list" => matches.get_str("PATH").map(FileCommand::List),
         "check" => matches.get_str("PATH").map(FileCommand::Check),
+        "digest" => chained(matches).map(FileCommand::Digest),
         "times" => timed(matches).map(FileCommand::Times),
         "picture" => shown(matches).map(FileCommand::Picture),
         "frames" => filmed(matches).map(FileCommand::Frames),
+        "migrate" => migration(matches).map(FileCommand::Migrate),
         "export" => extract(matches).map(FileCommand::Export),
         "fbs-check" => matches.get_str("PATH").map(FileCommand::FbsCheck),
         _ => None,

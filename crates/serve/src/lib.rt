@@ -8,7 +8,7 @@ mod no_turnstile;
 mod recording;
 mod serving;
 
-pub use connections::{Audience, Origin, Plan, Playing};
+pub use connections::{Audience, Format, Origin, Plan, Playing};
 pub use playing::Pace;
 pub use serving::{serve, serve_on};
 pub use sockets::Stop;

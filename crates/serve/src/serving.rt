@@ -363,7 +363,7 @@ fn recording_for<R: Eprint + Files<File = File> + Wait>(
     let Some(((width, height), name)) = host.and_then(|host| host.screen()) else {
         return Err(Stopped::Refused(Refusal::File));
     };
-    match Header::new(alloc, width, height, plan.key_interval, name) {
+    match Header::with_format(alloc, plan.format, width, height, plan.key_interval, name) {
         Ok(header) => Ok(create(rt, alloc, plan.file, header, telling, last_error)?),
         Err(_) => Err(Stopped::Failed(io::ErrorKind::OutOfMemory.into())),
     }

@@ -29,12 +29,9 @@ const UNACKNOWLEDGED: u32 = 120_000;
 // An option's value, as the system reads it.
 fn value(number: u32) -> [u8; 16] {
     let [first, second, third, fourth] = number.to_ne_bytes();
-    let mut value = [0u8; 16];
-    value[0] = first;
-    value[1] = second;
-    value[2] = third;
-    value[3] = fourth;
-    value
+    [
+        first, second, third, fourth, 0, 0, 0, 0, 0, 0, 0, 0, 0, 0, 0, 0,
+    ]
 }
 
 /// Has small writes go out at once, and a peer that vanished noticed: within two minutes, also where

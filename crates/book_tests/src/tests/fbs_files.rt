@@ -1,7 +1,8 @@
-//! What no clause says of `fbs_export`: files worked by hand.
+//! What no clause says of `fbs_export`: a file worked by hand, and readers and writers that fail.
+//! Further files, and what is exported, are told by the program's transcripts.
 
 use disk::MemoryDisk;
-use fbs_export::{Counted, ExportFault, FbsFault, Summary, check, count, export};
+use fbs_export::{ExportFault, FbsFault, Summary, check, export};
 use key_index::Indexed;
 use std::alloc::Global;
 use std::io;
@@ -22,12 +23,6 @@ fn checked(alloc: Global, file: &[u8]) -> Result<Summary, FbsFault> {
     check(alloc, &mut reader)
 }
 
-// The same of what is counted.
-fn counted(alloc: Global, file: &[u8]) -> Result<Counted, FbsFault> {
-    let mut reader = file;
-    count(alloc, &mut reader)
-}
-
 fn two_blocks(alloc: Global) -> Result<Vec<u8>, Fail> {
     let mut file = Vec::from_slice(alloc, &FRONT)?;
     file.extend_from_slice(&CUT)?;
@@ -42,42 +37,9 @@ fn a_message_over_two_blocks(rt: HostRuntime) -> Result<(), Fail> {
     Ok(())
 }
 
-#[test]
-fn a_message_that_is_cut_off(rt: HostRuntime) -> Result<(), Fail> {
-    let file = two_blocks(rt.alloc())?;
-    let told = checked(rt.alloc(), file.get(..80).ok_or("short")?)?;
-    assert!(rt; told.messages.is_empty() && told.rest == 7);
-    let cut = checked(rt.alloc(), file.get(..70).ok_or("short")?);
-    assert!(rt; cut.err() == Some(FbsFault::Truncated));
-    Ok(())
-}
-
-// A block at time 7 of a black update, no colours of a colour map, which aren't recorded, a Bell, and
-// a red update: 47 bytes, padded with 255.
-const SEVERAL: [u8; 56] =
-    *b"\0\0\0\x2f\0\0\0\x01\0\0\0\0\0\x01\0\x01\0\0\0\0\0\0\0\0\x01\0\0\0\0\0\x02\0\0\0\x01\0\0\0\0\0\x01\0\x01\0\0\0\0\0\0\xff\0\xff\0\0\0\x07";
-
-#[test]
-fn the_messages_of_a_block_are_counted(rt: HostRuntime) -> Result<(), Fail> {
-    let alloc = rt.alloc();
-    let mut file = Vec::from_slice(alloc, &FRONT)?;
-    file.extend_from_slice(&SEVERAL)?;
-    let told = checked(alloc, &file)?;
-    assert!(rt; told.messages.len() == 3 && told.rest == 0);
-    assert!(rt; told.messages[0].time == 7 && told.messages[2].time == 7);
-    let number = counted(alloc, &file)?;
-    assert!(rt; number.messages == 3 && number.rest == 0);
-    Ok(())
-}
-
 /// A recording of one place with one message, an update of a red pixel.
 const RECORDING: [u8; 54] =
     *b"ORFBREC1\0\x01\0\x01\0\x04\0\x01xO\0\0\0\x1d\0\x01\0\0\0\0\0\0\0\0\x14\0\0\0\x01\0\0\0\0\0\x01\0\x01\0\0\0\0\0\0\xff\0C";
-
-// An update of a black pixel, and one of a red one, each in a block at time 0.
-const BLACK: [u8; 28] = *b"\0\0\0\x14\0\0\0\x01\0\0\0\0\0\x01\0\x01\0\0\0\0\0\0\0\0\0\0\0\0";
-
-const RED: [u8; 28] = *b"\0\0\0\x14\0\0\0\x01\0\0\0\0\0\x01\0\x01\0\0\0\0\0\0\xff\0\0\0\0\0";
 
 fn opened(alloc: Global) -> Result<Indexed<MemoryDisk>, Fail> {
     let disk = MemoryDisk::from_bytes(alloc, RECORDING.to_vec(alloc)?);
@@ -85,40 +47,6 @@ fn opened(alloc: Global) -> Result<Indexed<MemoryDisk>, Fail> {
         Ok(index) => Ok(index),
         Err(refused) => Err(refused.fault)?,
     }
-}
-
-// What is exported from a block to a count, or why nothing is.
-fn exported(alloc: Global, block: u64, to: u64) -> Result<Result<Vec<u8>, ExportFault>, Fail> {
-    let mut index = opened(alloc)?;
-    let mut out = Vec::new(alloc);
-    match export(alloc, &mut index, block, to, &mut out) {
-        Ok(_) => Ok(Ok(out)),
-        Err(fault) => Ok(Err(fault)),
-    }
-}
-
-#[test]
-fn a_recording_is_exported(rt: HostRuntime) -> Result<(), Fail> {
-    let alloc = rt.alloc();
-    let mut whole = Vec::from_slice(alloc, &FRONT)?;
-    whole.extend_from_slice(&BLACK)?;
-    whole.extend_from_slice(&RED)?;
-    let file = exported(alloc, 0, 1)??;
-    assert!(rt; file.len() == 120 && file.as_slice() == whole.as_slice());
-    let told = checked(alloc, &file)?;
-    assert!(rt; told.messages.len() == 2 && told.rest == 0);
-    Ok(())
-}
-
-#[test]
-fn the_end_of_a_recording_is_exported(rt: HostRuntime) -> Result<(), Fail> {
-    let alloc = rt.alloc();
-    // Behind the last block: the opening, and the screen as it is then.
-    let end = exported(alloc, 1, 1)??;
-    assert!(rt; end.len() == 92 && end.ends_with(&RED));
-    assert!(rt; exported(alloc, 1, 0)?.err() == Some(ExportFault::BadEnd));
-    assert!(rt; exported(alloc, 2, 1)?.err() == Some(ExportFault::NoBlock));
-    Ok(())
 }
 
 // Says of one call that it fails: the one after so many.
@@ -223,8 +151,9 @@ fn exported_after(
 #[test]
 fn each_write_fails_once(rt: HostRuntime) -> Result<(), Fail> {
     let alloc = rt.alloc();
-    let whole = exported(alloc, 0, 1)??;
     let mut index = opened(alloc)?;
+    let (fault, whole) = exported_after(alloc, &mut index, usize::MAX);
+    assert!(rt; fault.is_none() && whole.len() == 120);
     for calls in 0..121 {
         let (fault, written) = exported_after(alloc, &mut index, calls);
         let due = if calls < 120 {

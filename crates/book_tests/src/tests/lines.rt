@@ -1,6 +1,7 @@
 //! What no drill can say of `drill_script`: lines that aren't text, and spaces that nobody sees.
 
 use drill_script::{DeskLine, Line, LineFault, read_line, spells_one_line};
+use pixel_format::Format;
 use std::alloc::Global;
 use std::test::Fail;
 
@@ -8,8 +9,9 @@ fn is_read(alloc: Global, text: &[u8], line: Line) -> bool {
     read_line(alloc, text) == Ok(line)
 }
 
-fn new_line(width: u16, height: u16, key_interval: u16, name: Vec<u8>) -> Line {
+fn new_line(format: Format, width: u16, height: u16, key_interval: u16, name: Vec<u8>) -> Line {
     Line::New {
+        format,
         width,
         height,
         key_interval,
@@ -20,7 +22,7 @@ fn new_line(width: u16, height: u16, key_interval: u16, name: Vec<u8>) -> Line {
 #[test]
 fn each_kind_of_line(rt: HostRuntime) -> Result<(), Fail> {
     let alloc = rt.alloc();
-    let named = new_line(1, 65535, 4, b"x".to_vec(alloc)?);
+    let named = new_line(Format::One, 1, 65535, 4, b"x".to_vec(alloc)?);
     assert!(rt; is_read(alloc, b"new 1 65535 4 x", named));
     let host = DeskLine::Host {
         time: 4_294_967_295,
@@ -34,8 +36,8 @@ fn each_kind_of_line(rt: HostRuntime) -> Result<(), Fail> {
 
 #[test]
 fn names_of_any_bytes(rt: HostRuntime) -> Result<(), Fail> {
-    let named = new_line(0, 0, 0, b"\xff\r".to_vec(rt.alloc())?);
-    assert!(rt; is_read(rt.alloc(), b"new 0 0 0 \xff\r", named));
+    let named = new_line(Format::Two, 0, 0, 0, b"\xff\r".to_vec(rt.alloc())?);
+    assert!(rt; is_read(rt.alloc(), b"new2 0 0 0 \xff\r", named));
     Ok(())
 }
 

@@ -30,6 +30,11 @@ const BOTH: [u8; 24] = *b"\0\0\0\x01\0\0\0\0\0\x02\0\x01\0\0\0\0\0\0\xff\0\0\xff
 
 const ORANGE: [u8; 20] = *b"\0\0\0\x01\0\0\0\0\0\x01\0\x01\0\0\0\0\0\x80\xff\0";
 
+// Red, green and blue; then a copy of the first two places to the last two.
+const THREE: [u8; 28] = *b"\0\0\0\x01\0\0\0\0\0\x03\0\x01\0\0\0\0\0\0\xff\0\0\xff\0\0\xff\0\0\0";
+
+const COPIED: [u8; 20] = *b"\0\0\0\x01\0\x01\0\0\0\x02\0\x01\0\0\0\x01\0\0\0\0";
+
 // Requests for the area from the left of so many columns and one row.
 const FIRST: [u8; 10] = *b"\x03\0\0\0\0\0\0\x01\0\x01";
 
@@ -87,13 +92,13 @@ fn new_session(alloc: Global) -> Result<Session, Fail> {
     Ok(Session::new(alloc, 2, 1, b"r")?)
 }
 
-// Goes on by one message, which paints green.
-fn paint_green(alloc: Global, session: &mut Session) -> Result<(), Fail>
-    requires width { session.old.view.screen.width ≡ 2 }
+// Goes on by one update.
+fn go_on(alloc: Global, session: &mut Session, width: u16, update: &[u8]) -> Result<(), Fail>
+    requires width { session.old.view.screen.width ≡ width }
     requires height { session.old.view.screen.height ≡ 1 }
     requires position { session.old.view.position ≡ 1 }
 {
-    let message = HostMessage::from_bytes(alloc, 2, 1, &GREEN)?;
+    let message = HostMessage::from_bytes(alloc, width, 1, update)?;
     let messages = Vec::from_array(alloc, [Stamped { time: 0, message }])?;
     session.advance(&Slice {
         first: 1,
@@ -216,9 +221,30 @@ fn red_and_green(rt: HostRuntime) -> Result<(), Fail> {
     assert!(rt; is_red_and_green(alloc, &mut session)?);
     let none = answered(alloc, &mut session, &CHANGES)?;
     assert!(rt; none.is_empty() && session.wants());
-    paint_green(alloc, &mut session)?;
+    go_on(alloc, &mut session, 2, &GREEN)?;
     assert!(rt; session.position() == 2);
     assert!(rt; put_out(alloc, &mut session)?.as_slice() == GREEN.as_slice());
+    Ok(())
+}
+
+// What a viewer of this list, which shows three places, is answered once two of them are copied.
+fn copied(alloc: Global, list: &[u8]) -> Result<Vec<u8>, Fail> {
+    let mut session = started(alloc, 3, &THREE)?;
+    answered(alloc, &mut session, list)?;
+    answered(alloc, &mut session, b"\x03\0\0\0\0\0\0\x03\0\x01")?;
+    go_on(alloc, &mut session, 3, &COPIED)?;
+    answered(alloc, &mut session, b"\x03\x01\0\0\0\0\0\x03\0\x01")
+}
+
+// The copy itself, for one who takes copies, and else the colours.
+#[test]
+fn copies(rt: HostRuntime) -> Result<(), Fail> {
+    let alloc = rt.alloc();
+    let copy = copied(alloc, b"\x02\0\0\x02\0\0\0\x01\0\0\0\0")?;
+    assert!(rt; copy.as_slice() == COPIED.as_slice());
+    let colors = copied(alloc, b"\x02\0\0\x01\0\0\0\0")?;
+    let sent = b"\0\0\0\x01\0\x01\0\0\0\x02\0\x01\0\0\0\0\0\0\xff\0\0\xff\0\0";
+    assert!(rt; colors.as_slice() == sent.as_slice());
     Ok(())
 }
 

@@ -34,7 +34,7 @@ mod viewers;
 
 use file_commands::{FileCommand, run};
 use file_disk::Progress;
-use serve::{Audience, Origin, Plan, Stop, serve_on};
+use serve::{Audience, Format, Origin, Plan, Stop, serve_on};
 use std::fs::File;
 use std::net::{Net, TcpListener, TcpStream};
 use std::rt::Files;
@@ -50,6 +50,7 @@ fn plan_of<'a>(file: &'a str, host: Option<&'a str>, audience: Audience, from: O
         file,
         listen: "",
         host,
+        format: Format::Two,
         key_interval: 4,
         audience,
         from,

@@ -108,6 +108,25 @@ fn paint_raw(cursor: &mut Cursor, area: Area, pixels: &mut [Color]) -> Option<()
     Some(())
 }
 
+// The places from here on become those of the area; from its end where they stand before it.
+fn paint_copy(cursor: &mut Cursor, area: Area, pixels: &mut [Color]) -> Option<()> {
+    let x = number(cursor)?;
+    let y = number(cursor)?;
+    let forward = y > area.y || y == area.y && x >= area.x;
+    for row in 0..area.h {
+        for column in 0..area.w {
+            let (row, column) = if forward {
+                (row, column)
+            } else {
+                (area.h - 1 - row, area.w - 1 - column)
+            };
+            let color = *pixels.get(place(x.wrapping_add(column), y.wrapping_add(row)))?;
+            fill(pixels, part(area, column, row, 1, 1), color);
+        }
+    }
+    Some(())
+}
+
 fn paint_rre(cursor: &mut Cursor, area: Area, pixels: &mut [Color]) -> Option<()> {
     let _high = number(cursor)?;
     let count = number(cursor)?;
@@ -191,6 +210,7 @@ fn paint_rectangle(cursor: &mut Cursor, pixels: &mut [Color]) -> Option<()> {
     let _high = number(cursor)?;
     match number(cursor)? {
         0 => paint_raw(cursor, area, pixels),
+        1 => paint_copy(cursor, area, pixels),
         2 => paint_rre(cursor, area, pixels),
         5 => paint_hextile(cursor, area, pixels),
         _ => None,
@@ -216,14 +236,23 @@ fn paint(update: &[u8], format: &PixelFormat, pixels: &mut [Color]) -> Option<()
     Some(())
 }
 
-// An update of one Raw rectangle in three colours.
+// An update of one rectangle: a copy, or Raw in three colours.
 fn any_update(alloc: Global, seed: &mut u64) -> Result<Vec<u8>, Fail> {
     let x = below(seed, WIDTH);
     let y = below(seed, HEIGHT);
     let w = below(seed, WIDTH - x) + 1;
     let h = below(seed, HEIGHT - y) + 1;
     let mut update = Vec::from_slice(alloc, &[0, 0, 0, 1, 0])?;
-    update.extend_from_slice(&[x as u8, 0, y as u8, 0, w as u8, 0, h as u8, 0, 0, 0, 0])?;
+    update.extend_from_slice(&[x as u8, 0, y as u8, 0, w as u8, 0, h as u8, 0, 0, 0])?;
+    if below(seed, 2) == 0 {
+        let from = [
+            below(seed, WIDTH - w + 1) as u8,
+            below(seed, HEIGHT - h + 1) as u8,
+        ];
+        update.extend_from_slice(&[1, 0, from[0], 0, from[1]])?;
+        return Ok(update);
+    }
+    update.push(0)?;
     for _ in 0..w * h {
         let color = below(seed, 3) as u8;
         update.extend_from_slice(&[color * 90, 255 - color * 60, color * 20, 0])?;
@@ -261,7 +290,8 @@ fn go_on(
         return Ok(());
     }
     let first = session.position();
-    let messages = Vec::from_array(alloc, [Stamped { time: 0, message }])?;
+    let mut messages = Vec::new(alloc);
+    messages.push(Stamped { time: 0, message })?;
     if first < 1_000_000 {
         session.advance(&Slice {
             first,
@@ -284,8 +314,10 @@ fn ask(
         *format = PixelFormat::read(&FORMATS[usize::from(below(seed, 6))])?;
         write_set_pixel_format(format, &mut piece)?;
     }
-    let encoding = [0, 2, 5][usize::from(below(seed, 3))];
-    write_set_encodings(&[-239, encoding], &mut piece)?;
+    if below(seed, 4) == 0 {
+        let encoding = [0, 2, 5][usize::from(below(seed, 3))];
+        write_set_encodings(&[-239, encoding, 1], &mut piece)?;
+    }
     write_request(below(seed, 4) > 0, asked, &mut piece)?;
     Ok(piece)
 }
@@ -308,12 +340,13 @@ fn shows(screen: &Screen, format: &PixelFormat, pixels: &[Color], area: Area) ->
     true
 }
 
-// What a viewer shows, and whether it was answered yet.
+// What a viewer shows, and whether it was answered yet, and by a copy.
 #[derive(Drop)]
 struct Viewer {
     pixels: Vec<Color>,
     format: PixelFormat,
     answered: bool,
+    copied: bool,
 }
 
 // Asks for an area, and paints what is answered: the area, or nothing where that isn't an update.
@@ -334,6 +367,7 @@ fn look(
     let piece = ask(alloc, seed, &mut viewer.format, asked)?;
     let out = answered(alloc, session, &piece)?;
     viewer.answered |= !out.is_empty();
+    viewer.copied |= out.get(12..16).unwrap_or_default() == b"\0\0\0\x01".as_slice();
     if out.is_empty() || paint(&out, &viewer.format, &mut viewer.pixels).is_some() {
         Ok(Some(asked))
     } else {
@@ -361,6 +395,7 @@ fn painted(rt: HostRuntime) -> Result<(), Fail> {
         pixels: vec![in alloc; BLACK; 360]?,
         format: PixelFormat::host(),
         answered: false,
+        copied: false,
     };
     for _ in 0..400 {
         go_on(alloc, &mut seed, &mut session, &mut screen)?;
@@ -368,5 +403,6 @@ fn painted(rt: HostRuntime) -> Result<(), Fail> {
         let right = shows(&screen, &viewer.format, &viewer.pixels, asked);
         assert!(rt; right || !viewer.answered);
     }
+    assert!(rt; viewer.copied);
     Ok(())
 }

@@ -1,0 +1,75 @@
+//! The command `migrate`.
+
+ghost use Rattle.std.specs.Prelude.{◌≢◌};
+
+use crate::recording::{open_file, open_recording};
+use crate::refusal::{Ended, Refusal};
+use file_disk::{FileDisk, Progress, sync_folder};
+use gated_journal::State;
+use key_index::Indexed;
+use migration::{may_be_migrated, migrate};
+use std::alloc::Global;
+use std::fs::{File, OpenOptions, Permissions};
+use std::io;
+use std::os::unix::fs::PermissionsExt;
+use std::rt::Files;
+
+/// Which recording is migrated, and where to.
+#[derive(Clone, Copy)]
+pub struct Migration<'a> {
+    /// The recording's file, of format 1.
+    pub recording: &'a str,
+    /// The file that is written, which has no bytes or isn't there yet.
+    pub out: &'a str,
+}
+
+// A file to be read and written; created where it isn't there. One without bytes is made its owner's
+// alone, as a new recording's is; one with bytes stays as it is.
+fn opened_target<R: Files<File = File>>(files: &R, path: &str) -> io::Result<File> {
+    let file = OpenOptions::new()
+        .read(true)
+        .write(true)
+        .create(true)
+        .open(files, path)?;
+    let metadata = file.metadata()?;
+    if metadata.is_file() && metadata.len() == 0 {
+        file.set_permissions(Permissions::from_mode(0o600))?;
+    }
+    Ok(file)
+}
+
+fn open_target<R: Files<File = File>>(files: &R, path: &str) -> Result<File, Refusal> {
+    match opened_target(files, path) {
+        Ok(file) => Ok(file),
+        Err(_) => Err(Refusal::File),
+    }
+}
+
+// How many messages a recording has once it is migrated.
+fn migrated(alloc: Global, index: &mut Indexed<FileDisk>, target: FileDisk) -> Result<u64, Refusal>
+    requires whole { index.old.numbers.state ≢ State.Broken }
+{
+    match migrate(alloc, index, target) {
+        Ok(migrated) => Ok(migrated.committed()),
+        Err(refused) => Err(Refusal::Migrate(refused.fault)),
+    }
+}
+
+/// Writes a recording of format 1 again in format 2: how many messages it has.
+pub fn write_migration<R: Files<File = File> + AllocGlobal>(
+    rt: &R,
+    what: &Migration<'_>,
+    progress: Progress,
+) -> Result<u64, Ended> {
+    let alloc = rt.alloc();
+    let file = open_file(rt, what.recording)?;
+    let mut index = open_recording(alloc, file, progress)?;
+    may_be_migrated(&index).map_err(Refusal::Migrate)?;
+    let file = open_target(rt, what.out)?;
+    let target = FileDisk::watched(file, progress);
+    let count = migrated(alloc, &mut index, target)?;
+    match sync_folder(rt, what.out) {
+        Ok(()) => Ok(count),
+        Err(_) => Err(Ended::Refused(Refusal::File)),
+    }
+}
