@@ -183,6 +183,20 @@ filled_more from next end k value before low high =
 pub none_between : (from k : ℕ) → is_between from from k ≡ false
 none_between from k = is_between_false from from k (λ b. let above = b.above in let below = b.below in absurd (omega arith))
 
+-- all bits of a word
+pub word_filled : (words : List ℕ) (whole place : ℕ) (value : Bool) → place < length words
+    → ((i : ℕ) → i < 64 → bit whole i ≡ cond (is_between 0 64 i) value (bit 0 i))
+    → (k : ℕ) → is_set (slice_set words place whole) k ≡ cond (is_between (64 * place) (64 * (place + 1)) k) value (is_set words k)
+word_filled words whole place value within all k =
+    let at : 64 * place / 64 ≡ place = omega arith in
+    let low : 64 * place % 64 ≡ 0 = omega arith in
+    let next : 64 * (place + 1) ≡ 64 * place + 64 = omega arith in
+    let put : (i : ℕ) → i < 64 → bit whole i ≡ cond (is_between (64 * place % 64) (64 * place % 64 + 64) i) value (bit (get_or words (64 * place / 64) 0) i) = λ i less.
+    rw low (all i less ∙ ap (λ (b : Bool). cond b value (bit 0 i)) (is_between_true 0 64 i (omega arith) less)
+    ∙ sym (ap (λ (b : Bool). cond b value (bit (get_or words (64 * place / 64) 0) i)) (is_between_true 0 64 i (omega arith) less))) in
+    ap (λ (n : ℕ). is_set (slice_set words n whole) k) (sym at) ∙ word_put words whole (64 * place) 64 value (omega (arith, at)) (omega (arith, low)) put k
+    ∙ ap (λ (n : ℕ). cond (is_between (64 * place) n k) value (is_set words k)) (sym next)
+
 -- ---- ends
 
 pub same_ends : (p q : ℕ → Bool) → ((k : ℕ) → p k ≡ q k) → (o : Option Ends) → AreEndsOf p o → AreEndsOf q o

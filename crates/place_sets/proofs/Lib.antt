@@ -5,3 +5,5 @@ pub mod PlaceSets
 pub mod Held
 pub mod Looked
 pub mod Sent
+pub mod Equal
+pub mod Clean

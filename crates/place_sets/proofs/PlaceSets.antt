@@ -1,7 +1,7 @@
 -- Places of an area, tile by tile and row by row.
 use Rattle.std.proofs.Common.{◌≡◌, ℕ, ◌+◌, ◌-◌, ◌*◌, ◌<◌, ◌≤◌, inl, inr, Bool, true, false, cond, List, length, nat_eq, nat_lt, ◌/◌, refl, sym, ap, ◌∙◌, arith, eqb-true, eq-eqb}
 use Rattle.std.specs.Prelude.{◌||◌, ◌&&◌, min, max, Option, Some, None, IfSome}
-use Rattle.std.proofs.lemmas.Bool.{cases_lt, cases_order, and_parts, ltb-true, lt-ltb, false_from_ne_true}
+use Rattle.std.proofs.lemmas.Bool.{cases_Bool, cases_lt, cases_order, and_parts, ltb-true, lt-ltb, false_from_ne_true}
 use Rattle.std.proofs.Math.Nat.{mul-le-mul_left}
 use Rattle.terms.specs.declared.area.Area.{Area}
 use Rattle.terms.specs.Area.{is_in, HasJust, IsSmallest, IsSmallestOf}
@@ -163,30 +163,157 @@ summed columns part words now summary new value some is filled put has are x y a
 pub eq_true : (n : ℕ) → nat_eq n n ≡ true
 eq_true n = eq-eqb n n refl
 
--- the places of a row of tiles up to a column of tiles, and those of the next tile
-pub tiles_more : (area : Area) (column row x y : ℕ)
-    → ((is_in area x y && (nat_eq (y / 16) row && nat_lt (x / 16) column)) || (is_in area x y && is_in (square column row) x y)) ≡ (is_in area x y && (nat_eq (y / 16) row && nat_lt (x / 16) (column + 1)))
-tiles_more area column row x y =
-    same_test ((is_in area x y && (nat_eq (y / 16) row && nat_lt (x / 16) column)) || (is_in area x y && is_in (square column row) x y)) (is_in area x y && (nat_eq (y / 16) row && nat_lt (x / 16) (column + 1)))
-    (λ e. elim (or_parts (is_in area x y && (nat_eq (y / 16) row && nat_lt (x / 16) column)) (is_in area x y && is_in (square column row) x y) e) [
+-- the places of some tiles of a row, from a column of tiles to another, and those of the next tile
+pub tiles_more : (area : Area) (from column row x y : ℕ) → from ≤ column
+    → ((is_in area x y && (nat_eq (y / 16) row && is_between from column (x / 16))) || (is_in area x y && is_in (square column row) x y)) ≡ (is_in area x y && (nat_eq (y / 16) row && is_between from (column + 1) (x / 16)))
+tiles_more area from column row x y order =
+    same_test ((is_in area x y && (nat_eq (y / 16) row && is_between from column (x / 16))) || (is_in area x y && is_in (square column row) x y)) (is_in area x y && (nat_eq (y / 16) row && is_between from (column + 1) (x / 16)))
+    (λ e. elim (or_parts (is_in area x y && (nat_eq (y / 16) row && is_between from column (x / 16))) (is_in area x y && is_in (square column row) x y) e) [
       | inl before ↦
-          (let a = and_parts (is_in area x y) (nat_eq (y / 16) row && nat_lt (x / 16) column) before in
-          let b = and_parts (nat_eq (y / 16) row) (nat_lt (x / 16) column) a.1 in
-          let less = ltb-true (x / 16) column b.1 in
-          both_true _ _ a.0 (both_true _ _ b.0 (lt-ltb (x / 16) (column + 1) (omega arith))))
+          (let a = and_parts (is_in area x y) (nat_eq (y / 16) row && is_between from column (x / 16)) before in
+          let b = and_parts (nat_eq (y / 16) row) (is_between from column (x / 16)) a.1 in
+          let between = between_is from column (x / 16) b.1 in
+          let above = between.above in
+          let below = between.below in
+          both_true _ _ a.0 (both_true _ _ b.0 (is_between_true from (column + 1) (x / 16) above (omega arith))))
       | inr here ↦
           (let a = and_parts (is_in area x y) (is_in (square column row) x y) here in
           let at = in_square column row x y a.1 in
           let across = at.0 in
-          both_true _ _ a.0 (both_true _ _ (rw (at.1) (eq_true row)) (lt-ltb (x / 16) (column + 1) (omega arith))))
+          both_true _ _ a.0 (both_true _ _ (rw (at.1) (eq_true row)) (is_between_true from (column + 1) (x / 16) (omega arith) (omega arith))))
     ])
-    (λ e. let a = and_parts (is_in area x y) (nat_eq (y / 16) row && nat_lt (x / 16) (column + 1)) e in
-    let b = and_parts (nat_eq (y / 16) row) (nat_lt (x / 16) (column + 1)) a.1 in
-    let less = ltb-true (x / 16) (column + 1) b.1 in
+    (λ e. let a = and_parts (is_in area x y) (nat_eq (y / 16) row && is_between from (column + 1) (x / 16)) e in
+    let b = and_parts (nat_eq (y / 16) row) (is_between from (column + 1) (x / 16)) a.1 in
+    let between = between_is from (column + 1) (x / 16) b.1 in
+    let above = between.above in
+    let below = between.below in
     elim (cases_lt (x / 16) column) [
-      | inl before ↦ or_left _ _ (both_true _ _ a.0 (both_true _ _ b.0 (lt-ltb (x / 16) column before)))
+      | inl before ↦ or_left _ _ (both_true _ _ a.0 (both_true _ _ b.0 (is_between_true from column (x / 16) above before)))
       | inr behind ↦ or_right _ _ (both_true _ _ a.0 (square_true column row x y (omega arith) (eqb-true (y / 16) row b.0)))
     ])
+
+-- no tile, no place
+pub no_tiles : (area : Area) (from row x y : ℕ) → (is_in area x y && (nat_eq (y / 16) row && is_between from from (x / 16))) ≡ false
+no_tiles area from row x y = false_from_ne_true _ (λ e.
+    let a = and_parts (is_in area x y) (nat_eq (y / 16) row && is_between from from (x / 16)) e in
+    let b = and_parts (nat_eq (y / 16) row) (is_between from from (x / 16)) a.1 in
+    let between = between_is from from (x / 16) b.1 in
+    let above = between.above in
+    let below = between.below in
+    absurd (omega arith))
+
+-- ---- whole tiles
+
+-- a tile is one of some in a row, by its number or by its row and column
+tile_between : (columns row from to x y : ℕ) → to ≤ columns → x < 16 * columns
+    → is_between (row * columns + from) (row * columns + to) (tile_at columns x y) ≡ (nat_eq (y / 16) row && is_between from to (x / 16))
+tile_between columns row from to x y within across =
+    same_test (is_between (row * columns + from) (row * columns + to) (tile_at columns x y)) (nat_eq (y / 16) row && is_between from to (x / 16))
+    (λ e. let b = between_is (row * columns + from) (row * columns + to) (tile_at columns x y) e in
+    let above = b.above in
+    let below = b.below in
+    elim (cases_order (y / 16) row) [
+      | inl level ↦
+          (let same : y / 16 * columns ≡ row * columns = ap (λ (n : ℕ). n * columns) level in
+          both_true _ _ (rw level (eq_true row)) (is_between_true from to (x / 16) (omega arith) (omega arith)))
+      | inr other ↦ elim other [
+        | inl higher ↦
+            (let reach : y / 16 + 1 ≤ row = omega arith in
+            let room : columns * (y / 16 + 1) ≤ columns * row = mul-le-mul_left columns reach in
+            absurd (omega arith))
+        | inr lower ↦
+            (let reach : row + 1 ≤ y / 16 = omega arith in
+            let room : columns * (row + 1) ≤ columns * (y / 16) = mul-le-mul_left columns reach in
+            absurd (omega arith))
+      ]
+    ])
+    (λ e. let a = and_parts (nat_eq (y / 16) row) (is_between from to (x / 16)) e in
+    let level : y / 16 ≡ row = eqb-true (y / 16) row a.0 in
+    let same : y / 16 * columns ≡ row * columns = ap (λ (n : ℕ). n * columns) level in
+    let b = between_is from to (x / 16) a.1 in
+    let above = b.above in
+    let below = b.below in
+    is_between_true (row * columns + from) (row * columns + to) (tile_at columns x y) (omega arith) (omega arith))
+
+-- and its places are, by their bits' numbers
+pub tiles_between : (columns row from to x y : ℕ) → to ≤ columns → x < 16 * columns
+    → is_between ((row * columns + from) * 256) ((row * columns + to) * 256) (number_at columns x y) ≡ (nat_eq (y / 16) row && is_between from to (x / 16))
+tiles_between columns row from to x y within across =
+    let first = row * columns + from in
+    let end = row * columns + to in
+    same_test (is_between (first * 256) (end * 256) (number_at columns x y)) (is_between first end (tile_at columns x y))
+    (λ e. let b = between_is (first * 256) (end * 256) (number_at columns x y) e in
+    let above = b.above in
+    let below = b.below in
+    is_between_true first end (tile_at columns x y) (omega arith) (omega arith))
+    (λ e. let b = between_is first end (tile_at columns x y) e in
+    let above = b.above in
+    let below = b.below in
+    is_between_true (first * 256) (end * 256) (number_at columns x y) (omega arith) (omega arith))
+    ∙ tile_between columns row from to x y within across
+
+-- they are summed up
+pub whole_summed : (columns row from to : ℕ) (words now summary new : List ℕ) (value : Bool) → to ≤ columns
+    → ((x y : ℕ) → x < 16 * columns → is_marked columns now x y ≡ cond (nat_eq (y / 16) row && is_between from to (x / 16)) value (is_marked columns words x y))
+    → ((k : ℕ) → is_set new k ≡ cond (is_between (row * columns + from) (row * columns + to) k) value (is_set summary k))
+    → IsSummary columns words summary → IsSummary columns now new
+whole_summed columns row from to words now summary new value within filled put are x y across marked =
+    let tile = tile_at columns x y in
+    let test = nat_eq (y / 16) row && is_between from to (x / 16) in
+    let told : is_set new tile ≡ cond test value (is_set summary tile) = put tile ∙ ap (λ (z : Bool). cond z value (is_set summary tile)) (tile_between columns row from to x y within across) in
+    elim (cases_Bool test) [
+      | inl here ↦
+          told ∙ ap (λ (z : Bool). cond z value (is_set summary tile)) here
+          ∙ sym (ap (λ (z : Bool). cond z value (is_marked columns words x y)) here) ∙ sym (filled x y across) ∙ marked
+      | inr away ↦
+          told ∙ ap (λ (z : Bool). cond z value (is_set summary tile)) away
+          ∙ are x y across (sym (filled x y across ∙ ap (λ (z : Bool). cond z value (is_marked columns words x y)) away) ∙ marked)
+    ]
+
+-- the places of a row of tiles are those of the parts before whole tiles, of these, and of the parts
+-- behind them
+row_of_parts : (area : Area) (row from to x y : ℕ) → ((nat_eq (y / 16) row && is_between from to (x / 16)) ≡ true → is_in area x y ≡ true)
+    → (((is_in area x y && (nat_eq (y / 16) row && is_between (area.x / 16) from (x / 16))) || (nat_eq (y / 16) row && is_between from to (x / 16)))
+    || (is_in area x y && (nat_eq (y / 16) row && is_between to (tiles_of (area.x + area.w)) (x / 16)))) ≡ (is_in area x y && nat_eq (y / 16) row)
+row_of_parts area row from to x y inside =
+    let a = is_in area x y && (nat_eq (y / 16) row && is_between (area.x / 16) from (x / 16)) in
+    let b = nat_eq (y / 16) row && is_between from to (x / 16) in
+    let c = is_in area x y && (nat_eq (y / 16) row && is_between to (tiles_of (area.x + area.w)) (x / 16)) in
+    same_test ((a || b) || c) (is_in area x y && nat_eq (y / 16) row)
+    (λ e. elim (or_parts (a || b) c e) [
+      | inl first ↦ elim (or_parts a b first) [
+        | inl before ↦
+            (let p = and_parts (is_in area x y) (nat_eq (y / 16) row && is_between (area.x / 16) from (x / 16)) before in
+            both_true _ _ p.0 (and_parts (nat_eq (y / 16) row) (is_between (area.x / 16) from (x / 16)) p.1).0)
+        | inr here ↦ both_true _ _ (inside here) (and_parts (nat_eq (y / 16) row) (is_between from to (x / 16)) here).0
+      ]
+      | inr behind ↦
+          (let p = and_parts (is_in area x y) (nat_eq (y / 16) row && is_between to (tiles_of (area.x + area.w)) (x / 16)) behind in
+          both_true _ _ p.0 (and_parts (nat_eq (y / 16) row) (is_between to (tiles_of (area.x + area.w)) (x / 16)) p.1).0)
+    ])
+    (λ e. let p = and_parts (is_in area x y) (nat_eq (y / 16) row) e in
+    let place = in_is area x y p.0 in
+    let l = place.left in
+    let r = place.right in
+    elim (cases_lt (x / 16) from) [
+      | inl before ↦ or_left (a || b) c (or_left a b (both_true _ _ p.0 (both_true _ _ p.1 (is_between_true (area.x / 16) from (x / 16) (omega arith) before))))
+      | inr on ↦ elim (cases_lt (x / 16) to) [
+        | inl here ↦ or_left (a || b) c (or_right a b (both_true _ _ p.1 (is_between_true from to (x / 16) on here)))
+        | inr behind ↦ or_right (a || b) c (both_true _ _ p.0 (both_true _ _ p.1 (is_between_true to (tiles_of (area.x + area.w)) (x / 16) behind (omega arith))))
+      ]
+    ])
+
+pub row_filled : (area : Area) (row from to x y : ℕ) (value before first second last : Bool) → ((nat_eq (y / 16) row && is_between from to (x / 16)) ≡ true → is_in area x y ≡ true)
+    → first ≡ cond (is_in area x y && (nat_eq (y / 16) row && is_between (area.x / 16) from (x / 16))) value before
+    → second ≡ cond (nat_eq (y / 16) row && is_between from to (x / 16)) value first
+    → last ≡ cond (is_in area x y && (nat_eq (y / 16) row && is_between to (tiles_of (area.x + area.w)) (x / 16))) value second
+    → last ≡ cond (is_in area x y && nat_eq (y / 16) row) value before
+row_filled area row from to x y value before first second last inside one two three =
+    let a = is_in area x y && (nat_eq (y / 16) row && is_between (area.x / 16) from (x / 16)) in
+    let b = nat_eq (y / 16) row && is_between from to (x / 16) in
+    let c = is_in area x y && (nat_eq (y / 16) row && is_between to (tiles_of (area.x + area.w)) (x / 16)) in
+    filled_more (a || b) c (is_in area x y && nat_eq (y / 16) row) value before second last three (filled_more a b (a || b) value before first second two one refl)
+    (row_of_parts area row from to x y inside)
 
 -- the places of rows of tiles, and those of the next one
 pub rows_of_tiles : (area : Area) (row x y : ℕ) → ((is_in area x y && nat_lt (y / 16) row) || (is_in area x y && nat_eq (y / 16) row)) ≡ (is_in area x y && nat_lt (y / 16) (row + 1))
@@ -213,15 +340,7 @@ rows_of_tiles area row x y =
 pub none_there : (area : Area) (column row x y : ℕ) → ((a b : ℕ) → (is_in area a b && is_in (square column row) a b) ≡ true → ⊥) → (is_in area x y && is_in (square column row) x y) ≡ false
 none_there area column row x y none = false_from_ne_true (is_in area x y && is_in (square column row) x y) (none x y)
 
--- no place stands left of an area's first tile, or above it
-pub none_left : (area : Area) (row x y : ℕ) → (is_in area x y && (nat_eq (y / 16) row && nat_lt (x / 16) (area.x / 16))) ≡ false
-none_left area row x y = false_from_ne_true _ (λ e.
-    let a = and_parts (is_in area x y) (nat_eq (y / 16) row && nat_lt (x / 16) (area.x / 16)) e in
-    let b = and_parts (nat_eq (y / 16) row) (nat_lt (x / 16) (area.x / 16)) a.1 in
-    let less = ltb-true (x / 16) (area.x / 16) b.1 in
-    let l = (in_is area x y a.0).left in
-    absurd (omega arith))
-
+-- no place stands above an area's first tile
 pub none_above : (area : Area) (x y : ℕ) → (is_in area x y && nat_lt (y / 16) (area.y / 16)) ≡ false
 none_above area x y = false_from_ne_true _ (λ e.
     let a = and_parts (is_in area x y) (nat_lt (y / 16) (area.y / 16)) e in
@@ -229,16 +348,7 @@ none_above area x y = false_from_ne_true _ (λ e.
     let t = (in_is area x y a.0).top in
     absurd (omega arith))
 
--- all its places stand in its tiles
-pub all_left : (area : Area) (row x y column : ℕ) → tiles_of (area.x + area.w) ≤ column → (is_in area x y && (nat_eq (y / 16) row && nat_lt (x / 16) column)) ≡ (is_in area x y && nat_eq (y / 16) row)
-all_left area row x y column le =
-    same_test (is_in area x y && (nat_eq (y / 16) row && nat_lt (x / 16) column)) (is_in area x y && nat_eq (y / 16) row)
-    (λ e. let a = and_parts (is_in area x y) (nat_eq (y / 16) row && nat_lt (x / 16) column) e in
-    both_true _ _ a.0 (and_parts (nat_eq (y / 16) row) (nat_lt (x / 16) column) a.1).0)
-    (λ e. let a = and_parts (is_in area x y) (nat_eq (y / 16) row) e in
-    let r = (in_is area x y a.0).right in
-    both_true _ _ a.0 (both_true _ _ a.1 (lt-ltb (x / 16) column (omega arith))))
-
+-- all its places stand in its rows of tiles
 pub all_above : (area : Area) (x y row : ℕ) → tiles_of (area.y + area.h) ≤ row → (is_in area x y && nat_lt (y / 16) row) ≡ is_in area x y
 all_above area x y row le =
     same_test (is_in area x y && nat_lt (y / 16) row) (is_in area x y)

@@ -62,6 +62,10 @@ pub record IsFirstTile (set : PlaceSet) (from : ℕ) (area : Area) (part : TileP
 abbrev pub HasNoTile : PlaceSet → ℕ → Area → Type 0
 HasNoTile set from area = (x y : ℕ) → is_in area x y ≡ true → holds set x y ≡ true → tile_of set x y < from
 
+-- no place of an area is in the set
+abbrev pub HasNone : PlaceSet → Area → Type 0
+HasNone set area = (x y : ℕ) → is_in area x y ≡ true → holds set x y ≡ false
+
 -- The areas of the first tiles, one behind another, that have a place of the set in an area: those
 -- from one number on to before another, and of each tile the smallest area that holds its places.
 abbrev pub AreFirstTiles : PlaceSet → Area → ℕ → ℕ → List Area → Type 0

@@ -50,6 +50,19 @@ pub fn fill(words: &mut [u64], from: usize, to: usize, value: bool)
     }
 }
 
+/// The same of all numbers that some words stand for, from one word to before another.
+pub fn fill_words(words: &mut [u64], from: usize, to: usize, value: bool)
+    requires order { from ≤ to }
+    requires within { to ≤ length words.old }
+    ensures { (k : ℕ) → is_set words.new k
+        ≡ (if is_between (64 * from) (64 * to) k then value else is_set words.old k) }
+{
+    let whole = with_bits(0, 0, WORD, value);
+    for place in from..to {
+        words[place] = whole;
+    }
+}
+
 // The lowest and the highest bit of a word that are 1.
 fn ends_of_word(word: u64) -> Option<Ends>
     ensures { AreEndsOf (λ i. nat_lt i 64 && bit word i) result }

@@ -1,11 +1,11 @@
 //! Sets of places of a screen.
 
-ghost use Rattle.std.specs.Prelude.{◌≡◌, ◌+◌, ◌*◌, ◌<◌, ◌||◌, ◌&&◌, not, ℕ, true, All, IfOk, MatchOption, if◌then◌else◌};
-ghost use Rattle.terms.specs.Area.{is_in, IsSmallestOf};
+ghost use Rattle.std.specs.Prelude.{◌≡◌, ◌↔◌, ◌+◌, ◌*◌, ◌<◌, ◌||◌, ◌&&◌, not, ℕ, true, All, length, IfOk, IsTrue, MatchOption, if◌then◌else◌};
+ghost use Rattle.terms.specs.Area.{is_in, IsSmallest, IsSmallestOf};
 ghost use Rattle.rect_data.specs.Data.{LiesWithin};
 
 use crate::bits::{are_full, first};
-use crate::tiles::{fill_area, smallest_in, tile_area, tile_at, tiles_of};
+use crate::tiles::{SIDE, fill_area, smallest_in, tile_area, tile_at, tiles_of};
 use std::alloc::Global;
 use std::marker::Model;
 use terms::{Area, NoMemory};
@@ -42,7 +42,7 @@ impl Model for Places {
 }
 
 impl Places {
-    ghost use Rattle.place_sets.specs.Places.{holds, AreJust, SameSize, tile_count, is_in_tile, is_in_some, IsFirstTile, HasNoTile, IsAlone, AreSent};
+    ghost use Rattle.place_sets.specs.Places.{holds, AreJust, SameSize, tile_count, is_in_tile, is_in_some, IsFirstTile, HasNoTile, HasNone, IsAlone, AreSent};
 
     /// All places of a screen of this size.
     pub fn all(alloc: Global, width: u16, height: u16) -> Result<Places, NoMemory>
@@ -146,11 +146,71 @@ impl Places {
         None
     }
 
+    /// Whether no place of an area is in the set. It looks at the area's tiles alone.
+    pub fn has_none(&self, area: Area) -> bool
+        requires { LiesWithin self.now.width self.now.height area }
+        ensures { IsTrue result ↔ HasNone self.now area }
+    {
+        let w = self.width;
+        for row in usize::from(area.y / SIDE)..tiles_of(area.y + area.h) {
+            let tiles = Area {
+                w,
+                ..tile_area(0, row)
+            };
+            if let Some(part) = area.common(tiles) {
+                if self.next_tile(0, part).is_some() {
+                    return false;
+                }
+            }
+        }
+        true
+    }
+
+    /// How many places its size has. (It does nothing.)
+    pub fn known(&self)
+        ensures { length self.now.places ≡ self.now.height * self.now.width }
+    {
+        let _ = &self.width;
+    }
+
+    // Whether a place of the set stands on each edge of an area. It looks no further than that.
+    fn reaches_edges(&self, area: Area) -> bool
+        requires { LiesWithin self.now.width self.now.height area }
+        ensures { result ≡ true → IsSmallest (λ x y. is_in area x y && holds self.now x y) area }
+    {
+        if self.width == 0 || area.w == 0 || area.h == 0 {
+            return false;
+        }
+        let row = Area { h: 1, ..area };
+        let column = Area { w: 1, ..area };
+        let last_row = Area {
+            y: area.y + (area.h - 1),
+            ..row
+        };
+        let last_column = Area {
+            x: area.x + (area.w - 1),
+            ..column
+        };
+        if self.next_tile(0, row).is_none() {
+            return false;
+        }
+        if self.next_tile(0, last_row).is_none() {
+            return false;
+        }
+        if self.next_tile(0, column).is_none() {
+            return false;
+        }
+        self.next_tile(0, last_column).is_some()
+    }
+
     /// The smallest area that holds the places of the set in an area.
     pub fn smallest(&self, area: Area) -> Option<Area>
         requires { LiesWithin self.now.width self.now.height area }
         ensures { IsSmallestOf (λ x y. is_in area x y && holds self.now x y) result }
     {
+        if self.reaches_edges(area) {
+            return Some(area);
+        }
         let mut found: Option<Area> = None;
         let mut next = 0;
         'tiles: while let Some(part) = self.next_tile(next, area) {

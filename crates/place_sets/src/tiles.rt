@@ -1,17 +1,20 @@
 //! Bits for the places of a screen, in the order of tiles.
 
-ghost use Rattle.std.specs.Prelude.{◌≡◌, ◌+◌, ◌-◌, ◌*◌, ◌/◌, ◌%◌, ◌<◌, ◌≤◌, ◌^◌, ◌||◌, ◌&&◌, ℕ, Bool, length, IfSome, nat_eq, if◌then◌else◌};
+ghost use Rattle.std.specs.Prelude.{◌≡◌, ◌+◌, ◌-◌, ◌*◌, ◌/◌, ◌%◌, ◌<◌, ◌≤◌, ◌^◌, ◌||◌, ◌&&◌, ℕ, Bool, length, IfSome, nat_eq, true, if◌then◌else◌};
 ghost use Rattle.terms.specs.Area.{is_in, IsSmallest, IsSmallestOf};
+ghost use Rattle.place_sets.specs.Bits.{is_between};
 ghost use Rattle.place_sets.specs.Places.{tiles_of, tile_at, number_at, is_marked, IsSummary, IsRow, IsTilePart, HasTiles};
 
-use crate::bits::{fill, first, first_and_last};
+use crate::bits::{fill, fill_words, first, first_and_last};
 use terms::Area;
 
 /// How many places stand side by side in a tile, and how many rows of them there are.
 pub const SIDE: u16 = 16;
 
-/// How many bits a tile has.
+/// How many bits a tile has, and how many words.
 pub const TILE_BITS: usize = 256;
+
+const TILE_WORDS: usize = 4;
 
 /// How many tiles so many places take, side by side.
 pub fn tiles_of(length: u16) -> usize
@@ -85,6 +88,86 @@ pub fn tile_area(column: usize, row: usize) -> Area
     }
 }
 
+// Tiles that stand side by side, from a column of tiles to before another.
+#[derive(Clone, Copy)]
+struct TileRun {
+    row: usize,
+    from: usize,
+    to: usize,
+}
+
+// Gives the places of an area one value that stand in a run of tiles.
+fn fill_parts(
+    words: &mut [u64],
+    summary: &mut [u64],
+    columns: usize,
+    area: Area,
+    run: TileRun,
+    value: bool,
+)
+    requires area { HasTiles columns area words.old summary.old }
+    requires row { run.row < tiles_of (area.y + area.h) }
+    requires order { run.from ≤ run.to }
+    requires within { run.to ≤ tiles_of (area.x + area.w) }
+    ensures filled { (x y : ℕ) → x < 16 * columns → is_marked columns words.new x y
+        ≡ (if is_in area x y && (nat_eq (y / 16) run.row && is_between run.from run.to (x / 16)) then value
+        else is_marked columns words.old x y) }
+    ensures summary { IsSummary columns words.old summary.old
+        → IsSummary columns words.new summary.new }
+{
+    for column in run.from..run.to {
+        if let Some(part) = area.common(tile_area(column, run.row)) {
+            fill_tile(words, summary, columns, part, value);
+        }
+    }
+}
+
+// Gives all places of a run of tiles one value: their bits stand side by side.
+fn fill_run(words: &mut [u64], summary: &mut [u64], columns: usize, run: TileRun, value: bool)
+    requires few { columns ≤ 2 ^ 12 }
+    requires low { run.row < 2 ^ 12 }
+    requires order { run.from ≤ run.to }
+    requires within { run.to ≤ columns }
+    requires bits { 256 * ((run.row + 1) * columns) ≤ 64 * length words.old }
+    requires tiles { (run.row + 1) * columns ≤ 64 * length summary.old }
+    ensures filled { (x y : ℕ) → x < 16 * columns → is_marked columns words.new x y
+        ≡ (if nat_eq (y / 16) run.row && is_between run.from run.to (x / 16) then value
+        else is_marked columns words.old x y) }
+    ensures summary { IsSummary columns words.old summary.old
+        → IsSummary columns words.new summary.new }
+{
+    let first = run.row * columns + run.from;
+    let end = run.row * columns + run.to;
+    fill_words(words, first * TILE_WORDS, end * TILE_WORDS, value);
+    fill(summary, first, end, value);
+}
+
+// The tiles of a row that lie in an area whole; none, behind the area, where no tile does.
+fn whole_tiles(area: Area, row: usize) -> TileRun
+    requires wide { area.x + area.w < 2 ^ 16 }
+    requires high { area.y + area.h < 2 ^ 16 }
+    requires low { row < 2 ^ 12 }
+    ensures row { result.row ≡ row }
+    ensures first { area.x / 16 ≤ result.from }
+    ensures order { result.from ≤ result.to }
+    ensures within { result.to ≤ tiles_of (area.x + area.w) }
+    ensures inside { (x y : ℕ) → (nat_eq (y / 16) row && is_between result.from result.to (x / 16)) ≡ true
+        → is_in area x y ≡ true }
+{
+    let (top, bottom) = (row * 16, row * 16 + 16);
+    let from = tiles_of(area.x);
+    let to = usize::from((area.x + area.w) / SIDE);
+    if usize::from(area.y) <= top && bottom <= usize::from(area.y + area.h) && from < to {
+        return TileRun { row, from, to };
+    }
+    let behind = tiles_of(area.x + area.w);
+    TileRun {
+        row,
+        from: behind,
+        to: behind,
+    }
+}
+
 // Gives the places of an area one value that stand in one row of tiles.
 fn fill_tiles(
     words: &mut [u64],
@@ -102,11 +185,20 @@ fn fill_tiles(
     ensures summary { IsSummary columns words.old summary.old
         → IsSummary columns words.new summary.new }
 {
-    for column in usize::from(area.x / SIDE)..tiles_of(area.x + area.w) {
-        if let Some(part) = area.common(tile_area(column, row)) {
-            fill_tile(words, summary, columns, part, value);
-        }
-    }
+    let whole = whole_tiles(area, row);
+    let before = TileRun {
+        row,
+        from: usize::from(area.x / SIDE),
+        to: whole.from,
+    };
+    let behind = TileRun {
+        row,
+        from: whole.to,
+        to: tiles_of(area.x + area.w),
+    };
+    fill_parts(words, summary, columns, area, before, value);
+    fill_run(words, summary, columns, whole, value);
+    fill_parts(words, summary, columns, area, behind, value);
 }
 
 /// Gives the places of an area one value, and sums their tiles up.

@@ -1,4 +1,6 @@
 pub mod Views
+pub mod Meetings
+pub mod Paintings
 pub mod Zipped
 pub mod Sendings
 pub mod Answered

@@ -1,6 +1,6 @@
 -- What a viewer sees once it has painted an update of some areas.
 use Rattle.std.proofs.Common.{◌≡◌, ℕ, ◌+◌, ◌-◌, inl, inr, Bool, true, false, List, [], ◌∷◌, refl, sym, ap, ◌∙◌, subst, arith}
-use Rattle.std.specs.Prelude.{◌||◌, All, map}
+use Rattle.std.specs.Prelude.{◌||◌, ◌++◌, All, map, Option, Some, None, IfSome}
 use Rattle.std.specs.List.{AllZip, AllByRecursion}
 use Rattle.std.proofs.lemmas.Bool.{cases_Bool}
 use Rattle.std.proofs.lemmas.List.Elements.{All-nil, All-cons}
@@ -15,13 +15,15 @@ use Rattle.rect_data.specs.Data.{LiesWithin}
 use Rattle.rect_data.specs.declared.encoding.Encoding.{Encoding}
 use Rattle.rect_codec.specs.declared.parts.Part.{Part}
 use Rattle.rect_codec.specs.declared.parts.Part.TheVariants as parts
-use Rattle.rect_codec.specs.Parts.{Draws, PartLiesWithin}
+use Rattle.rect_codec.specs.Parts.{Draws, DrawsCopy, PartLiesWithin}
 use Rattle.rect_codec.specs.Update.{Drawn, HasColors, painted, all_painted}
 use Rattle.painter.specs.Framebuffer.{Framebuffer, color_at}
 use Rattle.place_sets.specs.Places.{is_in_some}
 use Rattle.place_sets.proofs.Sent.{IsInside}
-use Rattle.viewer_session.specs.View.{AreConverted, is_covered}
-use Rattle.viewer_session.specs.Encoded.{IsScreenPart}
+use Rattle.viewer_session.specs.declared.copies.KeptCopy.{KeptCopy}
+use Rattle.viewer_session.specs.Copies.{IsCopyWithin, ShowsSource, is_copied}
+use Rattle.viewer_session.specs.View.{AreConverted, AreDrawn, is_covered}
+use Rattle.viewer_session.specs.Encoded.{IsScreenPart, copy_parts}
 use Rattle.viewer_session.proofs.Views.{neither}
 
 -- what is painted shows the screen in an area, and is elsewhere as it was
@@ -111,6 +113,66 @@ shown f screen (a ∷ areas) (d ∷ drawn) are before x y on = elim (cases_Bool 
   | inr last ↦ elsewhere f screen areas drawn are.1 (painted f d before) x y last ∙ (are.0.shows before).here x y (here_alone (is_in a x y) (is_in_some areas x y) on last)
 ]
 
+-- ---- behind a copy
+
+-- a rectangle that copies, if there is a copy, and one for each area
+abbrev pub AreShown : Format → Framebuffer → Option KeptCopy → List Area → List Drawn → Type 0
+AreShown f screen None areas drawn = AllZip (IsShown f screen) areas drawn
+AreShown f screen (Some c) areas [] = ⊥
+AreShown f screen (Some c) areas (d ∷ drawn) = DrawsCopy f c.area c.source_x c.source_y d × AllZip (IsShown f screen) areas drawn
+
+pub parts_shown : (f : Format) (asked : Encoding) (screen : Framebuffer) (copy : Option KeptCopy) (areas : List Area) (list : List Part) (drawn : List Drawn)
+    → AllZip (IsScreenPart f asked screen) areas list → AllZip (Draws f) (copy_parts copy ++ list) drawn → AreShown f screen copy areas drawn
+parts_shown f asked screen None areas list drawn are draw = all_shown f asked screen areas list drawn are draw
+parts_shown f asked screen (Some c) areas list [] are draw = absurd draw
+parts_shown f asked screen (Some c) areas list (d ∷ drawn) are draw = (draw.0, all_shown f asked screen areas list drawn are draw.1)
+
+pub all_covered : (f : Format) (screen : Framebuffer) (copy : Option KeptCopy) (areas : List Area) (drawn : List Drawn) → AreShown f screen copy areas drawn
+    → (x y : ℕ) → is_covered drawn x y ≡ (is_copied copy x y || is_in_some areas x y)
+all_covered f screen None areas drawn are x y = covered_is f screen areas drawn are x y
+all_covered f screen (Some c) areas [] are x y = absurd are
+all_covered f screen (Some c) areas (d ∷ drawn) are x y =
+    ap (λ (a : Area). is_in a x y || is_covered drawn x y) are.0.area_is ∙ ap (λ (b : Bool). is_in c.area x y || b) (covered_is f screen areas drawn are.1 x y)
+
+pub all_drawn : (f : Format) (screen : Framebuffer) (copy : Option KeptCopy) (areas : List Area) (drawn : List Drawn) → AreShown f screen copy areas drawn → AreDrawn f copy areas drawn
+all_drawn f screen None areas drawn are = areas_are f screen areas drawn are
+all_drawn f screen (Some c) areas [] are = absurd are
+all_drawn f screen (Some c) areas (d ∷ drawn) are = (are.0, areas_are f screen areas drawn are.1)
+
+pub all_elsewhere : (f : Format) (screen : Framebuffer) (copy : Option KeptCopy) (areas : List Area) (drawn : List Drawn) → AreShown f screen copy areas drawn → (before : Picture) (x y : ℕ)
+    → is_copied copy x y ≡ false → is_in_some areas x y ≡ false → all_painted f drawn before x y ≡ before x y
+all_elsewhere f screen None areas drawn are before x y uncopied off = elsewhere f screen areas drawn are before x y off
+all_elsewhere f screen (Some c) areas [] are before x y uncopied off = absurd are
+all_elsewhere f screen (Some c) areas (d ∷ drawn) are before x y uncopied off =
+    elsewhere f screen areas drawn are.1 (painted f d before) x y off ∙ (are.0.paints before).elsewhere x y uncopied
+
+pub all_here : (f : Format) (screen : Framebuffer) (copy : Option KeptCopy) (areas : List Area) (drawn : List Drawn) → AreShown f screen copy areas drawn → (before : Picture) (x y : ℕ)
+    → is_in_some areas x y ≡ true → all_painted f drawn before x y ≡ converted f (color_at screen x y)
+all_here f screen None areas drawn are before x y on = shown f screen areas drawn are before x y on
+all_here f screen (Some c) areas [] are before x y on = absurd are
+all_here f screen (Some c) areas (d ∷ drawn) are before x y on = shown f screen areas drawn are.1 (painted f d before) x y on
+
+-- a place that is copied, and isn't sent again
+pub all_copied : (f : Format) (screen : Framebuffer) (copy : Option KeptCopy) (areas : List Area) (drawn : List Drawn) → AreShown f screen copy areas drawn → (before : Picture) (x y : ℕ)
+    → IfSome copy (ShowsSource f screen before) → is_copied copy x y ≡ true → is_in_some areas x y ≡ false → all_painted f drawn before x y ≡ converted f (color_at screen x y)
+all_copied f screen None areas drawn are before x y shows on off = absurd (cc)
+all_copied f screen (Some c) areas [] are before x y shows on off = absurd are
+all_copied f screen (Some c) areas (d ∷ drawn) are before x y shows on off =
+    let place = in_is c.area x y on in
+    let l = place.left in
+    let r = place.right in
+    let t = place.top in
+    let u = place.bottom in
+    let column : c.area.x + (x - c.area.x) ≡ x = omega arith in
+    let row : c.area.y + (y - c.area.y) ≡ y = omega arith in
+    elsewhere f screen areas drawn are.1 (painted f d before) x y off
+    ∙ ap (λ (n : ℕ). painted f d before n y) (sym column) ∙ ap (λ (n : ℕ). painted f d before (c.area.x + (x - c.area.x)) n) (sym row)
+    ∙ (are.0.paints before).here (x - c.area.x) (y - c.area.y) (omega arith) (omega arith)
+    ∙ shows (x - c.area.x) (y - c.area.y) (omega arith) (omega arith)
+    ∙ ap (λ (n : ℕ). converted f (color_at screen n (c.area.y + (y - c.area.y)))) column ∙ ap (λ (n : ℕ). converted f (color_at screen x n)) row
+
+-- ---- on a screen
+
 -- parts of areas within a screen lie within it
 part_within : (width height : ℕ) (f : Format) (asked : Encoding) (screen : Framebuffer) (area : Area) (part : Part) → LiesWithin width height area → IsScreenPart f asked screen area part → PartLiesWithin width height part
 part_within width height f asked screen area (parts.Copy to x y) within is = absurd is
@@ -123,3 +185,9 @@ parts_within width height f asked screen outer [] (p ∷ list) within are = absu
 parts_within width height f asked screen outer (a ∷ areas) [] within are = absurd are
 parts_within width height f asked screen outer (a ∷ areas) (p ∷ list) within are =
     All-cons (PartLiesWithin width height) p list (part_within width height f asked screen a p within.0.within are.0) (parts_within width height f asked screen outer areas list within.1 are.1)
+
+pub parts_inside : (width height : ℕ) (f : Format) (asked : Encoding) (screen : Framebuffer) (copy : Option KeptCopy) (outer : Area) (areas : List Area) (list : List Part)
+    → IfSome copy (IsCopyWithin width height) → AllByRecursion (IsInside width height outer) areas → AllZip (IsScreenPart f asked screen) areas list → All (PartLiesWithin width height) (copy_parts copy ++ list)
+parts_inside width height f asked screen None outer areas list copied within are = parts_within width height f asked screen outer areas list within are
+parts_inside width height f asked screen (Some c) outer areas list copied within are =
+    All-cons (PartLiesWithin width height) (parts.Copy c.area c.source_x c.source_y) list (copied.area.within, copied.source) (parts_within width height f asked screen outer areas list within are)

@@ -1,8 +1,10 @@
 pub use Rattle.terms.specs.Reading
 pub use Rattle.terms.specs.Talk
+pub mod Copies
 pub mod View
 pub mod Encoded
 pub mod Parts
+pub mod Sent
 pub mod Fault
 pub mod Handshake
 pub mod Stage

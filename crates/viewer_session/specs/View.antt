@@ -1,6 +1,7 @@
 -- What a viewer has of a recording's screen, and what it lacks.
-use Rattle.std.specs.Prelude.{◌≡◌, ℕ, ℤ, ◌⊎◌, nat_lt, ◌+◌, ◌*◌, ◌<◌, ◌^◌, All, Bool, true, false, not, ◌&&◌, ◌||◌, List, [], ◌∷◌, length, map, Option, Some, None, IfSome}
-use Rattle.std.specs.List.{AllByRecursion}
+use Rattle.std.specs.Prelude.{◌≡◌, ℕ, ℤ, pos, ◌⊎◌, nat_lt, ◌+◌, ◌*◌, ◌<◌, ◌^◌, All, Bool, true, false, not, ◌&&◌, ◌||◌, List, [], ◌∷◌, length, map, slice_range, Option, Some, None, IfSome, MatchOption}
+use Rattle.std.specs.List.{AllByRecursion, list_any}
+use Rattle.std.specs.Ordering.{int_eq}
 use Rattle.pixel_format.specs.Format.{Format}
 use Rattle.pixel_format.specs.Pixel.{converted, IsWithin}
 use Rattle.pixel_format.specs.declared.Color.{Color}
@@ -9,20 +10,25 @@ use Rattle.pixel_format.specs.Canvas.{Picture, rows_of}
 use Rattle.terms.specs.declared.area.Area.{Area}
 use Rattle.client_wire.specs.declared.message.ClientMessage.{ClientMessage}
 use Rattle.client_wire.specs.declared.message.ClientMessage.TheVariants as messages
-use Rattle.rect_data.specs.Data.{LiesWithin}
 use Rattle.rect_data.specs.declared.encoding.Encoding.TheVariants as encodings
 use Rattle.rect_codec.specs.Encoding.{StandsFirst, IsOther}
 use Rattle.terms.specs.Area.{is_in, IsSmallestOf}
+use Rattle.rect_data.specs.Grammar.{source_of}
+use Rattle.rect_codec.specs.Parts.{DrawsCopy}
 use Rattle.rect_codec.specs.Update.{Drawn, update_at, all_painted}
 use Rattle.rfb_wire.specs.declared.message.Rectangle.{Rectangle}
-use Rattle.painter.specs.Framebuffer.{Framebuffer, color_at}
+use Rattle.painter.specs.Framebuffer.{Framebuffer, Has, SameSize, color_at}
+use Rattle.painter.specs.Picture.{painted_rectangle}
 use Rattle.gated_journal.specs.Recording.{Head}
 use Rattle.keyed_entries.specs.declared.entry.Stamped.{Stamped}
 use Rattle.keyed_entries.specs.Entry.{IsStampedFor}
 use Rattle.replay.specs.Screens.{IsScreenAt}
 use Rattle.replay.specs.declared.slice.Slice.{Slice}
-use Rattle.place_sets.specs.Places.{holds, AreSent}
+use Rattle.place_sets.specs.Places.{PlaceSet, holds, AreJust, HasNone, AreSent}
+use Rattle.place_sets.specs.Places as sets
+use Rattle.viewer_session.specs.declared.copies.KeptCopy.{KeptCopy}
 use Rattle.viewer_session.specs.declared.view.View.{View}
+use Rattle.viewer_session.specs.Copies.{source, IsPart, IsCopyWithin, ShowsSource, is_copied, copy_asked}
 
 -- The place is stale: the viewer may not show its colour.
 abbrev pub stale_at : View → ℕ → ℕ → Bool
@@ -34,23 +40,26 @@ AreStale v p = (x y : ℕ) → x < v.screen.width → y < v.screen.height → st
 
 -- The right view, of a viewer's picture and a list of messages: the session's screen is what the
 -- messages before its position paint, and the viewer has the screen's colour, in its own format, at
--- each place that isn't stale.
+-- each place that isn't stale. Where a copy is kept, the viewer has at the places that are copied
+-- what the screen has, in that format, at those that they are copied to.
 pub record IsRight (head : Head) (v : View) (seen : Picture) (messages : List Stamped) : Type 0 where
   pub shows : IsScreenAt head messages v.position v.screen
   pub converts : (x y : ℕ) → x < v.screen.width → y < v.screen.height → stale_at v x y ≡ false
       → seen x y ≡ converted v.format (color_at v.screen x y)
+  pub copied : IfSome v.copy (ShowsSource v.format v.screen seen)
 
--- a part of a screen of this size, of some places
-pub record IsPart (width height : ℕ) (area : Area) : Type 0 where
-  pub within : LiesWithin width height area
-  pub across : 0 < area.w
-  pub down : 0 < area.h
+-- a copy that is kept lies on the screen, and is to stale places
+pub record IsKept (v : View) (c : KeptCopy) : Type 0 where
+  pub within : IsCopyWithin v.screen.width v.screen.height c
+  pub stale : (x y : ℕ) → is_in c.area x y ≡ true → stale_at v x y ≡ true
 
--- what always holds of a view: its sizes agree, and the pending area is a part of the screen
+-- what always holds of a view: its sizes agree, and the pending area and a kept copy are parts of the
+-- screen
 pub record IsSound (v : View) : Type 0 where
   pub width : v.stale.width ≡ v.screen.width
   pub height : v.stale.height ≡ v.screen.height
   pub pending : IfSome v.pending (IsPart v.screen.width v.screen.height)
+  pub copy : IfSome v.copy (IsKept v)
 
 -- ---- what comes of the recording
 
@@ -79,6 +88,80 @@ pub record IsNext (v : View) (slice : Slice) : Type 0 where
   pub joined : slice.start ≡ None → slice.first ≡ v.position
   pub counted : slice.first + length slice.messages.items < 2 ^ 64
 
+-- the copy that a rectangle makes, whose data these are: it is of some places
+pub record IsCopyBy (r : Rectangle) (bytes : List ℕ) (c : KeptCopy) : Type 0 where
+  pub encoding : r.encoding ≡ encodings.CopyRect
+  pub area : c.area ≡ r.area
+  pub source_is : source c ≡ source_of r.area bytes
+  pub across : 0 < r.area.w
+  pub down : 0 < r.area.h
+
+-- A viewer that takes copies, and hasn't asked for what it may have already, may be sent it in place
+-- of what the rectangle paints: no place that is copied is stale before.
+pub record CanBeKept (v : View) (r : Rectangle) (bytes : List ℕ) (c : KeptCopy) : Type 0 where
+  pub is : IsCopyBy r bytes c
+  pub takes : v.takes_copies ≡ true
+  pub asked : v.asked_whole ≡ false
+  pub clean : HasNone v.stale (source c)
+
+-- the areas have a place in common
+pub record Meet (one other : Area) : Type 0 where
+  pub x : ℕ
+  pub y : ℕ
+  pub in_one : is_in one x y ≡ true
+  pub in_other : is_in other x y ≡ true
+
+-- The copy that was kept is kept on: the rectangle meets none of the places that it goes to.
+pub record KeepsOn (old : Option KeptCopy) (area : Area) (new : Option KeptCopy) : Type 0 where
+  pub copy : KeptCopy
+  pub old_is : old ≡ Some copy
+  pub apart : Meet area copy.area → ⊥
+  pub new_is : new ≡ Some copy
+
+-- None was, or it is dropped. The rectangle's own is kept, if it can be.
+pub record KeepsOwn (v : View) (r : Rectangle) (bytes : List ℕ) (new : Option KeptCopy) : Type 0 where
+  pub dropped : IfSome v.copy (λ c. Meet r.area c.area)
+  pub own : MatchOption new ((c : KeptCopy) → CanBeKept v r bytes c → ⊥) (CanBeKept v r bytes)
+
+-- which copy a view keeps once it paints a rectangle, whose data these are
+abbrev pub IsKeptAfter : View → Rectangle → List ℕ → Option KeptCopy → Type 0
+IsKeptAfter v r bytes new = KeepsOn v.copy r.area new ⊎ KeepsOwn v r bytes new
+
+-- A view paints a rectangle of a message's bytes, and its places are stale.
+pub record IsPainted (old new : View) (bytes : List ℕ) (r : Rectangle) : Type 0 where
+  pub size : SameSize old.screen new.screen
+  pub painted : Has new.screen (painted_rectangle bytes r (color_at old.screen))
+  pub stale_size : sets.SameSize old.stale new.stale
+  pub stale : AreStale new (λ x y. is_in r.area x y || stale_at old x y)
+  pub copy : IsKeptAfter old r (slice_range bytes r.start r.end) new.copy
+  pub kept : new ≡ record old { screen = new.screen; stale = new.stale; copy = new.copy }
+
+-- rectangles, one behind another
+abbrev pub ArePainted : List ℕ → View → View → List Rectangle → Type 0
+ArePainted bytes old new [] = new ≡ old
+ArePainted bytes old new (r ∷ rs) = (v : View) × IsPainted old v bytes r × ArePainted bytes v new rs
+
+-- and messages
+abbrev pub AreAllPainted : View → View → List Stamped → Type 0
+AreAllPainted old new [] = new ≡ old
+AreAllPainted old new (m ∷ ms) = (v : View) × ArePainted m.message.bytes old v m.message.rectangles × AreAllPainted v new ms
+
+-- A view begins at a slice's start, with no copy and all places stale; or goes on from its own screen.
+-- It is then to stand at this position.
+pub record Starts (old new : View) (start : Framebuffer) (end : ℕ) : Type 0 where
+  pub stale : AreStale new (λ x y. true)
+  pub kept : new ≡ record old { screen = start; stale = new.stale; started = true; copy = None; position = end }
+
+abbrev pub Begins : View → View → Option Framebuffer → ℕ → Type 0
+Begins old new None end = new ≡ record old { position = end }
+Begins old new (Some start) end = Starts old new start end
+
+-- A view goes on by a slice, and paints its messages.
+pub record GoesOn (old new : View) (slice : Slice) : Type 0 where
+  pub begun : View
+  pub begins : Begins old begun slice.start (slice.first + length slice.messages.items)
+  pub paints : AreAllPainted begun new slice.messages.items
+
 -- ---- what is answered
 
 -- the place is asked for
@@ -96,21 +179,45 @@ pub record IsWidened (left : ℕ → ℕ → Bool) (old new : Option Area) : Typ
   pub some : (x y : ℕ) → left x y ≡ true → IsSmallestOf (λ a b. is_pending old a b || left a b) new
   pub none : ((x y : ℕ) → left x y ≡ true → ⊥) → new ≡ old
 
--- A request is taken: without the flag incremental its places are stale.
+-- Some place passes the test of what the viewer asks for whole: the kept copy is dropped.
+pub record AsksWhole (whole : ℕ → ℕ → Bool) (new : View) : Type 0 where
+  pub x : ℕ
+  pub y : ℕ
+  pub passes : whole x y ≡ true
+  pub copy : new.copy ≡ None
+  pub asked_whole : new.asked_whole ≡ true
+
+-- or none does
+pub record AsksChanges (whole : ℕ → ℕ → Bool) (old new : View) : Type 0 where
+  pub none : (x y : ℕ) → whole x y ≡ true → ⊥
+  pub copy : new.copy ≡ old.copy
+  pub asked_whole : new.asked_whole ≡ old.asked_whole
+
+abbrev pub Asks : (ℕ → ℕ → Bool) → View → View → Type 0
+Asks whole old new = AsksWhole whole new ⊎ AsksChanges whole old new
+
+-- A request is taken: without the flag incremental its places are stale, and the area that is asked
+-- for is asked for whole.
 pub record IsAsked (old new : View) (incremental : Bool) (area : Area) : Type 0 where
   pub stale : AreStale new (λ x y. (not incremental && is_left old.screen.width old.screen.height area x y) || stale_at old x y)
   pub pending : IsWidened (is_left old.screen.width old.screen.height area) old.pending new.pending
-  pub kept : new ≡ record old { stale = new.stale; pending = new.pending }
+  pub whole : Asks (λ x y. not incremental && is_left old.screen.width old.screen.height area x y) old new
+  pub kept : new ≡ record old { stale = new.stale; pending = new.pending; asked_whole = new.asked_whole; copy = new.copy }
 
--- A format is taken: all places are stale.
+-- A format is taken: all places are stale, and no copy is kept.
 pub record IsReformatted (old new : View) (f : Format) : Type 0 where
   pub stale : AreStale new (λ x y. true)
-  pub kept : new ≡ record old { format = f; stale = new.stale }
+  pub kept : new ≡ record old { format = f; stale = new.stale; copy = None }
 
--- Encodings are taken: updates are in the first that is known, and in Raw where none is.
+-- the list has CopyRect's number
+abbrev pub takes_copies : List ℤ → Bool
+takes_copies numbers = list_any (λ n. int_eq n (pos 1)) numbers
+
+-- Encodings are taken: updates are in the first that is known, and in Raw where none is; copies are
+-- sent where CopyRect is among them. No copy is kept.
 pub record IsReencoded (old new : View) (numbers : List ℤ) : Type 0 where
   pub given : StandsFirst numbers new.encoding ⊎ (All IsOther numbers × (new.encoding ≡ encodings.Raw))
-  pub kept : new ≡ record old { encoding = new.encoding }
+  pub kept : new ≡ record old { encoding = new.encoding; takes_copies = takes_copies numbers; copy = None }
 
 -- what a message of the viewer changes
 abbrev pub IsTaken : View → View → ClientMessage → Type 0
@@ -132,14 +239,25 @@ pub record IsDue (v : View) : Type 0 where
   pub asked : is_pending v.pending x y ≡ true
   pub stale : stale_at v x y ≡ true
 
--- An update is due, and these are the areas by which the stale places are sent that are asked for: of
--- each tile that has some the smallest that holds those, or one for all where there would be too
--- many.
+-- the copy with which an update begins: the kept one, where all places that it goes to are asked for
+abbrev pub copy_due : View → Option KeptCopy
+copy_due v = copy_asked v.copy v.pending
+
+-- a set without the places that a copy goes to
+pub record IsWithout (copy : Option KeptCopy) (old new : PlaceSet) : Type 0 where
+  pub size : sets.SameSize old new
+  pub just : AreJust new (λ x y. holds old x y && not (is_copied copy x y))
+
+-- An update is due, and these are the areas by which the stale places are sent that are asked for,
+-- but for those of a copy that is sent before: of each tile that has some the smallest that holds
+-- those, or one for all where there would be too many.
 pub record AreDueIn (v : View) (areas : List Area) : Type 0 where
   pub due : IsDue v
   pub pending : Area
   pub pending_is : v.pending ≡ Some pending
-  pub sent : AreSent v.stale pending areas
+  pub left : PlaceSet
+  pub left_is : IsWithout (copy_due v) v.stale left
+  pub sent : AreSent left pending areas
 
 -- the colours of an area of a screen, by rows, in a format
 pub record AreConverted (f : Format) (screen : Framebuffer) (area : Area) (colors : List Color) : Type 0 where
@@ -168,10 +286,18 @@ pub record Answers (old new : View) (update : List ℕ) : Type 0 where
       → (x y : ℕ) → is_pending old.pending x y ≡ true
       → all_painted old.format drawn seen x y ≡ converted old.format (color_at old.screen x y)
   -- nothing is asked for any more, and all else is as it was
-  pub kept : new ≡ record old { stale = new.stale; pending = None }
+  pub kept : new ≡ record old { stale = new.stale; pending = None; asked_whole = false; copy = None }
 
--- the update has a rectangle for each area in which it is due, in their order
+-- a rectangle that copies, if there is a copy, and one for each area, in their order
+abbrev pub AreDrawn : Format → Option KeptCopy → List Area → List Drawn → Type 0
+AreDrawn f None areas drawn = map (λ d. d.area) drawn ≡ areas
+AreDrawn f (Some c) areas [] = ⊥
+AreDrawn f (Some c) areas (d ∷ drawn) = DrawsCopy f c.area c.source_x c.source_y d × (map (λ d. d.area) drawn ≡ areas)
+
+-- the update begins with the copy that is due, and has a rectangle for each area that is
 pub record HasAreasDue (old : View) (update : List ℕ) : Type 0 where
   pub drawn : List Drawn
   pub reads : update_at old.format old.screen.width old.screen.height update ≡ Got drawn []
-  pub are : AreDueIn old (map (λ d. d.area) drawn)
+  pub areas : List Area
+  pub due : AreDueIn old areas
+  pub are : AreDrawn old.format (copy_due old) areas drawn

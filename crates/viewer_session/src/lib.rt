@@ -2,10 +2,12 @@
 //! updates that answer what it asks for (RFC 6143).
 #![tactic(auto)]
 
+mod copies;
 mod fault;
 mod greeting;
 mod handshake;
 mod laws;
+mod painting;
 mod progress;
 mod session;
 mod update;

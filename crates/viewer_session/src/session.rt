@@ -9,7 +9,7 @@ ghost use Rattle.keyed_entries.specs.declared.entry.Stamped.{Stamped};
 ghost use Rattle.replay.specs.Slices.{Stands};
 ghost use Rattle.client_wire.specs.declared.message.ClientMessage.{ClientMessage};
 ghost use Rattle.viewer_session.specs.Encoded.{IsEncodedFor};
-ghost use Rattle.viewer_session.specs.View.{IsRight, IsNext, AreStale, stale_at, is_stale_after, is_there, IsDue, Answers, HasAreasDue};
+ghost use Rattle.viewer_session.specs.View.{IsRight, IsNext, AreStale, stale_at, is_stale_after, is_there, GoesOn, IsDue, Answers, HasAreasDue};
 ghost use Rattle.viewer_session.specs.Session.{IsAfter, closed_by};
 ghost use Rattle.viewer_session.specs.Feeding.{Takes, StopsIn, KeepsView};
 
@@ -75,6 +75,8 @@ impl Session {
         ensures position { IfOk result (λ s. s.view.position ≡ 0) }
         ensures started { IfOk result (λ s. s.view.started ≡ false) }
         ensures pending { IfOk result (λ s. s.view.pending ≡ None) }
+        ensures copies { IfOk result (λ s. (s.view.copy ≡ None) × (s.view.takes_copies ≡ false)
+            × (s.view.asked_whole ≡ false)) }
         ensures right { IfOk result (λ s. (head : Head) → head.width ≡ width
             → head.height ≡ height → (seen : Picture) → (messages : List Stamped)
             → IsRight head s.view seen messages) }
@@ -168,6 +170,7 @@ impl Session {
         ensures asked { (self.new.view.format ≡ self.old.view.format)
             × (self.new.view.encoding ≡ self.old.view.encoding)
             × (self.new.view.pending ≡ self.old.view.pending) }
+        ensures goes_on { GoesOn self.old.view self.new.view slice.now }
         ensures kept { self.new ≡ record self.old { view = self.new.view } }
     {
         self.view.advance(slice);
@@ -181,10 +184,11 @@ impl Session {
     }
 
     /// Appends the handshake's answers that are due, each byte once, and then the update that is
-    /// due, whose places are taken as clean: a rectangle for each tile of 16 by 16 with stale places
-    /// that are asked for, or one for all where there would be more than 4,096, each in the encoding
-    /// that the viewer asked for or in Raw. Want of memory changes nothing. After a fault it still
-    /// gives what was due.
+    /// due, whose places are taken as clean: a rectangle that copies, where a copy is kept all of
+    /// whose places are asked for; and one for each tile of 16 by 16 with other stale places that are
+    /// asked for, or one for all where there would be more than 4,096, each in the encoding that the
+    /// viewer asked for or in Raw. Want of memory changes nothing. After a fault it still gives what
+    /// was due.
     pub fn answer(&mut self, out: &mut Vec<u8>) -> Result<(), NoMemory>
         ensures due { OnOk result (IsDue self.old.view
             → Appends (Answers self.old.view self.new.view)

@@ -1,47 +1,63 @@
-//! An update of some areas of a screen.
+//! An update of a copy and of some areas of a screen.
 
-ghost use Rattle.std.specs.Prelude.{◌≡◌, ◌<◌, ◌^◌, All, length, map, IfOk, OnOk, OnErr};
+ghost use Rattle.std.specs.Prelude.{◌≡◌, ◌+◌, ◌<◌, ◌^◌, All, length, IfOk, OnOk, OnErr};
 ghost use Rattle.terms.specs.Appending.{Appends};
 ghost use Rattle.rect_data.specs.Data.{LiesWithin};
 ghost use Rattle.viewer_session.specs.Encoded.{IsUpdateOf};
-ghost use Rattle.viewer_session.specs.Parts.{places_of};
+ghost use Rattle.viewer_session.specs.Parts.{screen_parts};
 
+use crate::copies::KeptCopy;
 use painter::{Screen, ScreenPart};
 use pixel_format::PixelFormat;
 use rect_data::Encoding;
 use std::alloc::Global;
 use terms::{Area, NoMemory};
 
-// The parts of an update that gives the places of these areas their colours.
-fn parts_of(alloc: Global, encoding: Encoding, areas: &[Area]) -> Result<Vec<ScreenPart>, NoMemory>
-    ensures { IfOk result (λ parts. parts.items ≡ map (places_of encoding) areas.now) }
+// The parts of an update of a copy, if there is one, and of these areas behind it.
+fn parts_of(
+    alloc: Global,
+    copy: Option<KeptCopy>,
+    encoding: Encoding,
+    areas: &[Area],
+) -> Result<Vec<ScreenPart>, NoMemory>
+    ensures { IfOk result (λ parts. parts.items ≡ screen_parts copy encoding areas.now) }
 {
-    areas
-        .iter()
-        .map(|area| ScreenPart::Places {
+    let mut parts = Vec::new(alloc);
+    if let Some(copy) = copy {
+        parts.push(ScreenPart::Copy {
+            area: copy.area,
+            source_x: copy.source_x,
+            source_y: copy.source_y,
+        })?;
+    }
+    for area in areas {
+        parts.push(ScreenPart::Places {
             area: *area,
             encoding,
-        })
-        .collect(alloc)
+        })?;
+    }
+    Ok(parts)
 }
 
-/// Appends an update of these areas of a screen, in their order, for one who takes this format and
-/// asked for this encoding. Want of memory leaves `out` as it was.
+/// Appends an update of a copy, if there is one, and of these areas of a screen behind it, in their
+/// order, for one who takes this format and asked for this encoding. Want of memory leaves `out` as
+/// it was.
 pub fn write_areas(
     alloc: Global,
     format: &PixelFormat,
     encoding: Encoding,
     screen: &Screen,
+    copy: Option<KeptCopy>,
     areas: &[Area],
     out: &mut Vec<u8>,
 ) -> Result<(), NoMemory>
-    requires few { length areas.now < 2 ^ 16 }
+    requires few { length areas.now + 1 < 2 ^ 16 }
     requires within { All (LiesWithin screen.now.width screen.now.height) areas.now }
-    ensures ok { OnOk result (Appends (IsUpdateOf format.now encoding screen.now areas.now)
+    ensures ok { OnOk result (Appends (IsUpdateOf format.now encoding screen.now copy areas.now)
         out.old.items out.new.items) }
     ensures err { OnErr result (out.new.items ≡ out.old.items) }
 {
     screen.known_colors();
-    let parts = parts_of(alloc, encoding, areas)?;
+    let parts = parts_of(alloc, copy, encoding, areas)?;
     screen.append_update(alloc, format, &parts, out)
 }

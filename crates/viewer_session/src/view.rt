@@ -1,33 +1,34 @@
 //! What a viewer has of a recording's screen, and what it lacks.
 
-ghost use Rattle.std.specs.Prelude.{◌≡◌, ◌+◌, ◌*◌, ◌<◌, ◌≤◌, ◌++◌, ◌||◌, ◌&&◌, not, ℕ, Bool, true, false, All, List, [], length, Option, None, IfOk, IfSome, OnOk, OnErr};
+ghost use Rattle.std.specs.Prelude.{◌≡◌, ◌+◌, ◌<◌, ◌||◌, ℕ, true, false, List, length, Option, None, IfOk, IfSome, MatchOption, OnOk, OnErr};
 ghost use Rattle.pixel_format.specs.Canvas.{Picture};
 ghost use Rattle.pixel_format.specs.Format.{host_format};
 ghost use Rattle.terms.specs.Appending.{Appends};
 ghost use Rattle.terms.specs.Area.{is_in, IsSmallest};
 ghost use Rattle.rect_data.specs.Data.{LiesWithin};
-ghost use Rattle.rfb_wire.specs.Host.{Host};
-ghost use Rattle.painter.specs.Framebuffer.{color_at, Shows, SameSize as SameScreenSize};
+ghost use Rattle.painter.specs.Framebuffer.{SameSize as SameScreenSize};
 ghost use Rattle.gated_journal.specs.Recording.{Head};
 ghost use Rattle.keyed_entries.specs.declared.entry.Stamped.{Stamped};
-ghost use Rattle.keyed_entries.specs.Entry.{hosts_of};
 ghost use Rattle.replay.specs.Slices.{Stands};
-ghost use Rattle.place_sets.specs.Places.{holds, AreJust, SameSize};
+ghost use Rattle.viewer_session.specs.Copies.{copy_in, IsPart};
 ghost use Rattle.viewer_session.specs.Encoded.{IsEncodedFor};
-ghost use Rattle.viewer_session.specs.View.{IsRight, IsSound, IsNext, AreStale, stale_at, is_stale_after, is_there, is_touched, is_touched_by, is_pending, IsDue, AreDueIn, IsPart, IsAsked, IsTaken, AreTaken, Answers, HasAreasDue};
+ghost use Rattle.viewer_session.specs.Sent.{IsNothing, IsSent};
+ghost use Rattle.viewer_session.specs.View.{IsRight, IsSound, IsNext, AreStale, stale_at, is_stale_after, is_there, is_pending, Begins, GoesOn, IsDue, IsAsked, IsTaken, AreTaken, Answers, HasAreasDue};
 
+use crate::copies::{KeptCopy, lies_in, put_back, take_out};
 use crate::update::write_areas;
 use client_wire::ClientMessage;
-use key_index::Stamped;
 use painter::Screen;
 use pixel_format::PixelFormat;
 use place_sets::Places;
 use rect_codec::{pick, written_parts_are_read};
 use rect_data::Encoding;
 use replay::Slice;
-use rfb_wire::Rectangle;
 use std::alloc::Global;
 use terms::{Area, NoMemory};
+
+// The number of the encoding by which a viewer says that it takes copies (RFC 6143, section 7.7.2).
+const COPY_RECT: i32 = 1;
 
 /// The screen at a position of a recording, what the viewer has of it, and what it asks for.
 #[derive(Drop)]
@@ -45,37 +46,12 @@ pub struct View {
     pub stale: Places,
     /// The area that it asks for, if any.
     pub pending: Option<Area>,
-}
-
-// Makes the places of rectangles stale.
-fn mark_all(stale: &mut Places, rectangles: &[Rectangle])
-    requires { All (λ r. LiesWithin stale.old.width stale.old.height r.area) rectangles.now }
-    ensures size { SameSize stale.old stale.new }
-    ensures just { AreJust stale.new (λ x y. is_touched rectangles.now x y || holds stale.old x y) }
-{
-    for rectangle in rectangles {
-        stale.insert(rectangle.area);
-    }
-}
-
-// Paints messages, and makes the places of their rectangles stale.
-fn paint_all(screen: &mut Screen, stale: &mut Places, messages: &[Stamped])
-    requires widths { All (λ m. m.message.width ≡ screen.old.width) messages.now }
-    requires heights { All (λ m. m.message.height ≡ screen.old.height) messages.now }
-    requires width { stale.old.width ≡ screen.old.width }
-    requires height { stale.old.height ≡ screen.old.height }
-    ensures size { SameScreenSize screen.old screen.new }
-    ensures stale_size { SameSize stale.old stale.new }
-    ensures shows { (before : List Host) → Shows screen.old before
-        → Shows screen.new (before ++ hosts_of messages.now) }
-    ensures touched { AreJust stale.new (λ x y. is_touched_by messages.now x y || holds stale.old x y) }
-    ensures untouched { (x y : ℕ) → x < screen.old.width → y < screen.old.height
-        → is_touched_by messages.now x y ≡ false → color_at screen.new x y ≡ color_at screen.old x y }
-{
-    for stamped in messages {
-        mark_all(stale, stamped.message.rectangles());
-        screen.paint(&stamped.message);
-    }
+    /// Whether some of that is to be sent whatever the viewer has.
+    pub asked_whole: bool,
+    /// Whether the viewer takes rectangles that copy.
+    pub takes_copies: bool,
+    /// The places that it can copy from others, if any.
+    pub copy: Option<KeptCopy>,
 }
 
 // What is pending once a part of the screen was asked for, beside what was.
@@ -101,6 +77,8 @@ impl View {
         ensures position { IfOk result (λ v. v.position ≡ 0) }
         ensures started { IfOk result (λ v. v.started ≡ false) }
         ensures pending { IfOk result (λ v. v.pending ≡ None) }
+        ensures copies { IfOk result (λ v. (v.copy ≡ None) × (v.takes_copies ≡ false)
+            × (v.asked_whole ≡ false)) }
         ensures size { IfOk result (λ v. (v.screen.width ≡ width) × (v.screen.height ≡ height)) }
         ensures right { IfOk result (λ v. (head : Head) → head.width ≡ width → head.height ≡ height
             → (seen : Picture) → (messages : List Stamped) → IsRight head v seen messages) }
@@ -113,7 +91,29 @@ impl View {
             started: false,
             stale: Places::all(alloc, width, height)?,
             pending: None,
+            asked_whole: false,
+            takes_copies: false,
+            copy: None,
         })
+    }
+
+    // Begins on a slice, from its start or from where the screen stands. It is then to stand at the
+    // slice's end.
+    fn begin(&mut self, slice: &Slice)
+        requires sound { IsSound self.old }
+        requires next { IsNext self.old slice.now }
+        ensures sound { IsSound self.new }
+        ensures begins { Begins self.old self.new slice.now.start
+            (slice.now.first + length slice.now.messages.items) }
+        ensures size { SameScreenSize self.old.screen self.new.screen }
+    {
+        if let Some(start) = &slice.start {
+            self.screen.set(start);
+            self.stale.insert_all(); // whatever the viewer shows is of another place
+            self.started = true;
+            self.copy = None; // nor can it be copied from there
+        }
+        self.position = slice.end();
     }
 
     /// Goes on by a slice, from its start or from where the screen stands. It takes no memory.
@@ -131,32 +131,61 @@ impl View {
         ensures size { SameScreenSize self.old.screen self.new.screen }
         ensures asked { (self.new.format ≡ self.old.format) × (self.new.encoding ≡ self.old.encoding)
             × (self.new.pending ≡ self.old.pending) }
+        ensures goes_on { GoesOn self.old self.new slice.now }
     {
-        if let Some(start) = &slice.start {
-            self.screen.set(start);
-            self.stale.insert_all(); // whatever the viewer shows is of another place
-            self.started = true;
-        }
-        paint_all(&mut self.screen, &mut self.stale, &slice.messages);
-        self.position = slice.end();
+        self.begin(slice);
+        self.paint_all(&slice.messages);
     }
 
-    // The areas in which an update is due, and none where none is.
-    fn due(&self, alloc: Global) -> Result<Vec<Area>, NoMemory>
-        requires { IsSound self.now }
-        ensures none { IfOk result (λ areas. areas.items ≡ [] → IsDue self.now → ⊥) }
-        ensures some { IfOk result (λ areas. (areas.items ≡ [] → ⊥) → AreDueIn self.now areas.items) }
+    // The copy with which an update begins, if any: all places that it goes to are asked for.
+    fn copy_due(&self, pending: Area) -> Option<KeptCopy>
+        ensures { result ≡ copy_in self.now.copy pending }
     {
-        match self.pending {
-            Some(pending) if self.started => self.stale.areas(alloc, pending),
-            _ => Ok(Vec::new(alloc)),
+        let copy = self.copy?;
+        if !lies_in(copy.area, pending) {
+            return None;
         }
+        Some(copy)
+    }
+
+    // Appends an update of a copy, if there is one, and of the stale places of an area, and answers
+    // by which areas; nothing where there is neither.
+    fn send(
+        &self,
+        alloc: Global,
+        pending: Area,
+        copy: Option<KeptCopy>,
+        out: &mut Vec<u8>,
+    ) -> Result<Option<Vec<Area>>, NoMemory>
+        requires width { self.now.stale.width ≡ self.now.screen.width }
+        requires height { self.now.stale.height ≡ self.now.screen.height }
+        requires pending { LiesWithin self.now.screen.width self.now.screen.height pending }
+        ensures ok { IfOk result (λ sent. MatchOption sent
+            (IsNothing self.now pending copy out.old.items out.new.items)
+            (λ areas. IsSent self.now pending copy areas.items out.old.items out.new.items)) }
+        ensures err { OnErr result (out.new.items ≡ out.old.items) }
+    {
+        let areas = self.stale.areas(alloc, pending)?;
+        if copy.is_none() && areas.is_empty() {
+            return Ok(None);
+        }
+        write_areas(
+            alloc,
+            &self.format,
+            self.encoding,
+            &self.screen,
+            copy,
+            &areas,
+            out,
+        )?;
+        Ok(Some(areas))
     }
 
     /// Appends the update that is due, and takes its places as clean; nothing where none is due. It
-    /// has a rectangle for each tile of 16 by 16 with stale places that are asked for, the smallest
-    /// that holds those; or one for all, where there would be more than 4,096. Want of memory changes
-    /// nothing.
+    /// begins with the kept copy, where all places that this goes to are asked for. It has a
+    /// rectangle for each tile of 16 by 16 with stale places that are asked for, beside those of the
+    /// copy, the smallest that holds those; or one for all, where there would be more than 4,096.
+    /// Want of memory changes nothing.
     pub fn answer(&mut self, alloc: Global, out: &mut Vec<u8>) -> Result<(), NoMemory>
         requires sound { IsSound self.old }
         ensures sound { IsSound self.new }
@@ -172,22 +201,31 @@ impl View {
         ensures screen { self.new.screen ≡ self.old.screen }
         ensures position { self.new.position ≡ self.old.position }
     {
-        let areas = self.due(alloc)?;
-        if areas.is_empty() {
+        let Some(pending) = self.pending else {
+            return Ok(());
+        };
+        if !self.started {
             return Ok(());
         }
-        write_areas(
-            alloc,
-            &self.format,
-            self.encoding,
-            &self.screen,
-            &areas,
-            out,
-        )?;
-        written_parts_are_read();
-        self.stale.remove_all(&areas);
-        self.pending = None;
-        Ok(())
+        let copy = self.copy_due(pending);
+        self.stale.known();
+        take_out(&mut self.stale, copy);
+        match self.send(alloc, pending, copy, out) {
+            Ok(Some(areas)) => {
+                written_parts_are_read();
+                self.stale.remove_all(&areas);
+                self.pending = None;
+                self.asked_whole = false;
+                self.copy = None; // what is copied may be among the places that were sent
+                Ok(())
+            }
+            Ok(None) => Ok(()),
+            Err(refusal) => {
+                put_back(&mut self.stale, copy);
+                self.stale.known();
+                Err(refusal)
+            }
+        }
     }
 
     // Takes a request for an area.
@@ -202,6 +240,8 @@ impl View {
         };
         if !incremental {
             self.stale.insert(area);
+            self.asked_whole = true;
+            self.copy = None; // the viewer may have lost what it shows
         }
         self.pending = Some(widened(self.pending, area, width, height));
     }
@@ -221,9 +261,12 @@ impl View {
             ClientMessage::SetPixelFormat(format) => {
                 self.format = format;
                 self.stale.insert_all();
+                self.copy = None; // what the viewer shows is in the old format
             }
             ClientMessage::SetEncodings(encodings) => {
                 self.encoding = pick(encodings.as_slice());
+                self.takes_copies = encodings.as_slice().contains(&COPY_RECT);
+                self.copy = None;
             }
             ClientMessage::Request {
                 incremental,

@@ -1,0 +1,7 @@
+use Rattle.viewer_session.proofs.Answered.{sent_within}
+use Rattle.viewer_session.proofs.view.View.send.Goals as goal
+
+pub write_areas-requires-clause-within : goal.write_areas-requires-clause-within
+write_areas-requires-clause-within c =
+    let v = c.args.self.now in
+    rw c.deref.ensures.value (sent_within v.stale v.screen.width v.screen.height c.args.pending c.in_ok-areas.areas.items c.requires.pending c.in_ok-areas.ensures)
