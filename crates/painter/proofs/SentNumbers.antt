@@ -1,15 +1,14 @@
 -- Appending the numbers of an area's pixels.
 use Rattle.std.proofs.Common.{◌≡◌, ℕ, ◌+◌, ◌-◌, ◌<◌, List, [], ◌∷◌, ◌++◌, length, get_or, map, set, cond, inl, inr, refl, sym, ap, subst, ◌∙◌, arith, append_assoc, length-append}
-use Rattle.std.specs.Prelude.{All, Result, Ok, Err, IfOk, OnOk, is_ok}
+use Rattle.std.specs.Prelude.{All, Result, Ok, Err, OnOk, is_ok}
 use Rattle.std.proofs.lemmas.Bool.{cases_lt, cases_eq}
 use Rattle.std.proofs.lemmas.List.{append-nil, get_or-map, length-map, map-append, get_or-append-add, get_or-set_same, get_or-set_other, get_or_default, ext_get_or}
-use Rattle.std.proofs.lemmas.List.Elements.{All-map, All-weaker}
 use Rattle.std.proofs.Math.ListN.{get_or-append}
 use Rattle.pixel_format.specs.declared.Color.{Color}
 use Rattle.pixel_format.specs.Format.{Format}
 use Rattle.pixel_format.specs.Canvas.{black, nth}
 use Rattle.pixel_format.specs.Number.{number_color, IsNumber}
-use Rattle.pixel_format.specs.Pixel.{converted, IsWithin}
+use Rattle.pixel_format.specs.Pixel.{converted}
 use Rattle.terms.specs.Appending.{Appends}
 use Rattle.painter.specs.declared.pixel.Pixel.{Pixel}
 use Rattle.painter.specs.Pixels.{color_of}
@@ -87,13 +86,3 @@ left_ends f row (p ∷ rest) old new none left = absurd (omega arith)
 pub ok_appended : {T E : Type 0} (r : Result T E) (P : List ℕ → Type 0) (old new more : List ℕ) → new ≡ cond (is_ok r) (old ++ more) old → P more → OnOk r (Appends P old new)
 ok_appended (Ok x) P old new more is has = record { bytes = more; is = is; are = has }
 ok_appended (Err e) P old new more is has = tt
-
--- the colours of numbers of pixels are within the format
-colors_within : (f : Format) (numbers : List ℕ) → All (IsNumber f) numbers → All (IsWithin f) (map (number_color f) numbers)
-colors_within f numbers each =
-    All-map (IsWithin f) (number_color f) numbers (All-weaker (IsNumber f) (λ n. IsWithin f (number_color f n)) (λ n is. is.within) numbers each)
-
-pub taken_within : {T E : Type 0} (f : Format) (numbers : List ℕ) (items : T → List Color) (r : Result T E) → IfOk r (λ c. items c ≡ map (number_color f) numbers)
-    → All (IsNumber f) numbers → IfOk r (λ c. All (IsWithin f) (items c))
-taken_within f numbers items (Ok c) are each = subst (All (IsWithin f)) (sym are) (colors_within f numbers each)
-taken_within f numbers items (Err e) are each = tt

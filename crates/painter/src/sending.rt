@@ -3,7 +3,8 @@
 ghost use Rattle.std.specs.Prelude.{◌≡◌, ◌+◌, ◌*◌, ◌<◌, ◌≤◌, ℕ, OnOk, length};
 ghost use Rattle.pixel_format.specs.Canvas.{nth};
 ghost use Rattle.pixel_format.specs.Format.{host_format, pixel_bytes};
-ghost use Rattle.pixel_format.specs.Pixel.{AreSmall};
+ghost use Rattle.pixel_format.specs.Number.{number_color, IsNumber};
+ghost use Rattle.pixel_format.specs.Pixel.{AreSmall, IsWithin};
 ghost use Rattle.terms.specs.Appending.{Appends, Grows};
 ghost use Rattle.rect_codec.specs.Picture.{pixel_at as wire_pixel};
 ghost use Rattle.rect_codec.specs.Written.{IsPixelOf, ArePixels};
@@ -11,7 +12,7 @@ ghost use Rattle.painter.specs.Sent.{seen_colors, seen_area};
 
 use crate::pixel::Pixel;
 use crate::row::color_of_pixel;
-use pixel_format::PixelFormat;
+use pixel_format::{Color, PixelFormat};
 use terms::{Area, NoMemory};
 
 // How many pixels are appended at once.
@@ -29,6 +30,21 @@ fn put_host(row: &[Pixel], bytes: &mut [u8])
     }
 }
 
+// The number of the pixel of a place's colour, of so many bytes, which the compiler knows: in 16 bits
+// where they hold it.
+#[inline(always)]
+fn small_number(format: &PixelFormat, size: usize, color: Color) -> u32
+    requires size { size ≡ pixel_bytes format.now }
+    requires within { IsWithin format.now color }
+    ensures color { number_color format.now result ≡ color }
+    ensures number { IsNumber format.now result }
+{
+    if size > 2 {
+        return format.number_of(color);
+    }
+    u32::from(format.short_number_of(color))
+}
+
 // The same in a format that has no channel of more than 255, of so many bytes a pixel.
 #[inline(always)]
 fn put_small(format: &PixelFormat, size: usize, row: &[Pixel], bytes: &mut [u8])
@@ -39,7 +55,7 @@ fn put_small(format: &PixelFormat, size: usize, row: &[Pixel], bytes: &mut [u8])
 {
     for (k, place) in row.iter().enumerate() {
         let start = k * size;
-        let number = format.number_of(format.convert_small(color_of_pixel(*place)));
+        let number = small_number(format, size, format.convert_small(color_of_pixel(*place)));
         format.write_number(number, &mut bytes[start..start + size]);
     }
 }

@@ -1,16 +1,14 @@
 //! Updates of a screen, as a viewer is sent them.
 
-ghost use Rattle.std.specs.Prelude.{◌≡◌, ◌+◌, ◌*◌, ◌<◌, ◌≤◌, ◌^◌, All, IfOk, OnOk, OnErr, length, map, take};
-ghost use Rattle.pixel_format.specs.Number.{number_color};
-ghost use Rattle.pixel_format.specs.Pixel.{IsWithin};
+ghost use Rattle.std.specs.Prelude.{◌≡◌, ◌+◌, ◌<◌, ◌≤◌, ◌^◌, All, IfOk, OnOk, OnErr, length, take, true, false};
 ghost use Rattle.terms.specs.Appending.{Appends};
 ghost use Rattle.rect_codec.specs.Parts.{IsRectangle, IsRectangleFor, IsPart, AreParts};
 ghost use Rattle.painter.specs.Sent.{sent_colors};
 ghost use Rattle.painter.specs.SentUpdate.{part_of, parts_of, CanBeSent};
 
 use crate::screen::Screen;
-use pixel_format::{Color, PixelFormat};
-use rect_codec::{append_colors, append_copy, append_head, append_hextile};
+use pixel_format::PixelFormat;
+use rect_codec::{append_copy, append_head, append_hextile, append_rre};
 use rect_data::Encoding;
 use std::alloc::Global;
 use terms::{Area, NoMemory, whole_or_none};
@@ -33,16 +31,6 @@ pub enum ScreenPart {
     },
 }
 
-// The colours whose pixels have these numbers.
-fn colors_of(alloc: Global, format: &PixelFormat, numbers: &[u32]) -> Result<Vec<Color>, NoMemory>
-    ensures { IfOk result (λ colors. colors.items ≡ map (number_color format.now) numbers.now) }
-{
-    numbers
-        .iter()
-        .map(|number| format.color_of(*number))
-        .collect(alloc)
-}
-
 impl Screen {
     // Appends a Raw rectangle of the places of an area.
     fn append_raw(
@@ -63,43 +51,35 @@ impl Screen {
         whole_or_none(appended, start, out)
     }
 
-    // Appends a Hextile rectangle of the places of an area, or a Raw one where that isn't longer.
-    fn append_hextile_or_raw(
+    // Appends a rectangle of the places of an area in this encoding if it is shorter than one in Raw,
+    // and answers whether it is there: in Raw and CopyRect it never is.
+    fn append_shorter(
         &self,
         alloc: Global,
         format: &PixelFormat,
         area: Area,
+        encoding: Encoding,
         out: &mut Vec<u8>,
-    ) -> Result<(), NoMemory>
+    ) -> Result<bool, NoMemory>
         requires columns { area.x + area.w ≤ self.now.width }
         requires rows { area.y + area.h ≤ self.now.height }
-        ensures ok { OnOk result (Appends (IsRectangleFor format.now area (sent_colors format.now self.now area) Encoding.Hextile) out.old.items out.new.items) }
+        ensures ok { IfOk result (λ whole. whole ≡ true
+            → Appends (IsRectangleFor format.now area (sent_colors format.now self.now area) encoding) out.old.items out.new.items) }
+        ensures unchanged { IfOk result (λ whole. whole ≡ false → out.new.items ≡ out.old.items) }
         ensures err { OnErr result (out.new.items ≡ out.old.items) }
     {
         self.known_colors();
-        let numbers = self.numbers(alloc, format, area)?;
-        if append_hextile(format, area, &numbers, out)? {
-            return Ok(());
+        match encoding {
+            Encoding::Rre => {
+                let numbers = self.numbers(alloc, format, area)?;
+                append_rre(alloc, format, area, &numbers, out)
+            }
+            Encoding::Hextile => {
+                let numbers = self.numbers(alloc, format, area)?;
+                append_hextile(format, area, &numbers, out)
+            }
+            Encoding::Raw | Encoding::CopyRect => Ok(false),
         }
-        self.append_raw(format, area, out)
-    }
-
-    // The colours of the places of an area, as a format has them.
-    fn colors_for(
-        &self,
-        alloc: Global,
-        format: &PixelFormat,
-        area: Area,
-    ) -> Result<Vec<Color>, NoMemory>
-        requires columns { area.x + area.w ≤ self.now.width }
-        requires rows { area.y + area.h ≤ self.now.height }
-        ensures value { IfOk result (λ colors. colors.items ≡ sent_colors format.now self.now area) }
-        ensures within { IfOk result (λ colors. All (IsWithin format.now) colors.items) }
-        ensures size { IfOk result (λ colors. length colors.items ≡ area.h * area.w) }
-    {
-        self.known_colors();
-        let numbers = self.numbers(alloc, format, area)?;
-        colors_of(alloc, format, &numbers)
     }
 
     // Appends a rectangle of the places of an area.
@@ -116,14 +96,11 @@ impl Screen {
         ensures ok { OnOk result (Appends (IsRectangleFor format.now area (sent_colors format.now self.now area) encoding) out.old.items out.new.items) }
         ensures err { OnErr result (out.new.items ≡ out.old.items) }
     {
-        if encoding == Encoding::Hextile {
-            return self.append_hextile_or_raw(alloc, format, area, out);
+        self.known_colors();
+        if self.append_shorter(alloc, format, area, encoding, out)? {
+            return Ok(());
         }
-        if encoding != Encoding::Rre {
-            return self.append_raw(format, area, out);
-        }
-        let colors = self.colors_for(alloc, format, area)?;
-        append_colors(alloc, format, area, &colors, encoding, out)
+        self.append_raw(format, area, out)
     }
 
     // Appends the rectangle of a part.

@@ -1,5 +1,5 @@
 -- Channels that take bits of their own do not disturb one another.
-use Rattle.std.proofs.Common.{◌≡◌, ℕ, ◌+◌, ◌-◌, ◌*◌, ◌/◌, ◌%◌, ◌^◌, ◌<◌, ◌≤◌, ◌∙◌, ◌⊎◌, inl, inr, refl, sym, ap, subst, arith}
+use Rattle.std.proofs.Common.{◌≡◌, ℕ, zero, suc, ◌+◌, ◌-◌, ◌*◌, ◌/◌, ◌%◌, ◌^◌, ◌<◌, ◌≤◌, ◌∙◌, ◌⊎◌, inl, inr, refl, sym, ap, subst, arith}
 use Rattle.std.specs.Prelude.{bit_and}
 use Rattle.std.specs.Int.RustNames.{bit_or}
 use Rattle.std.proofs.Math.Nat.{mod-eq_of_lt, pow-le-pow_right}
@@ -75,12 +75,21 @@ three x y z X Y Z in_x in_y in_z xy xz yz =
       sum = sum;
     }
 
+-- a value of a channel that has bits isn't cut, and there is none but 0 where it has none
+pub shifted_whole : (bits v max s r : ℕ) → v ≤ max → max * 2 ^ s < 2 ^ bits → (0 < max → r ≡ s) → v * 2 ^ r % 2 ^ bits ≡ v * 2 ^ s
+shifted_whole bits v zero s r small inside is =
+    let none : v ≡ 0 = omega arith in
+    ap (λ (n : ℕ). n * 2 ^ r % 2 ^ bits) none ∙ omega arith ∙ sym (ap (λ (n : ℕ). n * 2 ^ s) none)
+shifted_whole bits v (suc max) s r small inside is =
+    let fits : v * 2 ^ s ≤ suc max * 2 ^ s = mul-le v (2 ^ s) (suc max) (2 ^ s) small (omega arith) in
+    ap (λ (n : ℕ). v * 2 ^ n % 2 ^ bits) (is (omega arith)) ∙ mod-eq_of_lt (omega arith)
+
 -- a shift below the number of bits, where there is something to shift
-pub shift_below : (v max s : ℕ) → 0 < v → v ≤ max → max * 2 ^ s < 2 ^ 32 → s < 32
-shift_below v max s some small inside = elim (cases_lt s 32) [
+pub shift_below : (bits v max s : ℕ) → 0 < v → v ≤ max → max * 2 ^ s < 2 ^ bits → s < bits
+shift_below bits v max s some small inside = elim (cases_lt s bits) [
   | inl t ↦ t
   | inr t ↦
-      (let power : 2 ^ 32 ≤ 2 ^ s = pow-le-pow_right (omega arith) t in
+      (let power : 2 ^ bits ≤ 2 ^ s = pow-le-pow_right (omega arith) t in
       let one : 1 * 2 ^ s ≤ max * 2 ^ s = mul-le 1 (2 ^ s) max (2 ^ s) (omega arith) (omega arith) in
       absurd (omega arith))
 ]
@@ -125,3 +134,8 @@ pub below_32 : (bits n : ℕ) → (bits ≡ 8) ⊎ ((bits ≡ 16) ⊎ (bits ≡ 
 below_32 bits n (inl e) below = let b : n < 2 ^ 8 = subst (λ (k : ℕ). n < 2 ^ k) e below in omega arith
 below_32 bits n (inr (inl e)) below = let b : n < 2 ^ 16 = subst (λ (k : ℕ). n < 2 ^ k) e below in omega arith
 below_32 bits n (inr (inr e)) below = subst (λ (k : ℕ). n < 2 ^ k) e below
+
+pub below_16 : (bits n : ℕ) → (bits ≡ 8) ⊎ ((bits ≡ 16) ⊎ (bits ≡ 32)) → bits / 8 ≤ 2 → n < 2 ^ bits → n < 2 ^ 16
+below_16 bits n (inl e) short below = let b : n < 2 ^ 8 = subst (λ (k : ℕ). n < 2 ^ k) e below in omega arith
+below_16 bits n (inr (inl e)) short below = subst (λ (k : ℕ). n < 2 ^ k) e below
+below_16 bits n (inr (inr e)) short below = absurd (omega arith)

@@ -8,6 +8,7 @@ ghost use Rattle.rect_codec.specs.Parts.{IsRectangleFor};
 use crate::update::{HEAD_SIZE, append_head};
 use pixel_format::PixelFormat;
 use rect_data::Encoding;
+use std::alloc::Global;
 use terms::{Area, NoMemory};
 
 /// Appends a Hextile rectangle that gives the places of its area these pixels, by rows, if it is
@@ -37,4 +38,32 @@ pub fn append_hextile(
     }
     out.truncate(start);
     Ok(false)
+}
+
+/// Appends an RRE rectangle that gives the places of its area these pixels, by rows, if it is shorter
+/// than one in Raw, and answers whether it is there. Where it isn't, and for want of memory, `out`
+/// stays as it was.
+pub fn append_rre(
+    alloc: Global,
+    format: &PixelFormat,
+    area: Area,
+    numbers: &[u32],
+    out: &mut Vec<u8>,
+) -> Result<bool, NoMemory>
+    requires size { length numbers.now ≡ area.h * area.w }
+    requires numbers { All (IsNumber format.now) numbers.now }
+    ensures ok { IfOk result (λ whole. whole ≡ true
+        → Appends (IsRectangleFor format.now area (map (number_color format.now) numbers.now) Encoding.Rre) out.old.items out.new.items) }
+    ensures unchanged { IfOk result (λ whole. whole ≡ false → out.new.items ≡ out.old.items) }
+    ensures err { OnErr result (out.new.items ≡ out.old.items) }
+{
+    let start = out.len();
+    append_head(area, Encoding::Rre, out)?;
+    let limit = numbers.len() * format.bytes();
+    let written = rre::encode_numbers_below(alloc, format, area.w, area.h, numbers, limit, out);
+    if let Ok(true) = written {
+        return written;
+    }
+    out.truncate(start);
+    written
 }

@@ -1,56 +1,58 @@
--- Places of another colour than the background's: each subrectangle begins at one of its own.
-use Rattle.std.proofs.Common.{◌≡◌, ℕ, ◌+◌, ◌*◌, ◌<◌, ◌≤◌, slice_index, subst, inl, inr, cond, false, List, length, take, drop, sym, ap, ◌∙◌, arith, rules}
+-- Places of another number than the background's: each subrectangle begins at one of its own.
+use Rattle.std.proofs.Common.{◌≡◌, ℕ, ◌+◌, ◌*◌, ◌<◌, ◌≤◌, ◌==◌, slice_index, subst, inl, inr, cond, false, List, length, take, drop, get_or, sym, ap, ◌∙◌, arith, rules}
 use Rattle.std.specs.Prelude.{not}
-use Rattle.std.proofs.lemmas.Bool.{cases_Bool, cases_lt}
+use Rattle.std.proofs.lemmas.Bool.{cases_Bool, cases_lt, eqb-true}
 use Rattle.std.proofs.lemmas.Nat.{mul-add-lt}
 use Rattle.std.proofs.lemmas.List.{places, take-take}
 use Rattle.std.proofs.lemmas.List.Sums.{count_by_more_yes, sum_by-take-le}
 use Rattle.pixel_format.specs.declared.Color.{Color}
-use Rattle.pixel_format.specs.Canvas.{black, nth, rows_of}
+use Rattle.pixel_format.specs.Format.{Format}
+use Rattle.pixel_format.specs.Number.{number_color}
+use Rattle.pixel_format.specs.Canvas.{nth, rows_of}
 use Rattle.rre.specs.declared.data.Subrectangle.{Subrectangle}
 use Rattle.rre.specs.Encoded.{Reaches, part_picture}
-use Rattle.rre.specs.Frequent.{is_color, others_than}
-use Rattle.rre.proofs.Frequencies.{one_color}
+use Rattle.rre.specs.Numbered.{colors_of, others_in}
+use Rattle.rre.proofs.Numbers.{color_nth}
 
-pub others_all : (background : Color) (colors : List Color) (i : ℕ) → others_than background (take i colors) ≤ others_than background colors
-others_all background colors i = sum_by-take-le (λ (other : Color). cond (not (is_color background other)) 1 0) colors i
+pub others_all : (background : ℕ) (numbers : List ℕ) (i : ℕ) → others_in background (take i numbers) ≤ others_in background numbers
+others_all background numbers i = sum_by-take-le (λ (other : ℕ). cond (not (background == other)) 1 0) numbers i
 
-pub others_le : (background : Color) (colors : List Color) (i j : ℕ) → i ≤ j → others_than background (take i colors) ≤ others_than background (take j colors)
-others_le background colors i j le =
-    let fewer = others_all background (take j colors) i in
-    rw (take-take i j colors le) at fewer
+pub others_le : (background : ℕ) (numbers : List ℕ) (i j : ℕ) → i ≤ j → others_in background (take i numbers) ≤ others_in background (take j numbers)
+others_le background numbers i j le =
+    let fewer = others_all background (take j numbers) i in
+    rw (take-take i j numbers le) at fewer
 
 -- one place more
-pub one_apart : (background : Color) (colors : List Color) (n : ℕ) → n < length colors → (nth colors n ≡ background → ⊥) → others_than background (take (n + 1) colors) ≡ others_than background (take n colors) + 1
-one_apart background colors n lt other =
-    let away : is_color background (nth colors n) ≡ false = elim (cases_Bool (is_color background (nth colors n))) as (λ _. is_color background (nth colors n) ≡ false) [
-      | inl same ↦ absurd (other (sym (one_color background (nth colors n) same)))
+pub one_apart : (background : ℕ) (numbers : List ℕ) (n : ℕ) → n < length numbers → (get_or numbers n 0 ≡ background → ⊥) → others_in background (take (n + 1) numbers) ≡ others_in background (take n numbers) + 1
+one_apart background numbers n lt other =
+    let away : (background == get_or numbers n 0) ≡ false = elim (cases_Bool (background == get_or numbers n 0)) as (λ _. (background == get_or numbers n 0) ≡ false) [
+      | inl same ↦ absurd (other (sym (eqb-true background (get_or numbers n 0) same)))
       | inr different ↦ different
     ] in
-    count_by_more_yes (λ (other : Color). not (is_color background other)) colors n black lt (ap not away)
+    count_by_more_yes (λ (other : ℕ). not (background == other)) numbers n 0 lt (ap not away)
 
--- behind a place of another colour, and as many more as there are
-pub apart_on : (background : Color) (colors : List Color) (count n m : ℕ) → n < m → n < length colors → (nth colors n ≡ background → ⊥) → count ≤ others_than background (take n colors)
-    → count + 1 ≤ others_than background (take m colors)
-apart_on background colors count n m before lt other so_far =
-    omega (arith, one_apart background colors n lt other, others_le background colors (n + 1) m (omega arith))
+-- behind a place of another number, and as many more as there are
+pub apart_on : (background : ℕ) (numbers : List ℕ) (count n m : ℕ) → n < m → n < length numbers → (get_or numbers n 0 ≡ background → ⊥) → count ≤ others_in background (take n numbers)
+    → count + 1 ≤ others_in background (take m numbers)
+apart_on background numbers count n m before lt other so_far =
+    omega (arith, one_apart background numbers n lt other, others_le background numbers (n + 1) m (omega arith))
 
 -- more are needed than there may be
-pub apart_all : (background : Color) (colors : List Color) (most count n : ℕ) → n < length colors → (nth colors n ≡ background → ⊥) → count ≤ others_than background (take n colors) → most ≤ count
-    → most < others_than background colors
-apart_all background colors most count n lt other so_far many =
-    omega (arith, apart_on background colors count n (n + 1) (omega arith) lt other so_far, others_all background colors (n + 1))
+pub apart_all : (background : ℕ) (numbers : List ℕ) (most count n : ℕ) → n < length numbers → (get_or numbers n 0 ≡ background → ⊥) → count ≤ others_in background (take n numbers) → most ≤ count
+    → most < others_in background numbers
+apart_all background numbers most count n lt other so_far many =
+    omega (arith, apart_on background numbers count n (n + 1) (omega arith) lt other so_far, others_all background numbers (n + 1))
 
 -- a place of a row
-pub line_at : (colors : List Color) (from n i : ℕ) → i < n → nth (take n (drop from colors)) i ≡ nth colors (from + i)
-line_at colors from n i lt = search (rules, places)
+pub line_at : (numbers : List ℕ) (from n i : ℕ) → i < n → get_or (take n (drop from numbers)) i 0 ≡ get_or numbers (from + i) 0
+line_at numbers from n i lt = search (rules, places)
 
 -- a place of a row that lies in the rectangle
 pub place_in : (row w column h size : ℕ) → row < h → column < w → size ≡ h * w → row * w + column < size
 place_in row w column h size below across is = omega (arith, mul-add-lt row w column h (omega arith) (omega arith))
 
-pub away_at : (colors : List Color) (background : Color) (row w column n : ℕ) → column < n → (nth (take n (drop (row * w) colors)) column ≡ background → ⊥) → nth colors (row * w + column) ≡ background → ⊥
-away_at colors background row w column n across other e = other (line_at colors (row * w) n column across ∙ e)
+pub away_at : (numbers : List ℕ) (background row w column n : ℕ) → column < n → (get_or (take n (drop (row * w) numbers)) column 0 ≡ background → ⊥) → get_or numbers (row * w + column) 0 ≡ background → ⊥
+away_at numbers background row w column n across other e = other (line_at numbers (row * w) n column across ∙ e)
 
 -- places that have their colours are passed
 pub skip_to : (colors : List Color) (w h : ℕ) (background : Color) (parts : List Subrectangle) (reach : List ℕ) (column row end : ℕ) → Reaches colors w h background parts reach column row → column ≤ end
@@ -70,18 +72,22 @@ skip_to colors w h background parts reach column row end i on good = record {
   below = i.below;
 }
 
-run_at : (colors : List Color) (w : ℕ) (background : Color) (column row end n : ℕ) → nth (take n (drop (row * w) colors)) column ≡ background
-    → ((k : ℕ) → column + 1 ≤ k → k < end → nth (take n (drop (row * w) colors)) k ≡ background) → (c : ℕ) → column ≤ c → c < end → nth (take n (drop (row * w) colors)) c ≡ background
-run_at colors w background column row end n first run c from to = elim (cases_lt column c) [
+run_at : (line : List ℕ) (background column end : ℕ) → get_or line column 0 ≡ background
+    → ((k : ℕ) → column + 1 ≤ k → k < end → get_or line k 0 ≡ background) → (c : ℕ) → column ≤ c → c < end → get_or line c 0 ≡ background
+run_at line background column end first run c from to = elim (cases_lt column c) [
   | inl behind ↦ run c (omega arith) to
-  | inr not_behind ↦ (let e : c ≡ column = omega arith in ap (nth (take n (drop (row * w) colors))) e ∙ first)
+  | inr not_behind ↦ (let e : c ≡ column = omega arith in ap (λ n. get_or line n 0) e ∙ first)
 ]
 
--- a run of the background's colour
-pub skip_run : (colors : List Color) (w h : ℕ) (background : Color) (parts : List Subrectangle) (reach : List ℕ) (column row end n : ℕ) → row < h → Reaches colors w h background parts reach column row → column < end → end ≤ n
-    → nth (take n (drop (row * w) colors)) column ≡ background → ((k : ℕ) → column + 1 ≤ k → k < end → nth (take n (drop (row * w) colors)) k ≡ background) → Reaches colors w h background parts reach end row
-skip_run colors w h background parts reach column row end n below i on within first run = skip_to colors w h background parts reach column row end i (omega arith) (λ c inside from to.
-    let here : nth colors (row * w + c) ≡ background = sym (line_at colors (row * w) n c (omega arith)) ∙ run_at colors w background column row end n first run c from to in
+-- a run of the background's number
+pub skip_run : (f : Format) (numbers : List ℕ) (w h background : ℕ) (parts : List Subrectangle) (reach : List ℕ) (column row end n : ℕ) → row < h
+    → Reaches (colors_of f numbers) w h (number_color f background) parts reach column row → column < end → end ≤ n
+    → get_or (take n (drop (row * w) numbers)) column 0 ≡ background → ((k : ℕ) → column + 1 ≤ k → k < end → get_or (take n (drop (row * w) numbers)) k 0 ≡ background)
+    → Reaches (colors_of f numbers) w h (number_color f background) parts reach end row
+skip_run f numbers w h background parts reach column row end n below i on within first run =
+    skip_to (colors_of f numbers) w h (number_color f background) parts reach column row end i (omega arith) (λ c inside from to.
+    let number : get_or numbers (row * w + c) 0 ≡ background = sym (line_at numbers (row * w) n c (omega arith)) ∙ run_at (take n (drop (row * w) numbers)) background column end first run c from to in
+    let here : nth (colors_of f numbers) (row * w + c) ≡ number_color f background = color_nth f numbers (row * w + c) ∙ ap (number_color f) number in
     elim (i.sound c row inside below) [
       | inl good ↦ good
       | inr under ↦ under ∙ sym here

@@ -6,3 +6,4 @@ pub mod Picture
 pub mod Measuring
 pub mod Encoded
 pub mod Frequent
+pub mod Numbered

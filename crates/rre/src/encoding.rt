@@ -1,9 +1,11 @@
 //! Encoding a rectangle.
 
 ghost use Rattle.std.specs.Prelude.{◌≡◌, ◌+◌, ◌*◌, ◌<◌, All, IfOk, OnOk, OnErr, length, true, false};
+ghost use Rattle.pixel_format.specs.Number.{number_color, IsNumber};
 ghost use Rattle.pixel_format.specs.Pixel.{IsWithin};
 ghost use Rattle.terms.specs.Appending.{Appends};
 ghost use Rattle.rre.specs.Encoded.{Shows, IsMajority, HasFew, HasMany, IsLong};
+ghost use Rattle.rre.specs.Numbered.{colors_of};
 
 use crate::append::append_data;
 use crate::cover::{background, cover};
@@ -11,49 +13,62 @@ use pixel_format::{Color, PixelFormat};
 use std::alloc::Global;
 use terms::{NoMemory, whole_or_none};
 
-// The colour of the background: black where there are no places.
-fn background_color(
-    alloc: Global,
-    format: &PixelFormat,
-    colors: &[Color],
-) -> Result<Color, NoMemory>
+const BLACK: Color = Color { r: 0, g: 0, b: 0 };
+
+// The numbers of the pixels of colours.
+fn numbers_of(alloc: Global, format: &PixelFormat, colors: &[Color]) -> Result<Vec<u32>, NoMemory>
     requires { All (IsWithin format.now) colors.now }
-    ensures within { IfOk result (IsWithin format.now) }
-    ensures majority { IfOk result (IsMajority colors.now) }
+    ensures colors { IfOk result (λ numbers. colors_of format.now numbers.items ≡ colors.now) }
+    ensures numbers { IfOk result (λ numbers. All (IsNumber format.now) numbers.items) }
 {
-    if colors.is_empty() {
-        return Ok(Color { r: 0, g: 0, b: 0 });
+    let mut numbers = Vec::with_capacity(alloc, colors.len())?;
+    for color in colors {
+        numbers.push(format.number_of(*color))?;
     }
-    let place = background(alloc, colors)?;
-    Ok(colors[place])
+    Ok(numbers)
+}
+
+// The number of the background: black's where there are no places.
+fn background_number(alloc: Global, format: &PixelFormat, numbers: &[u32]) -> Result<u32, NoMemory>
+    requires { All (IsNumber format.now) numbers.now }
+    ensures number { IfOk result (IsNumber format.now) }
+    ensures majority { IfOk result (λ number. IsMajority (colors_of format.now numbers.now) (number_color format.now number)) }
+{
+    if numbers.is_empty() {
+        return Ok(format.number_of(BLACK));
+    }
+    let place = background(alloc, numbers)?;
+    Ok(numbers[place])
 }
 
 // Appends data of at most so many subrectangles, and answers whether they are enough. Where they
 // aren't, and for want of memory, `bytes` stays as it was.
 fn append_few(
     alloc: Global,
+    format: &PixelFormat,
     w: u16,
     h: u16,
+    numbers: &[u32],
     most: usize,
-    format: &PixelFormat,
-    colors: &[Color],
     bytes: &mut Vec<u8>,
 ) -> Result<bool, NoMemory>
-    requires size { length colors.now ≡ h * w }
-    requires within { All (IsWithin format.now) colors.now }
-    ensures ok { IfOk result (λ whole. whole ≡ true → Appends (Shows format.now w h colors.now) bytes.old.items bytes.new.items) }
+    requires size { length numbers.now ≡ h * w }
+    requires numbers { All (IsNumber format.now) numbers.now }
+    ensures ok { IfOk result (λ whole. whole ≡ true
+        → Appends (Shows format.now w h (colors_of format.now numbers.now)) bytes.old.items bytes.new.items) }
     ensures few { IfOk result (λ whole. whole ≡ true
-        → HasFew format.now colors.now (length bytes.old.items) (length bytes.new.items)) }
-    ensures many { IfOk result (λ whole. whole ≡ false → HasMany colors.now most) }
+        → HasFew format.now (colors_of format.now numbers.now) (length bytes.old.items) (length bytes.new.items)) }
+    ensures many { IfOk result (λ whole. whole ≡ false → HasMany (colors_of format.now numbers.now) most) }
     ensures unchanged { IfOk result (λ whole. whole ≡ false → bytes.new.items ≡ bytes.old.items) }
     ensures err { OnErr result (bytes.new.items ≡ bytes.old.items) }
 {
-    let background = background_color(alloc, format, colors)?;
-    let covered = cover(alloc, w, h, colors, background, most)?;
+    let number = background_number(alloc, format, numbers)?;
+    let covered = cover(alloc, format, w, h, numbers, number, most)?;
     let Some(parts) = covered else {
         return Ok(false);
     };
     let start = bytes.len();
+    let background = format.color_of(number);
     let appended = append_data(format, background, &parts, bytes);
     whole_or_none(appended, start, bytes)?;
     Ok(true)
@@ -80,7 +95,8 @@ pub fn encode(
     ensures err { OnErr result (bytes.new.items ≡ bytes.old.items) }
 {
     let most = h as usize * w as usize;
-    let whole = append_few(alloc, w, h, most, format, colors, bytes)?;
+    let numbers = numbers_of(alloc, format, colors)?;
+    let whole = append_few(alloc, format, w, h, &numbers, most, bytes)?;
     prove!(whole);
     Ok(())
 }
@@ -106,9 +122,34 @@ pub fn encode_below(
     ensures unchanged { IfOk result (λ whole. whole ≡ false → bytes.new.items ≡ bytes.old.items) }
     ensures err { OnErr result (bytes.new.items ≡ bytes.old.items) }
 {
+    let numbers = numbers_of(alloc, format, colors)?;
+    encode_numbers_below(alloc, format, w, h, &numbers, limit, bytes)
+}
+
+/// Appends data of a rectangle of w by h that has these pixels, by rows, as [`encode_below`] does of
+/// their colours: if they have fewer bytes than the limit. Answers whether they have. Where they
+/// haven't, and for want of memory, `bytes` stays as it was.
+pub fn encode_numbers_below(
+    alloc: Global,
+    format: &PixelFormat,
+    w: u16,
+    h: u16,
+    numbers: &[u32],
+    limit: usize,
+    bytes: &mut Vec<u8>,
+) -> Result<bool, NoMemory>
+    requires size { length numbers.now ≡ h * w }
+    requires numbers { All (IsNumber format.now) numbers.now }
+    ensures ok { IfOk result (λ whole. whole ≡ true
+        → Appends (Shows format.now w h (colors_of format.now numbers.now)) bytes.old.items bytes.new.items) }
+    ensures below { IfOk result (λ whole. whole ≡ true → length bytes.new.items < length bytes.old.items + limit) }
+    ensures long { IfOk result (λ whole. whole ≡ false → IsLong format.now (colors_of format.now numbers.now) limit) }
+    ensures unchanged { IfOk result (λ whole. whole ≡ false → bytes.new.items ≡ bytes.old.items) }
+    ensures err { OnErr result (bytes.new.items ≡ bytes.old.items) }
+{
     let before = bytes.len();
     let most = limit / (format.bytes() + 8);
-    let whole = append_few(alloc, w, h, most, format, colors, bytes)?;
+    let whole = append_few(alloc, format, w, h, numbers, most, bytes)?;
     if !whole {
         return Ok(false);
     }

@@ -26,6 +26,22 @@ impl PixelFormat {
         red + green + blue
     }
 
+    /// The same in a format of at most two bytes a pixel, in 16 bits: a loop over colours puts eight of
+    /// them together in one vector, where it puts four of 32 bits.
+    #[inline(always)]
+    pub fn short_number_of(&self, color: Color) -> u16
+        requires within { IsWithin self.now color }
+        requires short { pixel_bytes self.now ≤ 2 }
+        ensures value { result ≡ color_number self.now color }
+        ensures color { number_color self.now result ≡ color }
+        ensures number { IsNumber self.now result }
+    {
+        let red = short_shifted(self.red, color.r);
+        let green = short_shifted(self.green, color.g);
+        let blue = short_shifted(self.blue, color.b);
+        red + green + blue
+    }
+
     /// The colour whose pixel has the number. Bits that belong to no channel play no part.
     pub fn color_of(&self, number: u32) -> Color
         ensures { result ≡ number_color self.now number }
@@ -140,4 +156,27 @@ fn shifted(channel: Channel, value: u16) -> u32
     ensures { result ≡ value * 2 ^ channel.shift }
 {
     (value as u32) << shift_of(channel)
+}
+
+// The same as `shift_of` in a number of 16 bits.
+#[inline(always)]
+fn short_shift_of(channel: Channel) -> u32
+    requires { channel.max * 2 ^ channel.shift < 2 ^ 16 }
+    ensures below { result < 16 }
+    ensures some { 0 < channel.max → result ≡ channel.shift }
+{
+    if channel.max == 0 {
+        return 0;
+    }
+    channel.shift as u32
+}
+
+// A value of a channel, at its place in a pixel's number of 16 bits.
+#[inline(always)]
+fn short_shifted(channel: Channel, value: u16) -> u16
+    requires within { value ≤ channel.max }
+    requires fits { channel.max * 2 ^ channel.shift < 2 ^ 16 }
+    ensures { result ≡ value * 2 ^ channel.shift }
+{
+    value << short_shift_of(channel)
 }

@@ -1,8 +1,10 @@
-//! Areas that are copied on a screen, whichever way source and destination overlap.
+//! Areas that are copied on a screen, whichever way source and destination overlap, and a screen as
+//! RRE has it.
 
-use painter::Screen;
-use pixel_format::Color;
-use rfb_wire::HostMessage;
+use crate::tests::samples::area;
+use painter::{Screen, ScreenPart};
+use pixel_format::{Color, PixelFormat};
+use rfb_wire::{Encoding, HostMessage};
 use std::alloc::Global;
 use std::test::Fail;
 
@@ -81,5 +83,36 @@ fn key_of_a_black_screen(rt: HostRuntime) -> Result<(), Fail> {
     let screen = Screen::black(rt.alloc(), 256, 256)?;
     let key = screen.key(rt.alloc())?;
     assert!(rt; key.bytes().len() < 262_160);
+    Ok(())
+}
+
+// The whole screen as a viewer is sent it that asked for RRE.
+fn sent(alloc: Global, screen: &Screen) -> Result<Vec<u8>, Fail> {
+    let (w, h) = screen.size();
+    let whole = ScreenPart::Places {
+        area: area(0, 0, w, h),
+        encoding: Encoding::Rre,
+    };
+    let mut out = Vec::new(alloc);
+    screen.append_update(alloc, &PixelFormat::host(), &[whole], &mut out)?;
+    Ok(out)
+}
+
+// A red place among ten, the others black, as RFC 6143, section 7.7.3 has it. Raw would have 40 bytes
+// where there are 20.
+#[test]
+fn red_place_sent_in_rre(rt: HostRuntime) -> Result<(), Fail> {
+    let alloc = rt.alloc();
+    let red = [0, 0, 0, 1, 0, 2, 0, 1, 0, 1, 0, 1, 0, 0, 0, 0, 0, 0, 255, 0];
+    let screen = painted(alloc, 5, 2, &[&red])?;
+    let heads = [0, 0, 0, 1, 0, 0, 0, 0, 0, 5, 0, 2, 0, 0, 0, 2];
+    let one_on_black = [0, 0, 0, 1, 0, 0, 0, 0];
+    let subrectangle = [0, 0, 255, 0, 0, 2, 0, 1, 0, 1, 0, 1];
+    let expected = [
+        heads.as_slice(),
+        one_on_black.as_slice(),
+        subrectangle.as_slice(),
+    ];
+    assert!(rt; sent(alloc, &screen)?.as_slice() == expected.concat(alloc)?.as_slice());
     Ok(())
 }

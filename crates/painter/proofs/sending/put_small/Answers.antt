@@ -10,8 +10,8 @@ loop-k-preserved c =
     let f = c.args.format.now in
     row_more f c.args.row.now c.loop-k.bytes c.write_number.new.bytes c.loop-k.k c.args.size c.index-row-k.result c.convert_small.result c.requires.size (c.loop-k.auto.bytes ∙ c.requires.room)
     c.loop-k-test.true c.write_number.auto.bytes c.loop-k.invariant
-    (c.write_number.ensures.bytes ∙ ap (pixel_of f) c.number_of-number.ensures.color)
-    (c.write_number.ensures.color ∙ c.number_of-number.ensures.color)
+    (c.write_number.ensures.bytes ∙ ap (pixel_of f) c.small_number-number.ensures.color)
+    (c.write_number.ensures.color ∙ c.small_number-number.ensures.color)
     (c.convert_small.ensures.value ∙ ap (converted f) (c.color_of_pixel.ensures.value ∙ ap color_of c.index-row-k.is))
 
 pub slice_bounds-write_number-end : goal.slice_bounds-write_number-end

@@ -1,7 +1,7 @@
-use Rattle.std.proofs.Common.{refl, arith}
+use Rattle.std.proofs.Common.{arith}
 use Rattle.rre.proofs.Votes.{first_vote, vote_more, vote_less, voted}
 use Rattle.rre.proofs.cover.most_voted.Goals as goal
-use Rattle.rre.proofs.cover.most_voted.Goals.{then-votes-eq0, else-votes-eq0+then-same, else-votes-eq0+else-same}
+use Rattle.rre.proofs.cover.most_voted.Goals.{then-votes-eq0, else-votes-eq0+then-numbers-k, else-votes-eq0+else-numbers-k}
 
 pub loop-k-preserved : goal.loop-k-preserved
 loop-k-preserved c =
@@ -9,16 +9,15 @@ loop-k-preserved c =
     let inside = c.loop-k-test.true in
     elim c.if-votes-eq0.branch [
       | then-votes-eq0 w ↦
-          rw (w.place-is, w.votes-is) (record { votes = first_vote c.args.colors.now c.loop-k.k c.loop-k.place c.loop-k.votes so_far inside w.if-votes-eq0.true })
-      | else-votes-eq0+then-same w ↦
-          rw (w.place-is, w.votes-is) (record { votes = vote_more c.args.colors.now c.loop-k.k c.loop-k.place c.loop-k.votes so_far inside (w.if-same.ensures.0 refl) })
-      | else-votes-eq0+else-same w ↦
+          rw (w.place-is, w.votes-is) (record { votes = first_vote c.args.numbers.now c.loop-k.k c.loop-k.place c.loop-k.votes so_far inside w.if-votes-eq0.true })
+      | else-votes-eq0+then-numbers-k w ↦
+          rw (w.place-is, w.votes-is) (record { votes = vote_more c.args.numbers.now c.loop-k.k c.loop-k.place c.loop-k.votes so_far inside w.if-numbers-k.true })
+      | else-votes-eq0+else-numbers-k w ↦
           let some = w.if-votes-eq0.false in
           rw (w.place-is, w.votes-is) (record {
-            votes = vote_less c.args.colors.now c.loop-k.k c.loop-k.place c.loop-k.votes so_far inside
-                (λ same. let yes = w.if-same.ensures.1 same in cc) (omega arith);
+            votes = vote_less c.args.numbers.now c.loop-k.k c.loop-k.place c.loop-k.votes so_far inside w.if-numbers-k.false (omega arith);
           })
     ]
 
 pub returns-clause-majority : goal.returns-clause-majority
-returns-clause-majority c = voted c.args.colors.now c.loop-k.k c.loop-k.place c.loop-k.votes c.loop-k.invariant.votes c.loop-k-test.false (omega arith)
+returns-clause-majority c = voted c.args.numbers.now c.loop-k.k c.loop-k.place c.loop-k.votes c.loop-k.invariant.votes c.loop-k-test.false (omega arith)

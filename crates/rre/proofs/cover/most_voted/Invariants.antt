@@ -3,5 +3,5 @@ use Rattle.rre.proofs.cover.most_voted.Given as goal
 
 abbrev pub invariant-loop-k : goal.invariant-loop-k
 invariant-loop-k l = record {
-  votes : IsVote l.colors l.k l.place l.votes;
+  votes : IsVote l.numbers l.k l.place l.votes;
 }

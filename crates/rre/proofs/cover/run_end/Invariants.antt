@@ -1,12 +1,11 @@
-use Rattle.std.proofs.Common.{◌≡◌, ℕ, ◌+◌, ◌-◌, ◌<◌, ◌≤◌, length}
-use Rattle.pixel_format.specs.Canvas.{nth}
+use Rattle.std.proofs.Common.{◌≡◌, ℕ, ◌+◌, ◌-◌, ◌<◌, ◌≤◌, length, get_or}
 use Rattle.rre.proofs.cover.run_end.Given as goal
 
 abbrev pub invariant-loop-end : goal.invariant-loop-end
 invariant-loop-end l = record {
   some : l.column < l.end;
   within : l.end ≤ length l.reach;
-  same : (k : ℕ) → l.column ≤ k → k < l.end → nth l.colors (l.start + k) ≡ l.color;
+  same : (k : ℕ) → l.column ≤ k → k < l.end → get_or l.numbers (l.start + k) 0 ≡ l.number;
 }
 
 abbrev pub decreases-loop-end : goal.decreases-loop-end

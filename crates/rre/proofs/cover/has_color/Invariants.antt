@@ -1,6 +1,0 @@
-use Rattle.std.proofs.Common.{◌≡◌, ℕ, ◌+◌, ◌<◌}
-use Rattle.pixel_format.specs.Canvas.{nth}
-use Rattle.rre.proofs.cover.has_color.Given as goal
-
-abbrev pub invariant-loop-k : goal.invariant-loop-k
-invariant-loop-k l = (i : ℕ) → i < l.k → nth l.colors (l.start + i) ≡ l.color

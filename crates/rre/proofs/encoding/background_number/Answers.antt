@@ -1,0 +1,7 @@
+use Rattle.std.proofs.Common.{get_or}
+use Rattle.rre.proofs.Numbers.{majority_color}
+use Rattle.rre.proofs.encoding.background_number.Goals as goal
+
+pub returns-clause-majority : goal.returns-clause-majority
+returns-clause-majority c =
+    majority_color c.args.format.now c.args.numbers.now (get_or c.args.numbers.now c.in_ok-place.place 0) c.requires c.in_ok-place.ensures.majority
