@@ -12,7 +12,7 @@ use Rattle.pixel_format.specs.Number.{number_color, IsNumber}
 use Rattle.pixel_format.specs.Canvas.{nth}
 use Rattle.hextile.specs.Tiles.{tile_count, tile_left, tile_top, tile_width, tile_height}
 use Rattle.hextile.specs.Encoded.{AreTileColors}
-use Rattle.hextile.specs.Numbered.{colors_of, AreTileNumbers, AreNumbersUpto}
+use Rattle.hextile.specs.Numbered.{colors_of, AreTileNumbers}
 use Rattle.hextile.proofs.Tiling.{some_places, some_width, tile_across, tile_down}
 
 no_value : (c : Channel) → channel_value c 0 ≡ 0
@@ -37,25 +37,15 @@ numbers_more numbers w left top tw tile k n fits are is = λ i less. elim (cases
   | inr other ↦ get_or-set_other tile k i n 0 other ∙ are i (omega (arith, other))
 ]
 
-pub colors_more : (f : Format) (colors : List Color) (w left top tw : ℕ) (tile : List ℕ) (k n : ℕ) → k < length tile
-    → AreTileColors colors w left top tw (colors_of f tile) k → number_color f n ≡ nth colors ((top + k / tw) * w + (left + k % tw))
-    → AreTileColors colors w left top tw (colors_of f (set tile k n)) (k + 1)
-colors_more f colors w left top tw tile k n fits are is = λ i less. color_nth f (set tile k n) i ∙ elim (cases_eq i k) [
-  | inl same ↦ ap (number_color f) (ap (λ m. get_or (set tile k n) m 0) same ∙ get_or-set_same tile k n 0 fits) ∙ is ∙ ap (λ m. nth colors ((top + m / tw) * w + (left + m % tw))) (sym same)
-  | inr other ↦ ap (number_color f) (get_or-set_other tile k i n 0 other) ∙ sym (color_nth f tile i) ∙ are i (omega (arith, other))
-]
-
-pub upto_more : (f : Format) (tile : List ℕ) (k n : ℕ) → k < length tile → AreNumbersUpto f tile k → IsNumber f n → AreNumbersUpto f (set tile k n) (k + 1)
-upto_more f tile k n fits are is = λ i less. elim (cases_eq i k) [
-  | inl same ↦ subst (IsNumber f) (sym (ap (λ m. get_or (set tile k n) m 0) same ∙ get_or-set_same tile k n 0 fits)) is
-  | inr other ↦ subst (IsNumber f) (sym (get_or-set_other tile k i n 0 other)) (are i (omega (arith, other)))
-]
-
 -- the colours of a tile's pixels are those of the rectangle's
 pub tile_is : (f : Format) (numbers : List ℕ) (w left top tw : ℕ) (tile : List ℕ) (count : ℕ) → AreTileNumbers numbers w left top tw tile count
     → AreTileColors (colors_of f numbers) w left top tw (colors_of f tile) count
 tile_is f numbers w left top tw tile count are = λ k less.
     color_nth f tile k ∙ ap (number_color f) (are k less) ∙ sym (color_nth f numbers ((top + k / tw) * w + (left + k % tw)))
+
+-- the first so many are numbers of pixels
+abbrev AreNumbersUpto : Format → List ℕ → ℕ → Type 0
+AreNumbersUpto f tile count = (k : ℕ) → k < count → IsNumber f (get_or tile k 0)
 
 pub numbers_taken : (f : Format) (tile : List ℕ) (n : ℕ) → n ≤ length tile → AreNumbersUpto f tile n → All (IsNumber f) (take n tile)
 numbers_taken f tile n fits are = λ k d in_it.

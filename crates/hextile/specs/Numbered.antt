@@ -2,7 +2,7 @@
 use Rattle.std.specs.Prelude.{◌≡◌, ℕ, ◌+◌, ◌*◌, ◌/◌, ◌%◌, ◌<◌, List, map, slice_index}
 use Rattle.pixel_format.specs.declared.Color.{Color}
 use Rattle.pixel_format.specs.Format.{Format}
-use Rattle.pixel_format.specs.Number.{number_color, IsNumber}
+use Rattle.pixel_format.specs.Number.{number_color}
 
 -- the colours of pixels
 abbrev pub colors_of : Format → List ℕ → List Color
@@ -12,7 +12,3 @@ colors_of f numbers = map (number_color f) numbers
 abbrev pub AreTileNumbers : List ℕ → ℕ → ℕ → ℕ → ℕ → List ℕ → ℕ → Type 0
 AreTileNumbers numbers w left top tw tile count =
     (k : ℕ) → k < count → slice_index tile k ≡ slice_index numbers ((top + k / tw) * w + (left + k % tw))
-
--- the first so many are numbers of pixels
-abbrev pub AreNumbersUpto : Format → List ℕ → ℕ → Type 0
-AreNumbersUpto f tile count = (k : ℕ) → k < count → IsNumber f (slice_index tile k)

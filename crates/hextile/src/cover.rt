@@ -1,16 +1,15 @@
 //! Which parts of a tile an encoder lists.
 
 ghost use Rattle.std.specs.Prelude.{◌≡◌, ◌↔◌, ℕ, ◌+◌, ◌*◌, ◌/◌, ◌%◌, ◌<◌, ◌≤◌, ◌&&◌, length, All, IsTrue, [], nat_lt, nat_le, reverse, true, if◌then◌else◌, slice_index};
-ghost use Rattle.pixel_format.specs.Pixel.{IsWithin};
 ghost use Rattle.pixel_format.specs.Number.{number_color, IsNumber};
 ghost use Rattle.pixel_format.specs.Canvas.{covers};
 ghost use Rattle.pixel_format.specs.declared.Color.{Color};
-ghost use Rattle.hextile.specs.Encoded.{AreTileColors, IsPart, IsUniform, IsCover, ShownUpto};
-ghost use Rattle.hextile.specs.Numbered.{colors_of, AreTileNumbers, AreNumbersUpto};
+ghost use Rattle.hextile.specs.Encoded.{IsPart, IsUniform, IsCover, ShownUpto};
+ghost use Rattle.hextile.specs.Numbered.{colors_of, AreTileNumbers};
 
 use crate::position::TileArea;
 use arrayvec::ArrayVec;
-use pixel_format::{Color, PixelFormat, end_of_number};
+use pixel_format::{Color, PixelFormat, end_of_number, same};
 
 /// The most subrectangles that a tile may have.
 pub(crate) const MOST_PARTS: usize = 255;
@@ -59,34 +58,6 @@ pub(crate) fn tile_numbers(numbers: &[u32], w: u16, area: TileArea) -> [u32; 256
         let from = (area.y as usize + row) * w as usize + area.x as usize;
         for column in 0..width {
             tile[row * width + column] = numbers[from + column];
-        }
-    }
-    tile
-}
-
-/// The same from the colours of the rectangle's places, in a format to whose maxima they keep.
-pub(crate) fn tile_of_colors(
-    format: &PixelFormat,
-    colors: &[Color],
-    w: u16,
-    area: TileArea,
-) -> [u32; 256]
-    requires within { All (IsWithin format.now) colors.now }
-    requires across { 0 < area.w }
-    requires columns { area.x + area.w ≤ w }
-    requires rows { (area.y + area.h) * w ≤ length colors.now }
-    requires wide { area.w ≤ 16 }
-    requires high { area.h ≤ 16 }
-    ensures size { length result ≡ 256 }
-    ensures colors { AreTileColors colors.now w area.x area.y area.w (colors_of format.now result) (area.w * area.h) }
-    ensures numbers { AreNumbersUpto format.now result (area.w * area.h) }
-{
-    let mut tile = [0; 256];
-    let width = area.w as usize;
-    for row in 0..area.h as usize {
-        let from = (area.y as usize + row) * w as usize + area.x as usize;
-        for column in 0..width {
-            tile[row * width + column] = format.number_of(colors[from + column]);
         }
     }
     tile
@@ -206,6 +177,22 @@ fn show(shown: &mut [u32], w: u8, part: Part, number: u32)
     }
 }
 
+// Whether one part more may do for a tile of so many places. Where parts have several colours, each
+// takes a pixel and two bytes, and some of them are longer than the tile's pixels.
+fn has_room(format: &PixelFormat, places: usize, parts: &Parts) -> bool
+    requires { places ≤ 256 }
+    ensures { IsTrue result → length parts.now.items < 255 }
+{
+    if parts.is_full() {
+        return false;
+    }
+    let few = places * format.bytes() / (format.bytes() + 2);
+    match parts.as_slice() {
+        [first, .., last] if parts.len() >= few => same(first.color, last.color),
+        _ => true,
+    }
+}
+
 // Sees to it that a place is shown, by a part more where it isn't. Answers whether there was room
 // for it.
 fn show_place(
@@ -219,6 +206,7 @@ fn show_place(
 ) -> bool
     requires across { 0 < w }
     requires numbers { length numbers.now ≡ w * h }
+    requires most { length numbers.now ≤ 256 }
     requires shown { length numbers.now ≤ length shown.old }
     requires place { k < length numbers.now }
     ensures { IsTrue result → (background : Color) → All (IsNumber format.now) numbers.now
@@ -229,7 +217,7 @@ fn show_place(
     if shown[k] == number {
         return true;
     }
-    if parts.is_full() {
+    if !has_room(format, numbers.len(), parts) {
         return false;
     }
     let column = (k % w as usize) as u8;
@@ -252,6 +240,7 @@ fn parts_over(
 ) -> bool
     requires across { 0 < w }
     requires numbers { length numbers.now ≡ w * h }
+    requires most { length numbers.now ≤ 256 }
     requires shown { length numbers.now ≤ length shown.old }
     requires none { parts.old.items ≡ [] }
     ensures { result ≡ true → (background : ℕ) → All (IsNumber format.now) numbers.now

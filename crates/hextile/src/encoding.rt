@@ -1,6 +1,6 @@
 //! Encoding a rectangle.
 
-ghost use Rattle.std.specs.Prelude.{◌≡◌, ℕ, List, ◌+◌, ◌*◌, ◌<◌, ◌≤◌, All, IsTrue, IfSome, IfOk, OnOk, OnErr, length, Some, None};
+ghost use Rattle.std.specs.Prelude.{◌≡◌, ℕ, List, ◌+◌, ◌*◌, ◌<◌, ◌≤◌, All, IsTrue, IfSome, IfOk, OnOk, OnErr, length, Some, None, true, false};
 ghost use Rattle.pixel_format.specs.Pixel.{IsWithin};
 ghost use Rattle.terms.specs.Appending.{Appends, Grows};
 ghost use Rattle.hextile.specs.declared.cover.Part.{Part};
@@ -9,11 +9,12 @@ ghost use Rattle.pixel_format.specs.Number.{IsNumber};
 ghost use Rattle.hextile.specs.Numbered.{colors_of};
 ghost use Rattle.hextile.specs.Encoded.{IsMaskFor, known_behind, IsKnown, ShowsTile, Shows};
 
-use crate::cover::{Part, Parts, cover, most_voted, tile_numbers, tile_of_colors};
+use crate::cover::{Part, Parts, cover, most_voted, tile_numbers};
 use crate::fields::{Mask, pixel_size};
 use crate::position::{count_tiles, tile_area};
 use crate::writing::{Known, append_parts_tile, append_raw_tile};
 use pixel_format::{Color, PixelFormat, same};
+use std::alloc::Global;
 use terms::{NoMemory, whole_or_none};
 
 const NOTHING_KNOWN: Known = Known {
@@ -125,40 +126,8 @@ fn append_tile(
     Ok(NOTHING_KNOWN)
 }
 
-// Appends the tiles of a rectangle of these colours.
+// Appends the tiles of a rectangle of these pixels.
 fn append_tiles(
-    w: u16,
-    h: u16,
-    format: &PixelFormat,
-    colors: &[Color],
-    bytes: &mut Vec<u8>,
-) -> Result<(), NoMemory>
-    requires size { length colors.now ≡ h * w }
-    requires within { All (IsWithin format.now) colors.now }
-    ensures ok { OnOk result (Appends (Shows format.now w h colors.now) bytes.old.items bytes.new.items) }
-    ensures grows { Grows bytes.old.items bytes.new.items }
-{
-    let mut known = NOTHING_KNOWN;
-    let mut room = Parts::new();
-    for number in 0..count_tiles(w, h) {
-        let area = tile_area(w, h, number);
-        let tile = tile_of_colors(format, colors, w, area);
-        let places = area.w as usize * area.h as usize;
-        known = append_tile(
-            format,
-            known,
-            area.w,
-            area.h,
-            &tile[..places],
-            &mut room,
-            bytes,
-        )?;
-    }
-    Ok(())
-}
-
-// The same of these pixels.
-fn append_number_tiles(
     w: u16,
     h: u16,
     format: &PixelFormat,
@@ -189,33 +158,8 @@ fn append_number_tiles(
     Ok(())
 }
 
-/// Appends data of a rectangle of w by h that has these colours, by rows from the top and each from
-/// the left, in a format to whose maxima they keep (RFC 6143, section 7.7.4). Which form a tile has,
-/// and which colours it names, isn't promised, but tested: each tile is the shorter one of
-/// subrectangles over a background, which have the foreground's colour where they have one colour,
-/// and of pixels. A background and a foreground are named where the tile before didn't have them,
-/// and in the first tile behind a raw or coloured one. It takes memory for the bytes alone. Want of
-/// memory leaves `bytes` as it was.
-pub fn encode(
-    format: &PixelFormat,
-    w: u16,
-    h: u16,
-    colors: &[Color],
-    bytes: &mut Vec<u8>,
-) -> Result<(), NoMemory>
-    requires size { length colors.now ≡ h * w }
-    requires within { All (IsWithin format.now) colors.now }
-    ensures ok { OnOk result (Appends (Shows format.now w h colors.now) bytes.old.items bytes.new.items) }
-    ensures err { OnErr result (bytes.new.items ≡ bytes.old.items) }
-{
-    let start = bytes.len();
-    let appended = append_tiles(w, h, format, colors, bytes);
-    whole_or_none(appended, start, bytes)
-}
-
-/// Appends data of a rectangle of w by h that has these pixels, by rows, as [`encode`] does of their
-/// colours. Want of memory leaves `bytes` as it was.
-pub fn encode_numbers(
+// Appends data of a rectangle of these pixels. Want of memory leaves `bytes` as it was.
+fn encode_numbers(
     format: &PixelFormat,
     w: u16,
     h: u16,
@@ -228,6 +172,57 @@ pub fn encode_numbers(
     ensures err { OnErr result (bytes.new.items ≡ bytes.old.items) }
 {
     let start = bytes.len();
-    let appended = append_number_tiles(w, h, format, numbers, bytes);
+    let appended = append_tiles(w, h, format, numbers, bytes);
     whole_or_none(appended, start, bytes)
+}
+
+/// Appends data of a rectangle of w by h that has these colours, by rows from the top and each from
+/// the left, in a format to whose maxima they keep (RFC 6143, section 7.7.4). Which form a tile has,
+/// and which colours it names, isn't promised, but tested: each tile is the shorter one of
+/// subrectangles over a background, which have the foreground's colour where they have one colour,
+/// and of pixels. A background and a foreground are named where the tile before didn't have them,
+/// and in the first tile behind a raw or coloured one. Want of memory leaves `bytes` as it was.
+pub fn encode(
+    alloc: Global,
+    format: &PixelFormat,
+    w: u16,
+    h: u16,
+    colors: &[Color],
+    bytes: &mut Vec<u8>,
+) -> Result<(), NoMemory>
+    requires size { length colors.now ≡ h * w }
+    requires within { All (IsWithin format.now) colors.now }
+    ensures ok { OnOk result (Appends (Shows format.now w h colors.now) bytes.old.items bytes.new.items) }
+    ensures err { OnErr result (bytes.new.items ≡ bytes.old.items) }
+{
+    let numbers = format.numbers_of(alloc, colors)?;
+    encode_numbers(format, w, h, &numbers, bytes)
+}
+
+/// Appends data of a rectangle of w by h that has these pixels, by rows, as [`encode`] does of their
+/// colours, if they have fewer bytes than the limit, and answers whether they have. It takes memory
+/// for the bytes alone. Where they haven't, and for want of memory, `bytes` stays as it was.
+pub fn encode_numbers_below(
+    format: &PixelFormat,
+    w: u16,
+    h: u16,
+    numbers: &[u32],
+    limit: usize,
+    bytes: &mut Vec<u8>,
+) -> Result<bool, NoMemory>
+    requires size { length numbers.now ≡ h * w }
+    requires numbers { All (IsNumber format.now) numbers.now }
+    ensures ok { IfOk result (λ whole. whole ≡ true
+        → Appends (Shows format.now w h (colors_of format.now numbers.now)) bytes.old.items bytes.new.items) }
+    ensures below { IfOk result (λ whole. whole ≡ true → length bytes.new.items < length bytes.old.items + limit) }
+    ensures unchanged { IfOk result (λ whole. whole ≡ false → bytes.new.items ≡ bytes.old.items) }
+    ensures err { OnErr result (bytes.new.items ≡ bytes.old.items) }
+{
+    let before = bytes.len();
+    encode_numbers(format, w, h, numbers, bytes)?;
+    if bytes.len() - before < limit {
+        return Ok(true);
+    }
+    bytes.truncate(before);
+    Ok(false)
 }

@@ -12,7 +12,7 @@ mod painting;
 mod position;
 mod writing;
 
-pub use encoding::{encode, encode_numbers};
+pub use encoding::{encode, encode_numbers_below};
 pub use fault::Measure;
 pub use fields::{Mask, Named, Subrectangle};
 pub use laws::{grammar_reads_data, no_data_begin_others, one_reading_of_data};

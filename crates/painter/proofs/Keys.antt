@@ -1,19 +1,27 @@
 -- An update of a screen's colours over the whole screen is its key.
-use Rattle.std.proofs.Common.{◌≡◌, ℕ, ◌+◌, ◌≤◌, ◌⊎◌, List, [], ◌∷◌, length, inl, inr, ◌++◌, ◌*◌, refl, sym, ap, subst, ◌∙◌, arith}
+use Rattle.std.proofs.Common.{◌≡◌, ℕ, ◌+◌, ◌≤◌, ◌⊎◌, List, [], ◌∷◌, length, map, inl, inr, ◌++◌, ◌*◌, refl, sym, ap, subst, ◌∙◌, arith}
+use Rattle.std.proofs.lemmas.List.{append-nil}
 use Rattle.pixel_format.specs.declared.Color.{Color}
-use Rattle.pixel_format.specs.Format.{host_format}
+use Rattle.pixel_format.specs.Format.{Format, host_format}
+use Rattle.pixel_format.specs.Pixel.{converted}
 use Rattle.terms.specs.Appending.{Appends}
+use Rattle.terms.specs.declared.area.Area.{Area}
 use Rattle.pixel_format.specs.Canvas.{Picture, rows_of}
 use Rattle.rect_data.specs.Data.{LiesWithin}
 use Rattle.rect_data.specs.declared.encoding.Encoding.{Encoding}
 use Rattle.rect_data.specs.declared.encoding.Encoding.TheVariants as encodings
+use Rattle.rect_codec.specs.Parts.{parts_head, AreParts}
 use Rattle.rect_codec.specs.Written.{IsUpdate, IsUpdateFor}
 use Rattle.rfb_wire.specs.Grammar.{message_limit}
 use Rattle.rfb_wire.specs.Host.{Host, host_of}
 use Rattle.rfb_wire.specs.Stream.{IsFor}
-use Rattle.painter.specs.Framebuffer.{Framebuffer, color_at, AreColorsOf, AppendsColors}
+use Rattle.painter.specs.Framebuffer.{Framebuffer, color_at, AreColorsOf}
 use Rattle.painter.specs.Picture.{painted_message}
 use Rattle.painter.specs.Key.{whole_area, IsKey}
+use Rattle.painter.specs.Sent.{area_colors, sent_colors}
+use Rattle.painter.specs.SentUpdate.{parts_of}
+use Rattle.painter.specs.declared.update.ScreenPart.TheVariants as screen_parts
+use Rattle.painter.proofs.SentRows.{same_color}
 use Rattle.painter.proofs.Updates.{paints_colors, encoding_kept}
 
 from_none : (n : ℕ) → 0 + n ≡ n
@@ -50,23 +58,45 @@ kind_of : (e : Encoding) → (e ≡ encodings.Hextile) ⊎ (e ≡ encodings.Raw)
 kind_of e (inl is) = inr is
 kind_of e (inr is) = inl is
 
+-- the host's format has a screen's colours as they are
+same_colors : (colors : List Color) → map (converted host_format) colors ≡ colors
+same_colors [] = refl
+same_colors (c ∷ colors) = rw (same_color c, same_colors colors) refl
+
+-- an update of one area of places is one of one rectangle
+single : (f : Format) (screen : Framebuffer) (area : Area) (asked : Encoding) (bytes : List ℕ) → AreParts f (parts_of f screen (screen_parts.Places area asked ∷ [])) bytes
+    → IsUpdateFor f area (sent_colors f screen area) asked bytes
+single f screen area asked bytes u =
+    let r = u.are.3 in
+    let body : u.body ≡ u.are.0 = u.are.2 ∙ ap (λ z. u.are.0 ++ z) u.are.4 ∙ append-nil u.are.0 in
+    let whole : bytes ≡ parts_head 1 ++ u.are.0 = u.bytes_are ∙ ap (λ z. parts_head 1 ++ z) body in
+    record {
+      encoding = r.encoding;
+      encoding_is = r.encoding_is;
+      is = record { body = r.is.body; bytes_are = whole ∙ ap (λ z. parts_head 1 ++ z) r.is.bytes_are; shows = r.is.shows };
+      short = omega (arith, ap length whole, r.short);
+    }
+
+-- the whole screen as one message
+abbrev pub whole_update : Framebuffer → ℕ × ℕ → List ℕ → Type 0
+whole_update screen size bytes = AreParts host_format (parts_of host_format screen (screen_parts.Places (whole_area size.0 size.1) encodings.Hextile ∷ [])) bytes
+
+-- what is appended to nothing stands alone
+alone : (P : List ℕ → Type 0) (empty bytes : List ℕ) → empty ≡ [] → Appends P empty bytes → P bytes
+alone P empty bytes first a = subst P (sym (a.is ∙ ap (λ l. l ++ a.bytes) first)) a.are
+
 -- the same, in the words of the calls that make it
 pub key_made : (screen : Framebuffer) (size : ℕ × ℕ) → size ≡ (screen.width, screen.height) → screen.width * screen.height ≤ 8388608
-    → (none colors read : List Color) → none ≡ [] → AppendsColors screen (whole_area size.0 size.1) none colors → read ≡ colors
-    → (empty bytes told : List ℕ) → empty ≡ [] → Appends (IsUpdateFor host_format (whole_area size.0 size.1) read encodings.Hextile) empty bytes → told ≡ bytes
+    → AreColorsOf screen (whole_area screen.width screen.height) (area_colors screen (whole_area screen.width screen.height))
+    → (empty bytes told : List ℕ) → empty ≡ [] → Appends (whole_update screen size) empty bytes → told ≡ bytes
     → (m : Host) → ((n : Host) → IsFor message_limit size.0 size.1 n → n.bytes ≡ told → m ≡ n) → IsKey screen.width screen.height (color_at screen) m
-key_made screen size is few none colors read nothing appended are_read empty bytes told first updated are_told m one =
+key_made screen size is few are empty bytes told first updated are_told m one =
     let area = whole_area screen.width screen.height in
-    let P : ℕ × ℕ → Type 0 = λ s. AppendsColors screen (whole_area s.0 s.1) none colors in
-    let a = subst P is appended in
-    let same : colors ≡ a.colors = a.new_is ∙ ap (λ l. l ++ a.colors) nothing in
-    let are : AreColorsOf screen area colors = subst (λ l. AreColorsOf screen area l) (sym same) a.has in
-    let Q : ℕ × ℕ → Type 0 = λ s. Appends (IsUpdateFor host_format (whole_area s.0 s.1) colors encodings.Hextile) empty bytes in
-    let R : List Color → Type 0 = λ l. Appends (IsUpdateFor host_format (whole_area size.0 size.1) l encodings.Hextile) empty bytes in
-    let u = subst Q is (subst R are_read updated) in
-    let whole : bytes ≡ u.bytes = u.is ∙ ap (λ l. l ++ u.bytes) first in
-    let update : IsUpdateFor host_format area colors encodings.Hextile bytes = subst (λ l. IsUpdateFor host_format area colors encodings.Hextile l) (sym whole) u.are in
+    let Q : ℕ × ℕ → Type 0 = λ s. whole_update screen s bytes in
+    let sent = single host_format screen area encodings.Hextile bytes (subst Q is (alone (whole_update screen size) empty bytes first updated)) in
+    let update : IsUpdateFor host_format area (area_colors screen area) encodings.Hextile bytes =
+    subst (λ l. IsUpdateFor host_format area l encodings.Hextile bytes) (same_colors (area_colors screen area)) sent in
     let short : length bytes ≤ message_limit = omega (arith, update.short, few) in
     let S : ℕ × ℕ → Type 0 = λ s. (n : Host) → IsFor message_limit s.0 s.1 n → n.bytes ≡ told → m ≡ n in
     let only = subst S is one in
-    key_of screen colors update.encoding bytes m are (kind_of update.encoding update.encoding_is) update.is short (λ n for equal. only n for (equal ∙ sym are_told))
+    key_of screen (area_colors screen area) update.encoding bytes m are (kind_of update.encoding update.encoding_is) update.is short (λ n for equal. only n for (equal ∙ sym are_told))

@@ -1,37 +1,17 @@
 -- Rectangles of a screen's colours.
-use Rattle.std.proofs.Common.{refl, zero, suc, ◌≡◌, ℕ, ◌+◌, ◌*◌, ◌/◌, ◌%◌, ◌<◌, List, ◌++◌, length, sym, ap, ◌∙◌, arith}
+use Rattle.std.proofs.Common.{zero, suc, ◌≡◌, ℕ, ◌+◌, ◌*◌, ◌/◌, ◌%◌, ◌<◌, List, length, sym, ap, ◌∙◌, arith}
 use Rattle.std.proofs.Math.Nat.{div-add-mod, mul_comm, mod-lt, div-lt_iff_lt-mul}
 use Rattle.std.proofs.lemmas.List.{ext_get_or}
 use Rattle.pixel_format.specs.declared.Color.{Color}
-use Rattle.pixel_format.specs.Format.{Format}
 use Rattle.pixel_format.specs.Canvas.{black, nth}
-use Rattle.terms.specs.Appending.{Appends}
-use Rattle.terms.proofs.Appends.{joined}
 use Rattle.terms.specs.declared.area.Area.{Area}
-use Rattle.client_wire.specs.Written.{rectangle_head}
-use Rattle.rect_data.specs.declared.encoding.Encoding.TheVariants as encodings
-use Rattle.rect_data.specs.Data.{number_of}
 use Rattle.rect_codec.specs.declared.parts.Part.{Part}
 use Rattle.rect_codec.specs.declared.parts.Part.TheVariants as parts
-use Rattle.rect_codec.specs.Parts.{IsRectangle}
-use Rattle.rect_codec.specs.Written.{ArePixels}
-use Rattle.rect_codec.proofs.PixelsPut.{pixels_show}
 use Rattle.painter.specs.Framebuffer.{Framebuffer, AreColorsOf}
 
 -- one of no area
 abbrev pub no_part : Part
 no_part = parts.Copy (record { x = 0; y = 0; w = 0; h = 0 }) 0 0
-
--- a head, and pixels behind it
-pub raw_rectangle : (f : Format) (area : Area) (colors : List Color) (old between new : List ℕ) → length colors ≡ area.h * area.w
-    → between ≡ old ++ rectangle_head area (number_of encodings.Raw) → Appends (ArePixels f colors) between new → Appends (IsRectangle f area colors encodings.Raw) old new
-raw_rectangle f area colors old between new size begin pixels =
-    let shown = pixels_show f area.w area.h colors between new size pixels in
-    record {
-      bytes = rectangle_head area (number_of encodings.Raw) ++ shown.bytes;
-      is = joined old (rectangle_head area (number_of encodings.Raw)) shown.bytes between new begin shown.is;
-      are = record { body = shown.bytes; bytes_are = refl; shows = shown.are };
-    }
 
 some_width : (h w k : ℕ) → k < h * w → 0 < w
 some_width h zero k less = absurd (omega arith)

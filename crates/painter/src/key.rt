@@ -5,8 +5,8 @@ ghost use Rattle.painter.specs.Framebuffer.{SameSize, color_at};
 ghost use Rattle.painter.specs.Key.{IsKey, IsWhole};
 
 use crate::screen::Screen;
+use crate::update::ScreenPart;
 use pixel_format::PixelFormat;
-use rect_codec::write_update;
 use rfb_wire::{Encoding, HostMessage, Rectangle};
 use std::alloc::{AllocError, Global};
 use terms::{Area, NoMemory};
@@ -37,11 +37,14 @@ impl Screen {
             w: width,
             h: height,
         };
-        let mut colors = Vec::new(alloc);
-        self.area(area, &mut colors)?;
-        let mut bytes = Vec::new(alloc);
+        self.known_colors();
+        let places = ScreenPart::Places {
+            area,
+            encoding: Encoding::Hextile,
+        };
         let host = PixelFormat::host();
-        write_update(alloc, &host, area, &colors, Encoding::Hextile, &mut bytes)?;
+        let mut bytes = Vec::new(alloc);
+        self.append_update(alloc, &host, &[places], &mut bytes)?;
         match HostMessage::from_bytes(alloc, width, height, &bytes) {
             Ok(message) => Ok(message),
             Err(_) => Err(AllocError),

@@ -8,7 +8,7 @@ ghost use Rattle.painter.specs.SentUpdate.{part_of, parts_of, CanBeSent};
 
 use crate::screen::Screen;
 use pixel_format::PixelFormat;
-use rect_codec::{append_copy, append_head, append_hextile, append_rre};
+use rect_codec::{append_copy, append_head, append_numbers};
 use rect_data::Encoding;
 use std::alloc::Global;
 use terms::{Area, NoMemory, whole_or_none};
@@ -70,13 +70,9 @@ impl Screen {
     {
         self.known_colors();
         match encoding {
-            Encoding::Rre => {
+            Encoding::Rre | Encoding::Hextile => {
                 let numbers = self.numbers(alloc, format, area)?;
-                append_rre(alloc, format, area, &numbers, out)
-            }
-            Encoding::Hextile => {
-                let numbers = self.numbers(alloc, format, area)?;
-                append_hextile(format, area, &numbers, out)
+                append_numbers(alloc, format, area, &numbers, encoding, out)
             }
             Encoding::Raw | Encoding::CopyRect => Ok(false),
         }

@@ -1,9 +1,8 @@
-//! Appending pixels to bytes.
+//! Appending the pixel of a colour to bytes.
 
-ghost use Rattle.std.specs.Prelude.{◌≡◌, ◌≤◌, ◌++◌, All, OnOk};
-ghost use Rattle.std.specs.List.{flat_map};
+ghost use Rattle.std.specs.Prelude.{◌≡◌, ◌≤◌, ◌++◌, OnOk};
 ghost use Rattle.pixel_format.specs.Format.{pixel_bytes};
-ghost use Rattle.pixel_format.specs.Pixel.{IsWithin, IsPixel, ArePixels, pixel_of};
+ghost use Rattle.pixel_format.specs.Pixel.{IsWithin, IsPixel, pixel_of};
 ghost use Rattle.terms.specs.Appending.{Appends, Grows};
 
 use crate::Color;
@@ -38,40 +37,5 @@ impl PixelFormat {
         let mut pixel = [0; 4];
         self.put(color, &mut pixel[..size]);
         bytes.extend_from_slice(&pixel[..size])
-    }
-
-    /// Appends the pixels of colours, one behind the other. Want of memory may leave a part of them.
-    pub fn append_pixels(&self, colors: &[Color], bytes: &mut Vec<u8>) -> Result<(), NoMemory>
-        requires { All (IsWithin self.now) colors.now }
-        ensures ok { OnOk result (Appends (ArePixels self.now colors.now) bytes.old.items bytes.new.items) }
-        ensures written { OnOk result (bytes.new.items ≡ bytes.old.items ++ flat_map (pixel_of self.now) colors.now) }
-        ensures grows { Grows bytes.old.items bytes.new.items }
-    {
-        match self.bytes() {
-            1 => self.append_all_sized(1, colors, bytes),
-            2 => self.append_all_sized(2, colors, bytes),
-            _ => self.append_all_sized(4, colors, bytes),
-        }
-    }
-
-    // The same for pixels of so many bytes: a loop for each size.
-    #[inline(always)]
-    fn append_all_sized(
-        &self,
-        size: usize,
-        colors: &[Color],
-        bytes: &mut Vec<u8>,
-    ) -> Result<(), NoMemory>
-        requires bytes { size ≡ pixel_bytes self.now }
-        requires small { size ≤ 4 }
-        requires within { All (IsWithin self.now) colors.now }
-        ensures ok { OnOk result (Appends (ArePixels self.now colors.now) bytes.old.items bytes.new.items) }
-        ensures written { OnOk result (bytes.new.items ≡ bytes.old.items ++ flat_map (pixel_of self.now) colors.now) }
-        ensures grows { Grows bytes.old.items bytes.new.items }
-    {
-        for color in colors {
-            self.append_sized(size, *color, bytes)?;
-        }
-        Ok(())
     }
 }

@@ -11,7 +11,7 @@ mod laws;
 mod runs;
 
 pub use canvas::Canvas;
-pub use colors::{end_of_color, same};
+pub use colors::same;
 pub use format::{PixelFormat, host_pixel};
 pub use kind::Format;
 pub use laws::{valid_formats, written_as_read};

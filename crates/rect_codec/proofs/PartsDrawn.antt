@@ -1,12 +1,13 @@
 -- What one reads and paints of an update of several parts.
-use Rattle.std.proofs.Common.{◌≡◌, ℕ, ◌+◌, ◌-◌, ◌<◌, ◌^◌, List, [], ◌∷◌, ◌++◌, length, suc, refl, ap, ◌∙◌, arith, inr, length-append}
+use Rattle.std.proofs.Common.{◌≡◌, ℕ, ◌+◌, ◌-◌, ◌*◌, ◌<◌, ◌^◌, List, [], ◌∷◌, ◌++◌, length, suc, refl, ap, ◌∙◌, arith, inl, inr, length-append}
 use Rattle.std.specs.Prelude.{All}
 use Rattle.std.specs.List.{AllZip}
 use Rattle.pixel_format.specs.declared.Color.{Color}
-use Rattle.pixel_format.specs.Format.{Format}
+use Rattle.pixel_format.specs.Format.{Format, pixel_bytes}
 use Rattle.pixel_format.specs.Canvas.{Picture}
 use Rattle.terms.specs.Appending.{Appends, AreEach}
 use Rattle.terms.specs.Reading.{Got}
+use Rattle.terms.proofs.Appends.{joined}
 use Rattle.terms.proofs.Readings.{field-whole}
 use Rattle.terms.specs.declared.area.Area.{Area}
 use Rattle.terms.specs.declared.wire_fault.WireFault.{WireFault}
@@ -21,6 +22,8 @@ use Rattle.rect_codec.specs.declared.parts.Part.TheVariants as parts
 use Rattle.rect_codec.specs.Picture.{copied_picture, painted_data}
 use Rattle.rect_codec.specs.Update.{Drawn, rectangle_at, rectangles_at, update_at}
 use Rattle.rect_codec.specs.Parts.{source_bytes, parts_head, IsRectangle, IsRectangleFor, IsPart, AreParts, PartLiesWithin, HasCopied, Draws, DrawsParts}
+use Rattle.rect_codec.specs.Written.{ArePixels, Shows}
+use Rattle.rect_codec.proofs.PixelsPut.{pixels_show}
 use Rattle.rect_codec.proofs.Drawing.{data_whole, data_read, place_in, has_colors, u16_back, rectangle_read, encoding_is, inside_is}
 
 -- a part that is read as a rectangle which paints what it says
@@ -97,6 +100,17 @@ draws_parts f width height parts bytes few inside u =
       each = read.each;
     }
 
+-- a head, and pixels behind it
+pub raw_rectangle : (f : Format) (area : Area) (colors : List Color) (old between new : List ℕ) → length colors ≡ area.h * area.w
+    → between ≡ old ++ rectangle_head area (number_of encodings.Raw) → Appends (ArePixels f colors) between new → Appends (IsRectangle f area colors encodings.Raw) old new
+raw_rectangle f area colors old between new size begin pixels =
+    let shown = pixels_show f area.w area.h colors between new size pixels in
+    record {
+      bytes = rectangle_head area (number_of encodings.Raw) ++ shown.bytes;
+      is = joined old (rectangle_head area (number_of encodings.Raw)) shown.bytes between new begin shown.is;
+      are = record { body = shown.bytes; bytes_are = refl; shows = shown.are };
+    }
+
 -- a rectangle in Raw is one for who asked for any encoding
 pub raw_for : (f : Format) (area : Area) (colors : List Color) (asked : Encoding) (old new : List ℕ) → Appends (IsRectangle f area colors encodings.Raw) old new
     → Appends (IsRectangleFor f area colors asked) old new
@@ -111,4 +125,22 @@ raw_for f area colors asked old new a =
         short = omega (arith, ap length u.bytes_are, length-append (rectangle_head area (number_of encodings.Raw)) u.body, u.shows.size);
       };
       is = a.is;
+    }
+
+-- a head, and data behind it that are shorter than in Raw
+pub short_rectangle : (f : Format) (area : Area) (colors : List Color) (asked : Encoding) (old between new : List ℕ)
+    → between ≡ old ++ rectangle_head area (number_of asked) → Appends (Shows asked f area.w area.h colors) between new
+    → length new < length between + area.h * area.w * pixel_bytes f → Appends (IsRectangleFor f area colors asked) old new
+short_rectangle f area colors asked old between new begin a short =
+    let head : List ℕ = rectangle_head area (number_of asked) in
+    let all : length new ≡ length between + length a.bytes = ap length a.is ∙ length-append between a.bytes in
+    record {
+      bytes = head ++ a.bytes;
+      is = joined old head a.bytes between new begin a.is;
+      are = record {
+        encoding = asked;
+        encoding_is = inl refl;
+        is = record { body = a.bytes; bytes_are = refl; shows = a.are };
+        short = omega (arith, length-append head a.bytes, all, short);
+      };
     }

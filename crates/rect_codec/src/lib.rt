@@ -11,6 +11,6 @@ mod update;
 
 pub use encoding::pick;
 pub use laws::{written_parts_are_read, written_update_is_read};
-pub use numbers::{append_hextile, append_rre};
+pub use numbers::append_numbers;
 pub use parts::{Part, append_copy, write_parts};
-pub use update::{append_colors, append_head, write_update};
+pub use update::{append_head, write_update};

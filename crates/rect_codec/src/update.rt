@@ -1,22 +1,20 @@
 //! Rectangles of updates, and updates of one rectangle.
 
-ghost use Rattle.std.specs.Prelude.{◌≡◌, ◌+◌, ◌*◌, ◌++◌, All, IfOk, OnOk, OnErr, length, true, false};
+ghost use Rattle.std.specs.Prelude.{◌≡◌, ◌*◌, ◌++◌, All, OnOk, OnErr, length};
 ghost use Rattle.pixel_format.specs.Pixel.{IsWithin};
 ghost use Rattle.terms.specs.Appending.{Appends};
 ghost use Rattle.client_wire.specs.Written.{rectangle_head};
 ghost use Rattle.rect_data.specs.Data.{number_of};
-ghost use Rattle.rect_codec.specs.Written.{Shows, IsUpdateFor};
+ghost use Rattle.rect_codec.specs.Written.{IsUpdateFor};
 ghost use Rattle.rect_codec.specs.Parts.{IsRectangle, IsRectangleFor};
 
+use crate::numbers::append_numbers;
 use crate::parts::{Part, write_parts};
 use crate::pixels::append_pixels;
 use pixel_format::{Color, PixelFormat};
 use rect_data::Encoding;
 use std::alloc::Global;
 use terms::{Area, NoMemory};
-
-// How many bytes a rectangle's header has.
-pub(crate) const HEAD_SIZE: usize = 12;
 
 /// Appends the header of a rectangle: its area, and the number of its encoding (RFC 6143, section
 /// 7.6.1). Want of memory leaves `out` as it was.
@@ -31,71 +29,31 @@ pub fn append_head(area: Area, encoding: Encoding, out: &mut Vec<u8>) -> Result<
     ])
 }
 
-// Appends the data of a rectangle, and answers whether they are there: RRE's are where they have
-// fewer bytes than the limit, CopyRect's never, since they show no colours. Where they aren't, `out`
-// stays as it was.
-fn append_data(
-    alloc: Global,
+// Appends a Raw rectangle. Want of memory leaves `out` as it was.
+fn append_raw(
     format: &PixelFormat,
     area: Area,
     colors: &[Color],
-    encoding: Encoding,
-    limit: usize,
     out: &mut Vec<u8>,
-) -> Result<bool, NoMemory>
+) -> Result<(), NoMemory>
     requires size { length colors.now ≡ area.h * area.w }
     requires within { All (IsWithin format.now) colors.now }
-    ensures ok { IfOk result (λ whole. whole ≡ true
-        → Appends (Shows encoding format.now area.w area.h colors.now) out.old.items out.new.items) }
-    ensures raw { IfOk result (λ whole. encoding ≡ Encoding.Raw → whole ≡ true) }
-    ensures unchanged { IfOk result (λ whole. whole ≡ false → out.new.items ≡ out.old.items) }
-    ensures err { OnErr result (out.new.items ≡ out.old.items) }
-{
-    match encoding {
-        Encoding::Raw => append_pixels(format, colors, out)?,
-        Encoding::CopyRect => return Ok(false),
-        Encoding::Rre => {
-            return rre::encode_below(alloc, format, area.w, area.h, colors, limit, out);
-        }
-        Encoding::Hextile => hextile::encode(format, area.w, area.h, colors, out)?,
-    }
-    Ok(true)
-}
-
-// Appends a rectangle in this encoding, and answers whether it is there: in RRE it is where its data
-// have fewer bytes than the limit, in CopyRect never, in Raw and Hextile whatever its length. Where
-// it isn't, `out` stays as it was.
-fn append_rectangle(
-    alloc: Global,
-    format: &PixelFormat,
-    area: Area,
-    colors: &[Color],
-    encoding: Encoding,
-    limit: usize,
-    out: &mut Vec<u8>,
-) -> Result<bool, NoMemory>
-    requires size { length colors.now ≡ area.h * area.w }
-    requires within { All (IsWithin format.now) colors.now }
-    ensures ok { IfOk result (λ whole. whole ≡ true
-        → Appends (IsRectangle format.now area colors.now encoding) out.old.items out.new.items) }
-    ensures raw { IfOk result (λ whole. encoding ≡ Encoding.Raw → whole ≡ true) }
-    ensures unchanged { IfOk result (λ whole. whole ≡ false → out.new.items ≡ out.old.items) }
+    ensures ok { OnOk result (Appends (IsRectangle format.now area colors.now Encoding.Raw) out.old.items out.new.items) }
     ensures err { OnErr result (out.new.items ≡ out.old.items) }
 {
     let start = out.len();
-    append_head(area, encoding, out)?;
-    let written = append_data(alloc, format, area, colors, encoding, limit, out);
-    if let Ok(true) = written {
-        return Ok(true);
+    append_head(area, Encoding::Raw, out)?;
+    if let Err(fault) = append_pixels(format, colors, out) {
+        out.truncate(start);
+        return Err(fault);
     }
-    out.truncate(start);
-    written
+    Ok(())
 }
 
 /// Appends a rectangle that gives the places of its area these colours, in the encoding that is
 /// asked for where that makes it shorter than Raw, and else in Raw. Want of memory leaves `out` as it
 /// was.
-pub fn append_colors(
+pub(crate) fn append_colors(
     alloc: Global,
     format: &PixelFormat,
     area: Area,
@@ -108,18 +66,13 @@ pub fn append_colors(
     ensures ok { OnOk result (Appends (IsRectangleFor format.now area colors.now encoding) out.old.items out.new.items) }
     ensures err { OnErr result (out.new.items ≡ out.old.items) }
 {
-    let size = colors.len() * format.bytes();
-    if encoding != Encoding::Raw {
-        let kept = out.len();
-        let whole = append_rectangle(alloc, format, area, colors, encoding, size, out)?;
-        if whole && out.len() - kept < HEAD_SIZE + size {
+    if let Encoding::Rre | Encoding::Hextile = encoding {
+        let numbers = format.numbers_of(alloc, colors)?;
+        if append_numbers(alloc, format, area, &numbers, encoding, out)? {
             return Ok(());
         }
-        out.truncate(kept);
     }
-    let whole = append_rectangle(alloc, format, area, colors, Encoding::Raw, size, out)?;
-    prove!(whole);
-    Ok(())
+    append_raw(format, area, colors, out)
 }
 
 /// Appends a FramebufferUpdate of one rectangle (RFC 6143, section 7.6.1) that gives the places of

@@ -15,19 +15,6 @@ use terms::{NoMemory, whole_or_none};
 
 const BLACK: Color = Color { r: 0, g: 0, b: 0 };
 
-// The numbers of the pixels of colours.
-fn numbers_of(alloc: Global, format: &PixelFormat, colors: &[Color]) -> Result<Vec<u32>, NoMemory>
-    requires { All (IsWithin format.now) colors.now }
-    ensures colors { IfOk result (λ numbers. colors_of format.now numbers.items ≡ colors.now) }
-    ensures numbers { IfOk result (λ numbers. All (IsNumber format.now) numbers.items) }
-{
-    let mut numbers = Vec::with_capacity(alloc, colors.len())?;
-    for color in colors {
-        numbers.push(format.number_of(*color))?;
-    }
-    Ok(numbers)
-}
-
 // The number of the background: black's where there are no places.
 fn background_number(alloc: Global, format: &PixelFormat, numbers: &[u32]) -> Result<u32, NoMemory>
     requires { All (IsNumber format.now) numbers.now }
@@ -95,40 +82,17 @@ pub fn encode(
     ensures err { OnErr result (bytes.new.items ≡ bytes.old.items) }
 {
     let most = h as usize * w as usize;
-    let numbers = numbers_of(alloc, format, colors)?;
+    let numbers = format.numbers_of(alloc, colors)?;
     let whole = append_few(alloc, format, w, h, &numbers, most, bytes)?;
     prove!(whole);
     Ok(())
 }
 
-/// Appends data as [`encode`] does if they have fewer bytes than the limit, and answers whether they
-/// have. It stops listing subrectangles once they have as many. It answers `false` only where data
-/// that list each place of another colour than the background's by itself have as many bytes as the
-/// limit; then, and for want of memory, `bytes` stays as it was.
-pub fn encode_below(
-    alloc: Global,
-    format: &PixelFormat,
-    w: u16,
-    h: u16,
-    colors: &[Color],
-    limit: usize,
-    bytes: &mut Vec<u8>,
-) -> Result<bool, NoMemory>
-    requires size { length colors.now ≡ h * w }
-    requires within { All (IsWithin format.now) colors.now }
-    ensures ok { IfOk result (λ whole. whole ≡ true → Appends (Shows format.now w h colors.now) bytes.old.items bytes.new.items) }
-    ensures below { IfOk result (λ whole. whole ≡ true → length bytes.new.items < length bytes.old.items + limit) }
-    ensures long { IfOk result (λ whole. whole ≡ false → IsLong format.now colors.now limit) }
-    ensures unchanged { IfOk result (λ whole. whole ≡ false → bytes.new.items ≡ bytes.old.items) }
-    ensures err { OnErr result (bytes.new.items ≡ bytes.old.items) }
-{
-    let numbers = numbers_of(alloc, format, colors)?;
-    encode_numbers_below(alloc, format, w, h, &numbers, limit, bytes)
-}
-
-/// Appends data of a rectangle of w by h that has these pixels, by rows, as [`encode_below`] does of
-/// their colours: if they have fewer bytes than the limit. Answers whether they have. Where they
-/// haven't, and for want of memory, `bytes` stays as it was.
+/// Appends data of a rectangle of w by h that has these pixels, by rows, as [`encode`] does of their
+/// colours, if they have fewer bytes than the limit, and answers whether they have. It stops listing
+/// subrectangles once they have as many. It answers `false` only where data that list each place of
+/// another colour than the background's by itself have as many bytes as the limit; then, and for
+/// want of memory, `bytes` stays as it was.
 pub fn encode_numbers_below(
     alloc: Global,
     format: &PixelFormat,

@@ -1,6 +1,6 @@
 //! Pixels as numbers: equal numbers are equal pixels.
 
-ghost use Rattle.std.specs.Prelude.{◌≡◌, ◌+◌, ◌*◌, ◌^◌, ◌<◌, ◌≤◌, ◌++◌, All, OnOk, length, map};
+ghost use Rattle.std.specs.Prelude.{◌≡◌, ℕ, ◌+◌, ◌*◌, ◌^◌, ◌<◌, ◌≤◌, ◌++◌, All, IfOk, OnOk, length, map};
 ghost use Rattle.std.specs.List.{flat_map};
 ghost use Rattle.pixel_format.specs.Format.{pixel_bytes};
 ghost use Rattle.pixel_format.specs.Pixel.{pixel_color, color_number, IsWithin, IsPixel, ArePixels, pixel_of};
@@ -9,6 +9,7 @@ ghost use Rattle.terms.specs.Appending.{Appends, Grows};
 
 use super::{Channel, PixelFormat, value_of};
 use crate::Color;
+use std::alloc::Global;
 use terms::NoMemory;
 
 impl PixelFormat {
@@ -40,6 +41,19 @@ impl PixelFormat {
         let green = short_shifted(self.green, color.g);
         let blue = short_shifted(self.blue, color.b);
         red + green + blue
+    }
+
+    /// The numbers of the pixels of colours, in their order.
+    pub fn numbers_of(&self, alloc: Global, colors: &[Color]) -> Result<Vec<u32>, NoMemory>
+        requires { All (IsWithin self.now) colors.now }
+        ensures colors { IfOk result (λ numbers. map (number_color self.now) numbers.items ≡ colors.now) }
+        ensures numbers { IfOk result (λ numbers. All (IsNumber self.now) numbers.items) }
+    {
+        let mut numbers = Vec::with_capacity(alloc, colors.len())?;
+        for color in colors {
+            numbers.push(self.number_of(*color))?;
+        }
+        Ok(numbers)
     }
 
     /// The colour whose pixel has the number. Bits that belong to no channel play no part.
@@ -138,8 +152,7 @@ impl PixelFormat {
 // shift may lie beyond the number. It is the same for all pixels, so a loop over them finds it once.
 #[inline(always)]
 fn shift_of(channel: Channel) -> u32
-    requires { channel.max * 2 ^ channel.shift < 2 ^ 32 }
-    ensures below { result < 32 }
+    ensures below { (bits : ℕ) → 0 < bits → channel.max * 2 ^ channel.shift < 2 ^ bits → result < bits }
     ensures some { 0 < channel.max → result ≡ channel.shift }
 {
     if channel.max == 0 {
@@ -158,19 +171,6 @@ fn shifted(channel: Channel, value: u16) -> u32
     (value as u32) << shift_of(channel)
 }
 
-// The same as `shift_of` in a number of 16 bits.
-#[inline(always)]
-fn short_shift_of(channel: Channel) -> u32
-    requires { channel.max * 2 ^ channel.shift < 2 ^ 16 }
-    ensures below { result < 16 }
-    ensures some { 0 < channel.max → result ≡ channel.shift }
-{
-    if channel.max == 0 {
-        return 0;
-    }
-    channel.shift as u32
-}
-
 // A value of a channel, at its place in a pixel's number of 16 bits.
 #[inline(always)]
 fn short_shifted(channel: Channel, value: u16) -> u16
@@ -178,5 +178,5 @@ fn short_shifted(channel: Channel, value: u16) -> u16
     requires fits { channel.max * 2 ^ channel.shift < 2 ^ 16 }
     ensures { result ≡ value * 2 ^ channel.shift }
 {
-    value << short_shift_of(channel)
+    value << shift_of(channel)
 }

@@ -201,7 +201,7 @@ fn comes_through(
 {
     let colors = converted(alloc, format, picture)?;
     let mut bytes = vec![in alloc; 9, 9]?;
-    encode(format, w, h, &colors, &mut bytes)?;
+    encode(alloc, format, w, h, &colors, &mut bytes)?;
     let Some(data) = bytes.strip_prefix(&[9, 9]) else {
         return Ok(false);
     };
@@ -230,7 +230,7 @@ fn encoded(alloc: Global, w: u16, picture: &[Color]) -> Result<Vec<u8>, NoMemory
     let host = PixelFormat::host();
     let colors = converted(alloc, &host, picture)?;
     let mut bytes = Vec::new(alloc);
-    encode(&host, w, 1, &colors, &mut bytes)?;
+    encode(alloc, &host, w, 1, &colors, &mut bytes)?;
     Ok(bytes)
 }
 

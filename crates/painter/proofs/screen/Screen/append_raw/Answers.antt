@@ -6,7 +6,7 @@ use Rattle.rect_data.specs.declared.encoding.Encoding.TheVariants as encodings
 use Rattle.rect_codec.specs.Parts.{IsRectangle}
 use Rattle.painter.specs.Sent.{area_colors, sent_colors}
 use Rattle.painter.proofs.SentRows.{both_ok}
-use Rattle.painter.proofs.SentParts.{raw_rectangle}
+use Rattle.rect_codec.proofs.PartsDrawn.{raw_rectangle}
 use Rattle.painter.proofs.screen.Screen.append_raw.Goals as goal
 
 pub returns-clause-ok : goal.returns-clause-ok

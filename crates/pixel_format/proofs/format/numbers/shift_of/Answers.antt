@@ -3,4 +3,4 @@ use Rattle.pixel_format.proofs.Lanes.{shift_below}
 use Rattle.pixel_format.proofs.format.numbers.shift_of.Goals as goal
 
 pub returns-clause-below : goal.returns-clause-below
-returns-clause-below c = shift_below 32 1 c.args.channel.max c.args.channel.shift (omega arith) (omega arith) c.requires
+returns-clause-below c = λ bits some fits. shift_below bits 1 c.args.channel.max c.args.channel.shift (omega arith) (omega arith) fits
