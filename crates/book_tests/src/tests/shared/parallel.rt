@@ -362,7 +362,9 @@ fn view_all<D: Disk + Send, M: Mark + Send + Sync, R: Threads + Wait + Clock + S
     seen
 }
 
-// A host of so many updates and a flusher, each in a thread of its own where the order allows.
+// A host of so many updates and a flusher, each in a thread of its own where the order allows. Where
+// no thread can be made, `join` calls its second closure and then its first: the host comes first, as
+// the flusher waits for its end, and it waits for nobody while there is room.
 fn record<D: Disk + Send, M: Mark + Send + Sync, R: Threads + Wait + Clock + Sync>(
     rt: &R,
     alloc: Global,
@@ -373,13 +375,16 @@ fn record<D: Disk + Send, M: Mark + Send + Sync, R: Threads + Wait + Clock + Syn
     requires { (M.head.width ≡ 1) × (M.head.height ≡ 1) }
 {
     match gates.order {
-        Order::Free | Order::Meeting | Order::FailsAfter(_) => join(
-            rt,
-            move || -> Vec<Ticket<M>>
-                requires { (M.head.width ≡ 1) × (M.head.height ≡ 1) }
-            { host(rt, alloc, shared, gates, count) },
-            move || flush(rt, alloc, shared, gates),
-        ),
+        Order::Free | Order::Meeting | Order::FailsAfter(_) => {
+            let (committed, tickets) = join(
+                rt,
+                move || flush(rt, alloc, shared, gates),
+                move || -> Vec<Ticket<M>>
+                    requires { (M.head.width ≡ 1) × (M.head.height ≡ 1) }
+                { host(rt, alloc, shared, gates, count) },
+            );
+            (tickets, committed)
+        }
         Order::HostFirst => {
             let tickets = host(rt, alloc, shared, gates, count);
             gates.waiting.store(0, Ordering::SeqCst);
@@ -394,7 +399,8 @@ fn record<D: Disk + Send, M: Mark + Send + Sync, R: Threads + Wait + Clock + Syn
     }
 }
 
-// Both, and so many viewers.
+// Both, and so many viewers, who wait for the end of both and so come last where no thread can be
+// made.
 fn work<D: Disk + Send, M: Mark + Send + Sync, R: Threads + Wait + Clock + Sync>(
     rt: &R,
     alloc: Global,
@@ -405,14 +411,14 @@ fn work<D: Disk + Send, M: Mark + Send + Sync, R: Threads + Wait + Clock + Sync>
 ) -> Result<Told<M>, NoMemory>
     requires { (M.head.width ≡ 1) × (M.head.height ≡ 1) }
 {
-    let ((tickets, committed), seen) = join(
+    let (seen, (tickets, committed)) = join(
         rt,
-        move || -> (Vec<Ticket<M>>, Vec<Receipt<M>>)
-            requires { (M.head.width ≡ 1) × (M.head.height ≡ 1) }
-        { record(rt, alloc, shared, gates, count) },
         move || -> Result<Vec<Seen<M>>, NoMemory>
             requires { (M.head.width ≡ 1) × (M.head.height ≡ 1) }
         { view_all(rt, alloc, shared, gates, viewers) },
+        move || -> (Vec<Ticket<M>>, Vec<Receipt<M>>)
+            requires { (M.head.width ≡ 1) × (M.head.height ≡ 1) }
+        { record(rt, alloc, shared, gates, count) },
     );
     Ok(Told {
         tickets,
