@@ -1,8 +1,8 @@
 //! Updates of a screen, as a viewer is sent them.
 
-ghost use Rattle.std.specs.Prelude.{◌≡◌, ◌+◌, ◌<◌, ◌≤◌, ◌^◌, All, IfOk, OnOk, OnErr, length, take, true, false};
+ghost use Rattle.std.specs.Prelude.{◌≡◌, ◌+◌, ◌<◌, ◌≤◌, ◌^◌, All, OnOk, OnErr, length};
 ghost use Rattle.terms.specs.Appending.{Appends};
-ghost use Rattle.rect_codec.specs.Parts.{IsRectangle, IsRectangleFor, IsPart, AreParts};
+ghost use Rattle.rect_codec.specs.Parts.{IsRectangleFor, IsPart, AreParts};
 ghost use Rattle.painter.specs.Sent.{sent_colors};
 ghost use Rattle.painter.specs.SentUpdate.{part_of, parts_of, CanBeSent};
 
@@ -32,53 +32,8 @@ pub enum ScreenPart {
 }
 
 impl Screen {
-    // Appends a Raw rectangle of the places of an area.
-    fn append_raw(
-        &self,
-        format: &PixelFormat,
-        area: Area,
-        out: &mut Vec<u8>,
-    ) -> Result<(), NoMemory>
-        requires columns { area.x + area.w ≤ self.now.width }
-        requires rows { area.y + area.h ≤ self.now.height }
-        ensures ok { OnOk result (Appends (IsRectangle format.now area (sent_colors format.now self.now area) Encoding.Raw) out.old.items out.new.items) }
-        ensures err { OnErr result (out.new.items ≡ out.old.items) }
-    {
-        self.known_colors();
-        let start = out.len();
-        append_head(area, Encoding::Raw, out)?;
-        let appended = self.append_pixels(format, area, out);
-        whole_or_none(appended, start, out)
-    }
-
-    // Appends a rectangle of the places of an area in this encoding if it is shorter than one in Raw,
-    // and answers whether it is there: in Raw and CopyRect it never is.
-    fn append_shorter(
-        &self,
-        alloc: Global,
-        format: &PixelFormat,
-        area: Area,
-        encoding: Encoding,
-        out: &mut Vec<u8>,
-    ) -> Result<bool, NoMemory>
-        requires columns { area.x + area.w ≤ self.now.width }
-        requires rows { area.y + area.h ≤ self.now.height }
-        ensures ok { IfOk result (λ whole. whole ≡ true
-            → Appends (IsRectangleFor format.now area (sent_colors format.now self.now area) encoding) out.old.items out.new.items) }
-        ensures unchanged { IfOk result (λ whole. whole ≡ false → out.new.items ≡ out.old.items) }
-        ensures err { OnErr result (out.new.items ≡ out.old.items) }
-    {
-        self.known_colors();
-        match encoding {
-            Encoding::Rre | Encoding::Hextile => {
-                let numbers = self.numbers(alloc, format, area)?;
-                append_numbers(alloc, format, area, &numbers, encoding, out)
-            }
-            Encoding::Raw | Encoding::CopyRect => Ok(false),
-        }
-    }
-
-    // Appends a rectangle of the places of an area.
+    // Appends a rectangle of the places of an area: in this encoding if it is shorter so than in Raw,
+    // and else in Raw.
     fn append_places(
         &self,
         alloc: Global,
@@ -93,10 +48,16 @@ impl Screen {
         ensures err { OnErr result (out.new.items ≡ out.old.items) }
     {
         self.known_colors();
-        if self.append_shorter(alloc, format, area, encoding, out)? {
-            return Ok(());
+        if let Encoding::Rre | Encoding::Hextile = encoding {
+            let numbers = self.numbers(alloc, format, area)?;
+            if append_numbers(alloc, format, area, &numbers, encoding, out)? {
+                return Ok(());
+            }
         }
-        self.append_raw(format, area, out)
+        let start = out.len();
+        append_head(area, Encoding::Raw, out)?;
+        let appended = self.append_pixels(format, area, out);
+        whole_or_none(appended, start, out)
     }
 
     // Appends the rectangle of a part.
@@ -123,27 +84,6 @@ impl Screen {
         }
     }
 
-    // Appends an update of these parts, or a part of it.
-    fn append_parts(
-        &self,
-        alloc: Global,
-        format: &PixelFormat,
-        parts: &[ScreenPart],
-        out: &mut Vec<u8>,
-    ) -> Result<(), NoMemory>
-        requires count { length parts.now < 2 ^ 16 }
-        requires each { All (CanBeSent self.now) parts.now }
-        ensures ok { OnOk result (Appends (AreParts format.now (parts_of format.now self.now parts.now)) out.old.items out.new.items) }
-        ensures part { take (length out.old.items) out.new.items ≡ out.old.items }
-    {
-        let [count, count_low] = (parts.len() as u16).to_be_bytes();
-        out.extend_from_slice(&[0, 0, count, count_low])?;
-        for part in parts {
-            self.append_part(alloc, format, *part, out)?;
-        }
-        Ok(())
-    }
-
     /// Appends a FramebufferUpdate (RFC 6143, section 7.6.1) with a rectangle for each of these parts,
     /// in their order, as `rect_codec::write_parts` writes one of the screen's colours as the format
     /// has them; Raw straight from the screen. Want of memory leaves `out` as it was.
@@ -160,7 +100,14 @@ impl Screen {
         ensures err { OnErr result (out.new.items ≡ out.old.items) }
     {
         let start = out.len();
-        let appended = self.append_parts(alloc, format, parts, out);
-        whole_or_none(appended, start, out)
+        let [count, count_low] = (parts.len() as u16).to_be_bytes();
+        out.extend_from_slice(&[0, 0, count, count_low])?;
+        for part in parts {
+            if let Err(fault) = self.append_part(alloc, format, *part, out) {
+                out.truncate(start);
+                return Err(fault);
+            }
+        }
+        Ok(())
     }
 }

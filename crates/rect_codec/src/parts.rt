@@ -1,12 +1,13 @@
 //! Updates of several rectangles.
 
-ghost use Rattle.std.specs.Prelude.{◌≡◌, ◌<◌, ◌^◌, ◌++◌, All, OnOk, OnErr, length, take};
+ghost use Rattle.std.specs.Prelude.{◌≡◌, ◌<◌, ◌^◌, ◌++◌, All, OnOk, OnErr, length};
 ghost use Rattle.client_wire.specs.Written.{rectangle_head};
 ghost use Rattle.rect_data.specs.Data.{number_of};
 ghost use Rattle.terms.specs.Appending.{Appends};
 ghost use Rattle.rect_codec.specs.Parts.{CanBeWritten, IsPart, AreParts, source_bytes};
 
-use crate::update::{append_colors, append_head};
+use crate::numbers::append_numbers;
+use crate::update::{append_head, append_raw};
 use pixel_format::{Color, PixelFormat};
 use rect_data::Encoding;
 use std::alloc::Global;
@@ -66,28 +67,16 @@ fn append_part(
             area,
             colors,
             encoding,
-        } => append_colors(alloc, format, area, colors, encoding, out),
+        } => {
+            if let Encoding::Rre | Encoding::Hextile = encoding {
+                let numbers = format.numbers_of(alloc, colors)?;
+                if append_numbers(alloc, format, area, &numbers, encoding, out)? {
+                    return Ok(());
+                }
+            }
+            append_raw(format, area, colors, out)
+        }
     }
-}
-
-// Appends an update of these parts, or a part of it.
-fn append_parts(
-    alloc: Global,
-    format: &PixelFormat,
-    parts: &[Part],
-    out: &mut Vec<u8>,
-) -> Result<(), NoMemory>
-    requires count { length parts.now < 2 ^ 16 }
-    requires each { All (CanBeWritten format.now) parts.now }
-    ensures ok { OnOk result (Appends (AreParts format.now parts.now) out.old.items out.new.items) }
-    ensures part { take (length out.old.items) out.new.items ≡ out.old.items }
-{
-    let [count, count_low] = (parts.len() as u16).to_be_bytes();
-    out.extend_from_slice(&[0, 0, count, count_low])?;
-    for part in parts {
-        append_part(alloc, format, part, out)?;
-    }
-    Ok(())
 }
 
 /// Appends a FramebufferUpdate (RFC 6143, section 7.6.1) with a rectangle for each of these parts, in
@@ -106,6 +95,13 @@ pub fn write_parts(
     ensures err { OnErr result (out.new.items ≡ out.old.items) }
 {
     let start = out.len();
-    let appended = append_parts(alloc, format, parts, out);
-    whole_or_none(appended, start, out)
+    let [count, count_low] = (parts.len() as u16).to_be_bytes();
+    out.extend_from_slice(&[0, 0, count, count_low])?;
+    for part in parts {
+        if let Err(fault) = append_part(alloc, format, part, out) {
+            out.truncate(start);
+            return Err(fault);
+        }
+    }
+    Ok(())
 }

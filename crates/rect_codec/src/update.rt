@@ -6,9 +6,8 @@ ghost use Rattle.terms.specs.Appending.{Appends};
 ghost use Rattle.client_wire.specs.Written.{rectangle_head};
 ghost use Rattle.rect_data.specs.Data.{number_of};
 ghost use Rattle.rect_codec.specs.Written.{IsUpdateFor};
-ghost use Rattle.rect_codec.specs.Parts.{IsRectangle, IsRectangleFor};
+ghost use Rattle.rect_codec.specs.Parts.{IsRectangle};
 
-use crate::numbers::append_numbers;
 use crate::parts::{Part, write_parts};
 use crate::pixels::append_pixels;
 use pixel_format::{Color, PixelFormat};
@@ -29,8 +28,8 @@ pub fn append_head(area: Area, encoding: Encoding, out: &mut Vec<u8>) -> Result<
     ])
 }
 
-// Appends a Raw rectangle. Want of memory leaves `out` as it was.
-fn append_raw(
+/// Appends a rectangle in Raw. Want of memory leaves `out` as it was.
+pub(crate) fn append_raw(
     format: &PixelFormat,
     area: Area,
     colors: &[Color],
@@ -48,31 +47,6 @@ fn append_raw(
         return Err(fault);
     }
     Ok(())
-}
-
-/// Appends a rectangle that gives the places of its area these colours, in the encoding that is
-/// asked for where that makes it shorter than Raw, and else in Raw. Want of memory leaves `out` as it
-/// was.
-pub(crate) fn append_colors(
-    alloc: Global,
-    format: &PixelFormat,
-    area: Area,
-    colors: &[Color],
-    encoding: Encoding,
-    out: &mut Vec<u8>,
-) -> Result<(), NoMemory>
-    requires size { length colors.now ≡ area.h * area.w }
-    requires within { All (IsWithin format.now) colors.now }
-    ensures ok { OnOk result (Appends (IsRectangleFor format.now area colors.now encoding) out.old.items out.new.items) }
-    ensures err { OnErr result (out.new.items ≡ out.old.items) }
-{
-    if let Encoding::Rre | Encoding::Hextile = encoding {
-        let numbers = format.numbers_of(alloc, colors)?;
-        if append_numbers(alloc, format, area, &numbers, encoding, out)? {
-            return Ok(());
-        }
-    }
-    append_raw(format, area, colors, out)
 }
 
 /// Appends a FramebufferUpdate of one rectangle (RFC 6143, section 7.6.1) that gives the places of

@@ -1,9 +1,10 @@
 use Rattle.std.proofs.Common.{◌++◌, take, length}
 use Rattle.terms.specs.Appending.{Appends, AreEach}
 use Rattle.rect_codec.specs.Parts.{IsPart, parts_head}
-use Rattle.rect_codec.proofs.parts.append_parts.Given as goal
+use Rattle.painter.specs.SentUpdate.{parts_of}
+use Rattle.painter.proofs.screen.Screen.append_update.Given as goal
 
 -- the rectangles of the parts so far stand behind the head
 abbrev pub invariant-loop-part : goal.invariant-loop-part
 invariant-loop-part l =
-    Appends (AreEach (IsPart l.format) (take l.part-index l.parts)) (l.fn.out.items ++ parts_head (length l.parts)) l.out.items
+    Appends (AreEach (IsPart l.format) (take l.part-index (parts_of l.format l.self l.parts))) (l.fn.out.items ++ parts_head (length l.parts)) l.out.items

@@ -6,7 +6,7 @@ use Rattle.terms.specs.Appending.{Appends}
 use Rattle.terms.proofs.Appends.{each_more}
 use Rattle.painter.specs.SentUpdate.{part_of, parts_of}
 use Rattle.painter.proofs.SentParts.{no_part}
-use Rattle.painter.proofs.screen.Screen.append_parts.Goals as goal
+use Rattle.painter.proofs.screen.Screen.append_update.Goals as goal
 
 pub loop-part-preserved : goal.loop-part-preserved
 loop-part-preserved c =
@@ -18,4 +18,4 @@ loop-part-preserved c =
     let inside : k < length (parts_of f screen parts) = omega (arith, length-map parts (part_of f screen), less) in
     each_more (IsPart f) (parts_of f screen parts) k no_part (c.args.out.now.items ++ parts_head (length parts)) c.loop-part.out.items c.append_part.new.out.items
     inside c.loop-part.invariant
-    (subst (λ (p : Part). Appends (IsPart f p) c.loop-part.out.items c.append_part.new.out.items) (sym (get_or-map (part_of f screen) parts k _ no_part less)) c.in_ok-append_part.ensures.ok)
+    (subst (λ (p : Part). Appends (IsPart f p) c.loop-part.out.items c.append_part.new.out.items) (sym (get_or-map (part_of f screen) parts k _ no_part less)) c.in_default.ensures.ok)
