@@ -2,7 +2,7 @@
 use Rattle.std.proofs.Common.{◌≡◌, ℕ, ◌+◌, ◌≤◌, ◌⊎◌, List, [], ◌∷◌, length, map, inl, inr, ◌++◌, ◌*◌, refl, sym, ap, subst, ◌∙◌, arith}
 use Rattle.std.proofs.lemmas.List.{append-nil}
 use Rattle.pixel_format.specs.declared.Color.{Color}
-use Rattle.pixel_format.specs.Format.{Format, host_format}
+use Rattle.pixel_format.specs.Format.{Format, host_format, pixel_bytes}
 use Rattle.pixel_format.specs.Pixel.{converted}
 use Rattle.terms.specs.Appending.{Appends}
 use Rattle.terms.specs.declared.area.Area.{Area}
@@ -10,8 +10,7 @@ use Rattle.pixel_format.specs.Canvas.{Picture, rows_of}
 use Rattle.rect_data.specs.Data.{LiesWithin}
 use Rattle.rect_data.specs.declared.encoding.Encoding.{Encoding}
 use Rattle.rect_data.specs.declared.encoding.Encoding.TheVariants as encodings
-use Rattle.rect_codec.specs.Parts.{parts_head, AreParts}
-use Rattle.rect_codec.specs.Written.{IsUpdate, IsUpdateFor}
+use Rattle.rect_codec.specs.Parts.{parts_head, IsRectangle, IsUpdateFor, AreParts}
 use Rattle.rfb_wire.specs.Grammar.{message_limit}
 use Rattle.rfb_wire.specs.Host.{Host, host_of}
 use Rattle.rfb_wire.specs.Stream.{IsFor}
@@ -27,17 +26,17 @@ use Rattle.painter.proofs.Updates.{paints_colors, encoding_kept}
 from_none : (n : ℕ) → 0 + n ≡ n
 from_none n = omega arith
 
-key_of : (screen : Framebuffer) (colors : List Color) (e : Encoding) (bytes : List ℕ) (m : Host) → AreColorsOf screen (whole_area screen.width screen.height) colors
-    → (e ≡ encodings.Raw) ⊎ (e ≡ encodings.Hextile) → IsUpdate host_format (whole_area screen.width screen.height) colors e bytes → length bytes ≤ message_limit
+key_of : (screen : Framebuffer) (colors : List Color) (e : Encoding) (bytes one : List ℕ) (m : Host) → AreColorsOf screen (whole_area screen.width screen.height) colors
+    → (e ≡ encodings.Raw) ⊎ (e ≡ encodings.Hextile) → bytes ≡ parts_head 1 ++ one → IsRectangle host_format (whole_area screen.width screen.height) colors e one → length bytes ≤ message_limit
     → ((n : Host) → IsFor message_limit screen.width screen.height n → n.bytes ≡ bytes → m ≡ n) → IsKey screen.width screen.height (color_at screen) m
-key_of screen colors e bytes m are kind update short one =
+key_of screen colors e bytes one m are kind is rectangle short only =
     let w = screen.width in
     let h = screen.height in
     let inside : LiesWithin w h (whole_area w h) = record { columns = omega arith; rows = omega arith } in
-    let p = paints_colors w h (whole_area w h) colors e bytes update inside short in
+    let p = paints_colors w h (whole_area w h) colors e bytes one is rectangle inside short in
     let n : Host = host_of w h bytes (p.rectangle ∷ []) in
-    let kept = encoding_kept w h (whole_area w h) colors e bytes update inside short in
-    let is : m ≡ n = one n (record { width_is = refl; height_is = refl; recorded = p.recorded }) refl in
+    let kept = encoding_kept w h (whole_area w h) colors e bytes one is rectangle inside short in
+    let same : m ≡ n = only n (record { width_is = refl; height_is = refl; recorded = p.recorded }) refl in
     let key : IsKey w h (color_at screen) n = record {
       width_is = refl;
       height_is = refl;
@@ -51,7 +50,7 @@ key_of screen colors e bytes m are kind update short one =
           let shown : color_at screen (0 + x) (0 + y) ≡ color_at screen x y = ap (λ k. color_at screen k (0 + y)) (from_none x) ∙ ap (color_at screen x) (from_none y) in
           place ∙ here ∙ are.shows x y across down ∙ shown;
     } in
-    subst (λ (k : Host). IsKey w h (color_at screen) k) (sym is) key
+    subst (λ (k : Host). IsKey w h (color_at screen) k) (sym same) key
 
 -- where Hextile is asked for, it is Raw or Hextile
 kind_of : (e : Encoding) → (e ≡ encodings.Hextile) ⊎ (e ≡ encodings.Raw) → (e ≡ encodings.Raw) ⊎ (e ≡ encodings.Hextile)
@@ -67,15 +66,13 @@ same_colors (c ∷ colors) = rw (same_color c, same_colors colors) refl
 single : (f : Format) (screen : Framebuffer) (area : Area) (asked : Encoding) (bytes : List ℕ) → AreParts f (parts_of f screen (screen_parts.Places area asked ∷ [])) bytes
     → IsUpdateFor f area (sent_colors f screen area) asked bytes
 single f screen area asked bytes u =
-    let r = u.are.3 in
     let body : u.body ≡ u.are.0 = u.are.2 ∙ ap (λ z. u.are.0 ++ z) u.are.4 ∙ append-nil u.are.0 in
-    let whole : bytes ≡ parts_head 1 ++ u.are.0 = u.bytes_are ∙ ap (λ z. parts_head 1 ++ z) body in
-    record {
-      encoding = r.encoding;
-      encoding_is = r.encoding_is;
-      is = record { body = r.is.body; bytes_are = whole ∙ ap (λ z. parts_head 1 ++ z) r.is.bytes_are; shows = r.is.shows };
-      short = omega (arith, ap length whole, r.short);
-    }
+    record { rectangle = u.are.0; bytes_are = u.bytes_are ∙ ap (λ z. parts_head 1 ++ z) body; is = u.are.3 }
+
+no_longer : (f : Format) (area : Area) (colors : List Color) (asked : Encoding) (bytes : List ℕ) → IsUpdateFor f area colors asked bytes → length bytes ≤ 16 + area.h * area.w * pixel_bytes f
+no_longer f area colors asked bytes u =
+    let whole = ap length u.bytes_are in
+    omega (arith, whole, u.is.short)
 
 -- the whole screen as one message
 abbrev pub whole_update : Framebuffer → ℕ × ℕ → List ℕ → Type 0
@@ -96,7 +93,7 @@ key_made screen size is few are empty bytes told first updated are_told m one =
     let sent = single host_format screen area encodings.Hextile bytes (subst Q is (alone (whole_update screen size) empty bytes first updated)) in
     let update : IsUpdateFor host_format area (area_colors screen area) encodings.Hextile bytes =
     subst (λ l. IsUpdateFor host_format area l encodings.Hextile bytes) (same_colors (area_colors screen area)) sent in
-    let short : length bytes ≤ message_limit = omega (arith, update.short, few) in
+    let short : length bytes ≤ message_limit = omega (arith, no_longer host_format area (area_colors screen area) encodings.Hextile bytes update, few) in
     let S : ℕ × ℕ → Type 0 = λ s. (n : Host) → IsFor message_limit s.0 s.1 n → n.bytes ≡ told → m ≡ n in
     let only = subst S is one in
-    key_of screen (area_colors screen area) update.encoding bytes m are (kind_of update.encoding update.encoding_is) update.is short (λ n for equal. only n for (equal ∙ sym are_told))
+    key_of screen (area_colors screen area) update.is.encoding bytes update.rectangle m are (kind_of update.is.encoding update.is.encoding_is) update.bytes_are update.is.is short (λ n for equal. only n for (equal ∙ sym are_told))

@@ -12,7 +12,8 @@ use Rattle.rect_data.specs.declared.encoding.Encoding.TheVariants as encodings
 use Rattle.rect_codec.specs.Picture.{painted_data}
 use Rattle.rect_codec.specs.Update.{HasColors}
 use Rattle.client_wire.specs.Written.{rectangle_head}
-use Rattle.rect_codec.specs.Written.{Shows, IsUpdate, update_head}
+use Rattle.rect_codec.specs.Parts.{parts_head, IsRectangle as IsRectangleIn}
+use Rattle.rect_codec.specs.Written.{Shows}
 use Rattle.rect_codec.proofs.Drawing.{has_colors}
 use Rattle.rfb_wire.specs.declared.message.Rectangle.{Rectangle}
 use Rattle.rfb_wire.specs.Grammar.{message_limit, area_of, encoding_number}
@@ -58,10 +59,10 @@ is_rectangle width height area colors e body inside shows = record {
   end_is = refl;
 }
 
-is_message : (width height : ℕ) (area : Area) (colors : List Color) (e : Encoding) (bytes : List ℕ) → (u : IsUpdate host_format area colors e bytes) → LiesWithin width height area
-    → length bytes ≤ message_limit → IsMessage message_limit width height bytes (rectangle_of area e u.body ∷ [])
-is_message width height area colors e bytes u inside short =
-    let first : List ℕ = rectangle_head area (number_of e) ++ u.body in
+is_message : (width height : ℕ) (area : Area) (colors : List Color) (e : Encoding) (bytes one : List ℕ) → bytes ≡ parts_head 1 ++ one → (r : IsRectangleIn host_format area colors e one)
+    → LiesWithin width height area → length bytes ≤ message_limit → IsMessage message_limit width height bytes (rectangle_of area e r.body ∷ [])
+is_message width height area colors e bytes one is r inside short =
+    let first : List ℕ = rectangle_head area (number_of e) ++ r.body in
     record {
       kind = inl (
         record {
@@ -69,9 +70,9 @@ is_message width height area colors e bytes u inside short =
           high = 0;
           low = 1;
           body = first;
-          bytes_are = u.bytes_are;
+          bytes_are = is ∙ ap (λ z. parts_head 1 ++ z) r.bytes_are;
           count_is = refl;
-          body_is = (first, [], sym (append-nil first), is_rectangle width height area colors e u.body inside u.shows, refl);
+          body_is = (first, [], sym (append-nil first), is_rectangle width height area colors e r.body inside r.shows, refl);
         },
         short,
       );
@@ -79,30 +80,31 @@ is_message width height area colors e bytes u inside short =
     }
 
 -- the data of the rectangle
-data_of : (area : Area) (colors : List Color) (e : Encoding) (bytes : List ℕ) → (u : IsUpdate host_format area colors e bytes) → slice_range bytes 16 (16 + length u.body) ≡ u.body
-data_of area colors e bytes u =
-    ap (λ (z : List ℕ). slice_range z 16 (16 + length u.body)) u.bytes_are
-    ∙ ap (λ (z : List ℕ). take (16 + length u.body - 16) z) (drop_at (update_head area e) u.body 16 refl)
-    ∙ take_all (16 + length u.body - 16) u.body (omega arith)
+data_of : (area : Area) (colors : List Color) (e : Encoding) (bytes one : List ℕ) → bytes ≡ parts_head 1 ++ one → (r : IsRectangleIn host_format area colors e one)
+    → slice_range bytes 16 (16 + length r.body) ≡ r.body
+data_of area colors e bytes one is r =
+    ap (λ (z : List ℕ). slice_range z 16 (16 + length r.body)) (is ∙ ap (λ z. parts_head 1 ++ z) r.bytes_are)
+    ∙ ap (λ (z : List ℕ). take (16 + length r.body - 16) z) (drop_at (parts_head 1 ++ rectangle_head area (number_of e)) r.body 16 refl)
+    ∙ take_all (16 + length r.body - 16) r.body (omega arith)
 
 one_painted : (bytes : List ℕ) (r : Rectangle) (before : Picture) → painted_rectangles bytes (r ∷ []) before ≡ painted_data host_format r.encoding r.area (slice_range bytes r.start r.end) before
 unfolding painted_rectangles
 one_painted bytes r before = refl
 
-pub paints_colors : (width height : ℕ) (area : Area) (colors : List Color) (e : Encoding) (bytes : List ℕ) → IsUpdate host_format area colors e bytes → LiesWithin width height area
-    → length bytes ≤ message_limit → PaintsColors width height area colors bytes
-paints_colors width height area colors e bytes u inside short =
-    let r = rectangle_of area e u.body in
+pub paints_colors : (width height : ℕ) (area : Area) (colors : List Color) (e : Encoding) (bytes one : List ℕ) → bytes ≡ parts_head 1 ++ one → IsRectangleIn host_format area colors e one
+    → LiesWithin width height area → length bytes ≤ message_limit → PaintsColors width height area colors bytes
+paints_colors width height area colors e bytes one is r inside short =
+    let rectangle = rectangle_of area e r.body in
     record {
-      rectangle = r;
+      rectangle = rectangle;
       area_is = refl;
-      recorded = message_is_read message_limit width height bytes (r ∷ []) (is_message width height area colors e bytes u inside short);
+      recorded = message_is_read message_limit width height bytes (rectangle ∷ []) (is_message width height area colors e bytes one is r inside short);
       paints = λ before.
-          let painted = one_painted bytes r before ∙ ap (λ (z : List ℕ). painted_data host_format e area z before) (data_of area colors e bytes u) in
-          subst (λ (p : Picture). HasColors area colors before p) (sym painted) (has_colors host_format area e u.body colors before u.shows);
+          let painted = one_painted bytes rectangle before ∙ ap (λ (z : List ℕ). painted_data host_format e area z before) (data_of area colors e bytes one is r) in
+          subst (λ (p : Picture). HasColors area colors before p) (sym painted) (has_colors host_format area e r.body colors before r.shows);
     }
 
-pub encoding_kept : (width height : ℕ) (area : Area) (colors : List Color) (e : Encoding) (bytes : List ℕ) (u : IsUpdate host_format area colors e bytes) (inside : LiesWithin width height area)
-    (short : length bytes ≤ message_limit) → (paints_colors width height area colors e bytes u inside short).rectangle.encoding ≡ e
+pub encoding_kept : (width height : ℕ) (area : Area) (colors : List Color) (e : Encoding) (bytes one : List ℕ) (is : bytes ≡ parts_head 1 ++ one) (r : IsRectangleIn host_format area colors e one)
+    (inside : LiesWithin width height area) (short : length bytes ≤ message_limit) → (paints_colors width height area colors e bytes one is r inside short).rectangle.encoding ≡ e
 unfolding paints_colors
-encoding_kept width height area colors e bytes u inside short = refl
+encoding_kept width height area colors e bytes one is r inside short = refl

@@ -21,7 +21,8 @@ use Rattle.rect_data.proofs.Local.{data_local}
 use Rattle.rect_data.proofs.Steps.{pixels_whole}
 use Rattle.rect_codec.specs.Picture.{is_in, raw_picture, rre_shown, hextile_shown, picture_of, painted_data}
 use Rattle.client_wire.specs.Written.{rectangle_head}
-use Rattle.rect_codec.specs.Written.{Shows, IsUpdate}
+use Rattle.rect_codec.specs.Parts.{parts_head, IsRectangle}
+use Rattle.rect_codec.specs.Written.{Shows}
 use Rattle.rect_codec.specs.Update.{area_of, rectangle_at, rectangles_at, update_at, HasColors, DrawsColors}
 
 -- the data of a rectangle that was written are read whole
@@ -109,22 +110,23 @@ pub inside_is : (width height : ℕ) (area : Area) → LiesWithin width height a
 unfolding is_inside
 inside_is width height area is = rw (le-leb (area.x + area.w) width is.columns, le-leb (area.y + area.h) height is.rows) refl
 
--- an update that was written is read as its one rectangle
-update_read : (f : Format) (width height : ℕ) (area : Area) (colors : List Color) (e : Encoding) (bytes : List ℕ) → LiesWithin width height area → (u : IsUpdate f area colors e bytes)
-    → update_at f width height bytes ≡ Got (record { area = area; encoding = e; content = u.body } ∷ []) []
+-- an update of one rectangle is read as that
+update_read : (f : Format) (width height : ℕ) (area : Area) (colors : List Color) (e : Encoding) (bytes one : List ℕ) → LiesWithin width height area
+    → bytes ≡ parts_head 1 ++ one → (r : IsRectangle f area colors e one)
+    → update_at f width height bytes ≡ Got (record { area = area; encoding = e; content = r.body } ∷ []) []
 unfolding update_at rectangles_at
-update_read f width height area colors e bytes inside u =
-    let rest : List ℕ = rectangle_head area (number_of e) ++ u.body in
-    let head = field-whole {E = WireFault} 4 (0 ∷ 0 ∷ 0 ∷ 1 ∷ []) rest refl in
-    let whole = data_read f width height area e u.body [] (data_whole f width height area e u.body colors u.shows) in
-    let one = ap (rectangle_at f width height) (sym (append-nil rest)) ∙ rectangle_read f width height area (number_of e) e u.body [] (inside_is width height area inside) (encoding_is e) whole in
-    ap (update_at f width height) u.bytes_are ∙ rw (head, one) refl
+update_read f width height area colors e bytes one inside is r =
+    let rest : List ℕ = rectangle_head area (number_of e) ++ r.body in
+    let head = field-whole {E = WireFault} 4 (parts_head 1) rest refl in
+    let whole = data_read f width height area e r.body [] (data_whole f width height area e r.body colors r.shows) in
+    let first = ap (rectangle_at f width height) (sym (append-nil rest)) ∙ rectangle_read f width height area (number_of e) e r.body [] (inside_is width height area inside) (encoding_is e) whole in
+    ap (update_at f width height) (is ∙ ap (λ z. parts_head 1 ++ z) r.bytes_are) ∙ rw (head, first) refl
 
-pub draws_colors : (f : Format) (width height : ℕ) (area : Area) (colors : List Color) (e : Encoding) (bytes : List ℕ) → LiesWithin width height area → IsUpdate f area colors e bytes
-    → DrawsColors f width height area colors bytes
-draws_colors f width height area colors e bytes inside u = record {
-  drawn = record { area = area; encoding = e; content = u.body };
+pub draws_colors : (f : Format) (width height : ℕ) (area : Area) (colors : List Color) (e : Encoding) (bytes one : List ℕ) → LiesWithin width height area
+    → bytes ≡ parts_head 1 ++ one → IsRectangle f area colors e one → DrawsColors f width height area colors bytes
+draws_colors f width height area colors e bytes one inside is r = record {
+  drawn = record { area = area; encoding = e; content = r.body };
   area_is = refl;
-  reads = update_read f width height area colors e bytes inside u;
-  paints = λ before. has_colors f area e u.body colors before u.shows;
+  reads = update_read f width height area colors e bytes one inside is r;
+  paints = λ before. has_colors f area e r.body colors before r.shows;
 }

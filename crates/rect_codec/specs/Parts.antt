@@ -48,6 +48,12 @@ pub record IsRectangleFor (f : Format) (area : Area) (colors : List Color) (aske
   pub is : IsRectangle f area colors encoding bytes
   pub short : length bytes ≤ 12 + area.h * area.w * pixel_bytes f
 
+-- an update of one rectangle for one who asked for an encoding
+pub record IsUpdateFor (f : Format) (area : Area) (colors : List Color) (asked : Encoding) (bytes : List ℕ) : Type 0 where
+  pub rectangle : List ℕ
+  pub bytes_are : bytes ≡ parts_head 1 ++ rectangle
+  pub is : IsRectangleFor f area colors asked rectangle
+
 -- a rectangle that copies an area from (x, y) on
 abbrev pub IsCopy : Area → ℕ → ℕ → List ℕ → Type 0
 IsCopy area x y bytes = bytes ≡ rectangle_head area (number_of encodings.CopyRect) ++ source_bytes x y

@@ -1,17 +1,14 @@
--- Updates of one rectangle, as they are written (RFC 6143, sections 7.6.1 and 7.7). Padding is 0,
--- and so are the bits of a pixel that belong to no channel.
-use Rattle.std.specs.Prelude.{◌≡◌, ℕ, ◌+◌, ◌*◌, ◌<◌, ◌≤◌, ◌⊎◌, List, ◌++◌, length}
+-- The data of rectangles, as they are written (RFC 6143, section 7.7). The bits of a pixel that
+-- belong to no channel are 0.
+use Rattle.std.specs.Prelude.{◌≡◌, ℕ, ◌*◌, ◌<◌, List, length}
 use Rattle.pixel_format.specs.declared.Color.{Color}
 use Rattle.pixel_format.specs.Format.{Format, pixel_bytes}
 use Rattle.pixel_format.specs.Pixel.{pixel_color, pixel_of}
 use Rattle.pixel_format.specs.Canvas.{Agree, nth, rows_of, pixel_rows}
-use Rattle.terms.specs.declared.area.Area.{Area}
-use Rattle.client_wire.specs.Written.{one_rectangle_head}
 use Rattle.rre.specs.Encoded as rre
 use Rattle.hextile.specs.Encoded as hextile
 use Rattle.rect_data.specs.declared.encoding.Encoding.{Encoding}
 use Rattle.rect_data.specs.declared.encoding.Encoding.TheVariants as encodings
-use Rattle.rect_data.specs.Data.{number_of}
 use Rattle.rect_codec.specs.Picture.{pixel_at}
 
 -- the pixel of a colour, as it is written
@@ -37,21 +34,3 @@ Shows encodings.Raw f w h colors bytes = ShowsRaw f w h colors bytes
 Shows encodings.CopyRect f w h colors bytes = ⊥
 Shows encodings.Rre f w h colors bytes = rre.Shows f w h colors bytes
 Shows encodings.Hextile f w h colors bytes = hextile.Shows f w h colors bytes
-
--- what stands before the data of an update of one rectangle in this encoding
-abbrev pub update_head : Area → Encoding → List ℕ
-update_head a encoding = one_rectangle_head a (number_of encoding)
-
--- an update of one rectangle in this encoding, whose data show the colours, by rows, at the places
--- of its area
-pub record IsUpdate (f : Format) (area : Area) (colors : List Color) (encoding : Encoding) (bytes : List ℕ) : Type 0 where
-  pub body : List ℕ
-  pub bytes_are : bytes ≡ update_head area encoding ++ body
-  pub shows : Shows encoding f area.w area.h colors body
-
--- an update for one who asked for an encoding: in that one or in Raw, and never longer than in Raw
-pub record IsUpdateFor (f : Format) (area : Area) (colors : List Color) (asked : Encoding) (bytes : List ℕ) : Type 0 where
-  pub encoding : Encoding
-  pub encoding_is : (encoding ≡ asked) ⊎ (encoding ≡ encodings.Raw)
-  pub is : IsUpdate f area colors encoding bytes
-  pub short : length bytes ≤ 16 + area.h * area.w * pixel_bytes f

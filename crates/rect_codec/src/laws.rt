@@ -7,9 +7,8 @@ ghost use Rattle.terms.specs.declared.area.Area.{Area};
 ghost use Rattle.rect_data.specs.Data.{LiesWithin};
 ghost use Rattle.rect_data.specs.declared.encoding.Encoding.{Encoding};
 ghost use Rattle.rect_codec.specs.declared.parts.Part.{Part};
-ghost use Rattle.rect_codec.specs.Parts.{AreParts, PartLiesWithin, DrawsParts};
+ghost use Rattle.rect_codec.specs.Parts.{IsUpdateFor, AreParts, PartLiesWithin, DrawsParts};
 ghost use Rattle.rect_codec.specs.Update.{DrawsColors};
-ghost use Rattle.rect_codec.specs.Written.{IsUpdateFor};
 
 /// What `write_update` appends is read whole, in its format and on any screen that holds the area,
 /// as one rectangle of that area. Painted over any picture, it gives the places of the area the

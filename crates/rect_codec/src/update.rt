@@ -5,8 +5,7 @@ ghost use Rattle.pixel_format.specs.Pixel.{IsWithin};
 ghost use Rattle.terms.specs.Appending.{Appends};
 ghost use Rattle.client_wire.specs.Written.{rectangle_head};
 ghost use Rattle.rect_data.specs.Data.{number_of};
-ghost use Rattle.rect_codec.specs.Written.{IsUpdateFor};
-ghost use Rattle.rect_codec.specs.Parts.{IsRectangle};
+ghost use Rattle.rect_codec.specs.Parts.{IsRectangle, IsUpdateFor};
 
 use crate::parts::{Part, write_parts};
 use crate::pixels::append_pixels;
