@@ -1,28 +1,12 @@
 -- Places in an area, and elements of a list after a part of it was written.
-use Rattle.std.proofs.Common.{◌≡◌, ℕ, ◌+◌, ◌*◌, ◌<◌, ◌≤◌, true, List, length, get_or, inl, inr, refl, sym, ◌∙◌, arith, rules}
-use Rattle.std.proofs.lemmas.Bool.{and_parts, ltb-true, leb-true, lt-ltb, le-leb, cases_Bool, false_from_ne_true}
+use Rattle.std.proofs.Common.{◌≡◌, ℕ, ◌+◌, ◌*◌, ◌<◌, ◌≤◌, List, length, get_or, inl, inr, sym, ◌∙◌, arith, rules}
+use Rattle.std.proofs.lemmas.Bool.{cases_Bool, false_from_ne_true}
 use Rattle.std.proofs.lemmas.List.{places}
 use borrow.Rule.Slice.PartMut.{put_mid}
 use Rattle.std.proofs.lemmas.Nat.{mul-add-lt}
 use Rattle.terms.specs.declared.area.Area.{Area}
+pub use Rattle.terms.proofs.Areas.{IsIn, in_is, is_in_true}
 use Rattle.rect_codec.specs.Picture.{is_in}
-
--- the place lies in the area, as a fact
-pub record IsIn (area : Area) (x y : ℕ) : Type 0 where
-  pub left : area.x ≤ x
-  pub right : x < area.x + area.w
-  pub top : area.y ≤ y
-  pub bottom : y < area.y + area.h
-
-pub in_is : (area : Area) (x y : ℕ) → is_in area x y ≡ true → IsIn area x y
-in_is area x y e =
-    let parts = and_parts _ _ e in
-    let columns = and_parts _ _ parts.0 in
-    let rows = and_parts _ _ parts.1 in
-    record { left = leb-true _ _ columns.0; right = ltb-true _ _ columns.1; top = leb-true _ _ rows.0; bottom = ltb-true _ _ rows.1 }
-
-pub is_in_true : (area : Area) (x y : ℕ) → IsIn area x y → is_in area x y ≡ true
-is_in_true area x y h = rw (le-leb area.x x h.left, lt-ltb x (area.x + area.w) h.right, le-leb area.y y h.top, lt-ltb y (area.y + area.h) h.bottom) refl
 
 -- two areas that agree on a place
 pub same_in : (a b : Area) (x y : ℕ) → (IsIn a x y → IsIn b x y) → (IsIn b x y → IsIn a x y) → is_in a x y ≡ is_in b x y

@@ -8,6 +8,7 @@ use Rattle.std.proofs.lemmas.Nat.{leading_top, le-div, div_below}
 use Rattle.std.proofs.lemmas.Bool.{cases_Bool, cases_lt, cases_order, and_parts, ltb-true, leb-true, lt-ltb, le-leb, false_from_ne_true}
 use Rattle.std.proofs.lemmas.List.{get_or-set_same, get_or-set_other}
 use Rattle.std.proofs.lemmas.Nat.Bits.{bit_at_and, bit_at_or, bit_at_not, bit_at-lt, ones_shl, ones_shr, bit_at_ones, bit_at_ones_above, bit_at_mask_inside, bit_at_mask_below, bit_at-zero, bit_at-trailing_zeros, bit_at_above}
+use Rattle.terms.proofs.Areas.{or_left, or_right, or_parts}
 use Rattle.place_sets.specs.Bits.{bit, is_set, is_between, AreEnds, AreEndsOf, IsFirst}
 use Rattle.place_sets.specs.declared.bits.Ends.{Ends}
 
@@ -255,17 +256,6 @@ turned true true = refl
 turned true false = refl
 turned false true = refl
 turned false false = refl
-
-pub or_left : (a b : Bool) → a ≡ true → (a || b) ≡ true
-or_left a b e = rw e refl
-
-pub or_right : (a b : Bool) → b ≡ true → (a || b) ≡ true
-or_right true b e = refl
-or_right false b e = e
-
-pub or_parts : (a b : Bool) → (a || b) ≡ true → (a ≡ true) ⊎ (b ≡ true)
-or_parts true b e = inl refl
-or_parts false b e = inr e
 
 pub ends_joined : (p q : ℕ → Bool) (ends behind : Ends) → AreEnds p ends → AreEnds q behind → ((k l : ℕ) → p k ≡ true → q l ≡ true → k ≤ l)
     → AreEnds (λ k. p k || q k) (record { first = ends.first; last = behind.last })
