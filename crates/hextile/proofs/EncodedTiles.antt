@@ -3,7 +3,7 @@ use Rattle.std.proofs.Common.{◌≡◌, ℕ, ◌+◌, ◌*◌, ◌/◌, ◌%◌
 use Rattle.std.specs.Prelude.{None, All}
 use Rattle.std.specs.List.{flat_map}
 use Rattle.std.proofs.lemmas.Grind.{flat_map-append}
-use Rattle.std.proofs.Math.Nat.{mod-lt, div-lt_iff_lt-mul, mul_comm, mul-le-mul}
+use Rattle.std.proofs.Math.Nat.{mul-le-mul}
 use Rattle.pixel_format.specs.Pixel.{IsWithin}
 use Rattle.std.proofs.lemmas.Bool.{cases_eq}
 use Rattle.std.proofs.lemmas.List.{append-nil, get_or-take, get_or_default, length-take-le}
@@ -19,7 +19,7 @@ use Rattle.hextile.specs.Grammar.{Tile}
 use Rattle.hextile.specs.Data.{IsTile, AreTiles, onto}
 use Rattle.hextile.specs.Picture.{latest_picture, tiles_picture}
 use Rattle.hextile.specs.Encoded.{tile_bytes, AreTileColors, IsKnown, ShowsTile, Shows}
-use Rattle.hextile.proofs.Tiling.{in_its_tile, number_within, some_places, some_width, tile_across, tile_down}
+use Rattle.hextile.proofs.Tiling.{in_its_tile, number_within, place_inside}
 use Rattle.hextile.proofs.PaintedTiles.{upto_same, upto_other}
 
 -- ---- one tile more
@@ -174,14 +174,9 @@ pub tile_within : (f : Format) (w h : ℕ) (colors tile : List Color) (number tw
     → length colors ≡ h * w → AreTileColors colors w (tile_left w number) (tile_top w number) tw tile (tw * th) → tw * th ≤ length tile
     → All (IsWithin f) colors → All (IsWithin f) (take (tw * th) tile)
 tile_within f w h colors tile number tw th less tw_is th_is size are fits within = λ k d in_it.
-    let some = some_places w h number less in
     let short : k < tw * th = omega (arith, length-take-le (tw * th) tile fits, in_it) in
-    let wide : 0 < tw = rw tw_is (some_width w number some.0) in
-    let across : tile_left w number + k % tw < w = let m = mod-lt k wide in let t = tile_across w number some.0 in omega (arith, tw_is) in
-    let down : tile_top w number + k / tw < h =
-    let m = (div-lt_iff_lt-mul {x = k} {y = th} wide).1 (rw (mul_comm th tw) short) in let t = tile_down w h number some.0 less in omega (arith, th_is) in
     let at : (tile_top w number + k / tw) * w + (tile_left w number + k % tw) < length colors =
-    rw size (rw (mul_comm h w) (mul-add-lt (tile_top w number + k / tw) w (tile_left w number + k % tw) h down across)) in
+    rw size (place_inside w h number tw th k less tw_is th_is short) in
     let is : get_or (take (tw * th) tile) k d ≡ nth colors ((tile_top w number + k / tw) * w + (tile_left w number + k % tw)) =
     get_or-take (tw * th) tile k d short ∙ get_or_default tile k d black (omega (arith, short, fits)) ∙ are k short in
     subst (λ (z : Color). IsWithin f z) (sym is) (within ((tile_top w number + k / tw) * w + (tile_left w number + k % tw)) black at)

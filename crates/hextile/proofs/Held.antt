@@ -1,10 +1,10 @@
 -- The colours with which tiles are painted are those of pixels, or black.
 use Rattle.std.proofs.Common.{◌≡◌, ℕ, inl, inr, true, false, Bool, List, [], take, refl}
 use Rattle.std.specs.Prelude.{unwrap_or}
-use Rattle.std.proofs.Math.Nat.{zero-div, zero-mod}
 use Rattle.pixel_format.specs.declared.Color.{Color}
-use Rattle.pixel_format.specs.Format.{Channel, Format, pixel_bytes}
-use Rattle.pixel_format.specs.Pixel.{pixel_number, channel_value, pixel_color}
+use Rattle.pixel_format.specs.Format.{Format, pixel_bytes}
+use Rattle.pixel_format.specs.Pixel.{pixel_number, pixel_color}
+use Rattle.pixel_format.proofs.Numbers.{no_value}
 use Rattle.terms.proofs.Readings.{true_or_false}
 use Rattle.hextile.specs.Grammar.{color_if}
 
@@ -13,9 +13,6 @@ no_number f = elim (true_or_false f.big_endian) [
   | inl t ↦ rw t refl
   | inr t ↦ rw t refl
 ]
-
-no_value : (c : Channel) → channel_value c 0 ≡ 0
-no_value c = rw (zero-div, zero-mod) refl
 
 -- black is the colour of a pixel all of whose bits are 0
 pub black_pixel : (f : Format) → pixel_color f [] ≡ record { r = 0; g = 0; b = 0 }

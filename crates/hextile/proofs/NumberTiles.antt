@@ -1,28 +1,15 @@
 -- Tiles whose pixels are numbers, and the colours of these.
-use Rattle.std.proofs.Common.{◌≡◌, ℕ, zero, suc, ◌+◌, ◌*◌, ◌/◌, ◌%◌, ◌<◌, ◌≤◌, Bool, true, false, cond, inl, inr, List, [], ◌∷◌, length, set, take, get_or, refl, sym, ap, subst, ◌∙◌, arith}
+use Rattle.std.proofs.Common.{◌≡◌, ℕ, ◌+◌, ◌*◌, ◌/◌, ◌%◌, ◌<◌, ◌≤◌, Bool, true, false, cond, inl, inr, List, length, set, take, get_or, refl, sym, ap, subst, ◌∙◌, arith}
 use Rattle.std.specs.Prelude.{All}
-use Rattle.std.proofs.Math.Nat.{zero-div, zero-mod, mod-lt, div-lt_iff_lt-mul, mul_comm}
 use Rattle.std.proofs.lemmas.Bool.{cases_eq}
 use Rattle.std.proofs.lemmas.List.{get_or-set_same, get_or-set_other, get_or-take, get_or_default, length-take-le}
-use Rattle.std.proofs.lemmas.Nat.{mul-add-lt}
-use Rattle.pixel_format.specs.declared.Color.{Color}
-use Rattle.pixel_format.specs.Format.{Channel, Format}
-use Rattle.pixel_format.specs.Pixel.{channel_value}
+use Rattle.pixel_format.specs.Format.{Format}
 use Rattle.pixel_format.specs.Number.{number_color, IsNumber}
-use Rattle.pixel_format.specs.Canvas.{nth}
+use Rattle.pixel_format.proofs.Numbers.{color_nth}
 use Rattle.hextile.specs.Tiles.{tile_count, tile_left, tile_top, tile_width, tile_height}
 use Rattle.hextile.specs.Encoded.{AreTileColors}
 use Rattle.hextile.specs.Numbered.{colors_of, AreTileNumbers}
-use Rattle.hextile.proofs.Tiling.{some_places, some_width, tile_across, tile_down}
-
-no_value : (c : Channel) → channel_value c 0 ≡ 0
-no_value c = rw (zero-div, zero-mod) refl
-
--- the colour of a place is that of its number
-pub color_nth : (f : Format) (numbers : List ℕ) (k : ℕ) → nth (colors_of f numbers) k ≡ number_color f (get_or numbers k 0)
-color_nth f [] k = rw (no_value f.red, no_value f.green, no_value f.blue) refl
-color_nth f (n ∷ numbers) zero = refl
-color_nth f (n ∷ numbers) (suc k) = color_nth f numbers k
+use Rattle.hextile.proofs.Tiling.{place_inside}
 
 pub color_if : (f : Format) (b : Bool) (m n : ℕ) → number_color f (cond b m n) ≡ cond b (number_color f m) (number_color f n)
 color_if f true m n = refl
@@ -57,11 +44,6 @@ pub numbers_within : (f : Format) (w h : ℕ) (numbers tile : List ℕ) (number 
     → length numbers ≡ h * w → AreTileNumbers numbers w (tile_left w number) (tile_top w number) tw tile (tw * th)
     → All (IsNumber f) numbers → AreNumbersUpto f tile (tw * th)
 numbers_within f w h numbers tile number tw th less tw_is th_is size are within = λ k short.
-    let some = some_places w h number less in
-    let wide : 0 < tw = rw tw_is (some_width w number some.0) in
-    let across : tile_left w number + k % tw < w = let m = mod-lt k wide in let t = tile_across w number some.0 in omega (arith, tw_is) in
-    let down : tile_top w number + k / tw < h =
-    let m = (div-lt_iff_lt-mul {x = k} {y = th} wide).1 (rw (mul_comm th tw) short) in let t = tile_down w h number some.0 less in omega (arith, th_is) in
     let at : (tile_top w number + k / tw) * w + (tile_left w number + k % tw) < length numbers =
-    rw size (rw (mul_comm h w) (mul-add-lt (tile_top w number + k / tw) w (tile_left w number + k % tw) h down across)) in
+    rw size (place_inside w h number tw th k less tw_is th_is short) in
     subst (IsNumber f) (sym (are k short)) (within ((tile_top w number + k / tw) * w + (tile_left w number + k % tw)) 0 at)

@@ -126,3 +126,14 @@ tile_across w number some = let left = left_within w number some in omega arith
 
 pub tile_down : (w h number : ℕ) → 0 < w → number < tile_count w h → tile_top w number + tile_height w h number ≤ h
 tile_down w h number some less = let top = top_within w h number some less in omega arith
+
+-- the places of a tile, row by row, stand in the rectangle
+pub place_inside : (w h number tw th k : ℕ) → number < tile_count w h → tw ≡ tile_width w number → th ≡ tile_height w h number → k < tw * th
+    → (tile_top w number + k / tw) * w + (tile_left w number + k % tw) < h * w
+place_inside w h number tw th k less tw_is th_is short =
+    let some = some_places w h number less in
+    let wide : 0 < tw = rw tw_is (some_width w number some.0) in
+    let across : tile_left w number + k % tw < w = let m = mod-lt k wide in let t = tile_across w number some.0 in omega (arith, tw_is) in
+    let down : tile_top w number + k / tw < h =
+    let m = (div-lt_iff_lt-mul {x = k} {y = th} wide).1 (rw (mul_comm th tw) short) in let t = tile_down w h number some.0 less in omega (arith, th_is) in
+    rw (mul_comm h w) (mul-add-lt (tile_top w number + k / tw) w (tile_left w number + k % tw) h down across)

@@ -3,3 +3,4 @@ pub mod Valid
 pub mod Covering
 pub mod PixelsLaid
 pub mod Eights
+pub mod Numbers

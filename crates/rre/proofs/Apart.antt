@@ -12,7 +12,7 @@ use Rattle.pixel_format.specs.Canvas.{nth, rows_of}
 use Rattle.rre.specs.declared.data.Subrectangle.{Subrectangle}
 use Rattle.rre.specs.Encoded.{Reaches, part_picture}
 use Rattle.rre.specs.Numbered.{colors_of, others_in}
-use Rattle.rre.proofs.Numbers.{color_nth}
+use Rattle.pixel_format.proofs.Numbers.{color_nth}
 
 pub others_all : (background : ℕ) (numbers : List ℕ) (i : ℕ) → others_in background (take i numbers) ≤ others_in background numbers
 others_all background numbers i = sum_by-take-le (λ (other : ℕ). cond (not (background == other)) 1 0) numbers i

@@ -1,29 +1,18 @@
 -- Places whose pixels are numbers, and their colours: numbers of pixels and their colours correspond
 -- one to one.
-use Rattle.std.proofs.Common.{◌≡◌, ℕ, zero, suc, ◌+◌, ◌*◌, ◌<◌, ◌≤◌, ◌==◌, Bool, true, cond, inl, inr, List, [], ◌∷◌, length, get_or, refl, sym, ap, ◌∙◌, arith}
+use Rattle.std.proofs.Common.{◌≡◌, ℕ, ◌+◌, ◌*◌, ◌<◌, ◌≤◌, ◌==◌, Bool, true, cond, inl, inr, List, [], ◌∷◌, length, refl, sym, ap, ◌∙◌, arith}
 use Rattle.std.specs.Prelude.{All, count_by, not, ◌&&◌}
-use Rattle.std.proofs.Math.Nat.{zero-div, zero-mod}
 use Rattle.std.proofs.lemmas.Bool.{cases_Bool, and_from, and_parts, eq-eqb, eqb-true}
 use Rattle.std.proofs.lemmas.List.{length-map}
 use Rattle.std.proofs.lemmas.List.Elements.{All-head, All-tail, All-map, All-weaker}
 use Rattle.std.proofs.lemmas.List.Sums.{sum_by-cons}
 use Rattle.pixel_format.specs.declared.Color.{Color}
-use Rattle.pixel_format.specs.Format.{Channel, Format}
-use Rattle.pixel_format.specs.Pixel.{channel_value, color_number, IsWithin}
+use Rattle.pixel_format.specs.Format.{Format}
+use Rattle.pixel_format.specs.Pixel.{color_number, IsWithin}
 use Rattle.pixel_format.specs.Number.{number_color, IsNumber}
-use Rattle.pixel_format.specs.Canvas.{nth}
 use Rattle.rre.specs.Encoded.{IsMajority, HasMany}
 use Rattle.rre.specs.Frequent.{is_color, count_of, others_than}
 use Rattle.rre.specs.Numbered.{colors_of, times_in, others_in}
-
-no_value : (c : Channel) → channel_value c 0 ≡ 0
-no_value c = rw (zero-div, zero-mod) refl
-
--- the colour of a place is that of its number
-pub color_nth : (f : Format) (numbers : List ℕ) (k : ℕ) → nth (colors_of f numbers) k ≡ number_color f (get_or numbers k 0)
-color_nth f [] k = rw (no_value f.red, no_value f.green, no_value f.blue) refl
-color_nth f (n ∷ numbers) zero = refl
-color_nth f (n ∷ numbers) (suc k) = color_nth f numbers k
 
 one_color : (one other : Color) → is_color one other ≡ true → one ≡ other
 one_color one other h =

@@ -6,7 +6,7 @@ use Rattle.pixel_format.specs.Number.{number_color}
 use Rattle.hextile.specs.declared.cover.Part.{Part}
 use Rattle.hextile.specs.Encoded.{IsPart, IsCover}
 use Rattle.hextile.specs.Numbered.{colors_of}
-use Rattle.hextile.proofs.NumberTiles.{color_nth}
+use Rattle.pixel_format.proofs.Numbers.{color_nth}
 use Rattle.hextile.proofs.cover.cover.Goals as goal
 
 pub returns : goal.returns

@@ -1,7 +1,7 @@
 use Rattle.std.proofs.Common.{◌≡◌, ◌∙◌, ◌+◌, ◌*◌, inl, inr, ap, sym, get_or, arith}
 use Rattle.std.proofs.lemmas.Bool.{cases_eq}
 use Rattle.pixel_format.specs.Number.{number_color}
-use Rattle.hextile.proofs.NumberTiles.{color_nth}
+use Rattle.pixel_format.proofs.Numbers.{color_nth}
 use Rattle.hextile.proofs.cover.grow.Goals as goal
 
 pub loop-end-init : goal.loop-end-init

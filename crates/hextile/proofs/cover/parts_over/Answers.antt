@@ -5,7 +5,7 @@ use Rattle.hextile.specs.declared.cover.Part.{Part}
 use Rattle.hextile.specs.Encoded.{ShownUpto}
 use Rattle.hextile.specs.Numbered.{colors_of}
 use Rattle.hextile.proofs.Covered.{all_shown, nothing_shown}
-use Rattle.hextile.proofs.NumberTiles.{color_nth}
+use Rattle.pixel_format.proofs.Numbers.{color_nth}
 use Rattle.hextile.proofs.cover.parts_over.Goals as goal
 
 pub loop-k-init : goal.loop-k-init

@@ -9,7 +9,8 @@ use Rattle.hextile.specs.declared.cover.Part.{Part}
 use Rattle.hextile.specs.Encoded.{IsPart, ShownUpto}
 use Rattle.hextile.specs.Numbered.{colors_of}
 use Rattle.hextile.proofs.Covered.{part_added, goes_on, index_of}
-use Rattle.hextile.proofs.NumberTiles.{color_nth, color_if}
+use Rattle.pixel_format.proofs.Numbers.{color_nth}
+use Rattle.hextile.proofs.NumberTiles.{color_if}
 use Rattle.hextile.proofs.cover.show_place.Goals as goal
 
 pub returns : goal.returns

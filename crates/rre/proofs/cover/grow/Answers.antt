@@ -1,7 +1,7 @@
 use Rattle.std.proofs.Common.{◌≡◌, ◌+◌, ◌*◌, inl, inr, get_or, refl, arith, ap, sym, ◌∙◌, length}
 use Rattle.std.proofs.lemmas.Bool.{cases_lt}
 use Rattle.pixel_format.specs.Number.{number_color}
-use Rattle.rre.proofs.Numbers.{color_nth}
+use Rattle.pixel_format.proofs.Numbers.{color_nth}
 use Rattle.rre.proofs.cover.grow.Goals as goal
 
 pub loop-end-preserved : goal.loop-end-preserved
