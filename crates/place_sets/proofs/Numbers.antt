@@ -39,8 +39,6 @@ row_between columns row area x y fits high left across =
     let start = number_at columns area.x area.y + row * 16 in
     same_test (is_between start (start + area.w) (number_at columns x y)) (is_in (record area { y = area.y + row; h = 1 }) x y)
     (λ e. let b = between_is start (start + area.w) (number_at columns x y) e in
-    let above = b.above in
-    let below = b.below in
     let n = number_at columns x y - start in
     let at : number_at columns x y ≡ number_at columns (area.x + n) (area.y + row) = omega (arith, further columns area.x area.y row n (omega arith) high) in
     let same = apart columns x y (area.x + n) (area.y + row) across (omega arith) at in
@@ -48,10 +46,6 @@ row_between columns row area x y fits high left across =
     let level = same.1 in
     is_in_true (record area { y = area.y + row; h = 1 }) x y (record { left = omega arith; right = omega arith; top = omega arith; bottom = omega arith }))
     (λ e. let place = in_is (record area { y = area.y + row; h = 1 }) x y e in
-    let l = place.left in
-    let r = place.right in
-    let t = place.top in
-    let u = place.bottom in
     let n = x - area.x in
     let column : area.x + n ≡ x = omega arith in
     let level : area.y + row ≡ y = omega arith in
@@ -65,25 +59,15 @@ rows_between columns area x y whole fits high left across =
     let start = number_at columns area.x area.y in
     same_test (is_between start (start + area.h * 16) (number_at columns x y)) (is_in area x y)
     (λ e. let b = between_is start (start + area.h * 16) (number_at columns x y) e in
-    let above = b.above in
-    let below = b.below in
     let row = (number_at columns x y - start) / 16 in
     let less : row < area.h = omega arith in
     let here : is_between (start + row * 16) (start + row * 16 + area.w) (number_at columns x y) ≡ true =
     is_between_true (start + row * 16) (start + row * 16 + area.w) (number_at columns x y) (omega arith) (omega arith) in
     let place = in_is (record area { y = area.y + row; h = 1 }) x y (sym (row_between columns row area x y fits (omega arith) left across) ∙ here) in
-    let l = place.left in
-    let r = place.right in
-    let t = place.top in
-    let u = place.bottom in
     is_in_true area x y (record { left = omega arith; right = omega arith; top = omega arith; bottom = omega arith }))
     (λ e. let place = in_is area x y e in
-    let t = place.top in
-    let u = place.bottom in
     let row = y - area.y in
     let level : is_in (record area { y = area.y + row; h = 1 }) x y ≡ true =
     is_in_true (record area { y = area.y + row; h = 1 }) x y (record { left = place.left; right = place.right; top = omega arith; bottom = omega arith }) in
     let b = between_is (start + row * 16) (start + row * 16 + area.w) (number_at columns x y) (row_between columns row area x y fits (omega arith) left across ∙ level) in
-    let above = b.above in
-    let below = b.below in
     is_between_true start (start + area.h * 16) (number_at columns x y) (omega arith) (omega arith))

@@ -24,8 +24,6 @@ pub record IsWithin (outer inner : Area) : Type 0 where
 
 pub common_within : (one other part : Area) → HasJust (λ x y. is_in one x y && is_in other x y) part → IsWithin one part × IsWithin other part
 common_within one other part is =
-    let across = is.across in
-    let down = is.down in
     let first : is_in part part.x part.y ≡ true = is_in_true part part.x part.y (record { left = omega arith; right = omega arith; top = omega arith; bottom = omega arith }) in
     let last : is_in part (part.x + part.w - 1) (part.y + part.h - 1) ≡ true = is_in_true part (part.x + part.w - 1) (part.y + part.h - 1) (record { left = omega arith; right = omega arith; top = omega arith; bottom = omega arith }) in
     let a = and_parts (is_in one part.x part.y) (is_in other part.x part.y) (sym (is.just part.x part.y) ∙ first) in
@@ -34,15 +32,7 @@ common_within one other part is =
     let q = in_is other part.x part.y a.1 in
     let r = in_is one (part.x + part.w - 1) (part.y + part.h - 1) b.0 in
     let s = in_is other (part.x + part.w - 1) (part.y + part.h - 1) b.1 in
-    let pl = p.left in
-    let pt = p.top in
-    let ql = q.left in
-    let qt = q.top in
-    let rr = r.right in
-    let rb = r.bottom in
-    let sr = s.right in
-    let sb = s.bottom in
-    (record { left = pl; right = omega arith; top = pt; bottom = omega arith }, record { left = ql; right = omega arith; top = qt; bottom = omega arith })
+    (record { left = omega arith; right = omega arith; top = omega arith; bottom = omega arith }, record { left = omega arith; right = omega arith; top = omega arith; bottom = omega arith })
 
 -- the places of a tile
 abbrev pub square : ℕ → ℕ → Area
@@ -54,10 +44,6 @@ square_true column row x y a d = is_in_true (square column row) x y (record { le
 pub in_square : (column row x y : ℕ) → is_in (square column row) x y ≡ true → (x / 16 ≡ column) × (y / 16 ≡ row)
 in_square column row x y e =
     let place = in_is (square column row) x y e in
-    let l = place.left in
-    let r = place.right in
-    let t = place.top in
-    let b = place.bottom in
     (omega arith, omega arith)
 
 -- lists as long have as many bits
@@ -71,6 +57,20 @@ as_long columns area words summary now new has a b = record {
   tiles = omega (arith, has.tiles);
 }
 
+-- the tile of a part of an area is one of those that the area's rows of tiles have
+part_tile_low : (columns column row : ℕ) (area part : Area) → area.x + area.w ≤ 16 * columns → row < tiles_of (area.y + area.h)
+    → HasJust (λ x y. is_in area x y && is_in (square column row) x y) part → tile_at columns part.x part.y < tiles_of (area.y + area.h) * columns
+part_tile_low columns column row area part fits low is =
+    let both = common_within area (square column row) part is in
+    let p = both.0 in
+    let q = both.1 in
+    let level : part.y / 16 ≡ row = omega arith in
+    let less : part.x / 16 < columns = omega arith in
+    let same : part.y / 16 * columns ≡ row * columns = ap (λ (n : ℕ). n * columns) level in
+    let reach : row + 1 ≤ tiles_of (area.y + area.h) = omega arith in
+    let room : columns * (row + 1) ≤ columns * tiles_of (area.y + area.h) = mul-le-mul_left columns reach in
+    omega arith
+
 -- the part of an area in a tile
 pub part_is : (columns column row : ℕ) (area part : Area) (words summary : List ℕ) → HasTiles columns area words summary → row < tiles_of (area.y + area.h)
     → HasJust (λ x y. is_in area x y && is_in (square column row) x y) part → IsTilePart columns part words
@@ -78,49 +78,12 @@ part_is columns column row area part words summary has low is =
     let both = common_within area (square column row) part is in
     let p = both.0 in
     let q = both.1 in
-    let pr = p.right in
-    let pb = p.bottom in
-    let ql = q.left in
-    let qr = q.right in
-    let qt = q.top in
-    let qb = q.bottom in
-    let few = has.few in
-    let across = has.across in
-    let wide = has.wide in
-    let high = has.high in
-    let bits = has.bits in
-    let some = is.across in
-    let deep = is.down in
-    let level : part.y / 16 ≡ row = omega arith in
-    let column_is : part.x / 16 ≡ column = omega arith in
-    let less : column < columns = omega arith in
-    let same : part.y / 16 * columns ≡ row * columns = ap (λ (n : ℕ). n * columns) level in
-    let reach : row + 1 ≤ tiles_of (area.y + area.h) = omega arith in
-    let room : columns * (row + 1) ≤ columns * tiles_of (area.y + area.h) = mul-le-mul_left columns reach in
-    record { few = few; column = omega arith; row = omega arith; across = omega arith; wide = omega arith; high = omega arith; room = omega arith }
+    let tile = part_tile_low columns column row area part has.across low is in
+    record { few = has.few; column = omega arith; row = omega arith; across = omega arith; wide = omega arith; high = omega arith; room = omega arith }
 
 pub part_tile : (columns column row : ℕ) (area part : Area) (words summary : List ℕ) → HasTiles columns area words summary → row < tiles_of (area.y + area.h)
     → HasJust (λ x y. is_in area x y && is_in (square column row) x y) part → tile_at columns part.x part.y < 64 * length summary
-part_tile columns column row area part words summary has low is =
-    let both = common_within area (square column row) part is in
-    let p = both.0 in
-    let q = both.1 in
-    let pr = p.right in
-    let ql = q.left in
-    let qr = q.right in
-    let qt = q.top in
-    let qb = q.bottom in
-    let across = has.across in
-    let tiles = has.tiles in
-    let some = is.across in
-    let deep = is.down in
-    let level : part.y / 16 ≡ row = omega arith in
-    let column_is : part.x / 16 ≡ column = omega arith in
-    let less : column < columns = omega arith in
-    let same : part.y / 16 * columns ≡ row * columns = ap (λ (n : ℕ). n * columns) level in
-    let reach : row + 1 ≤ tiles_of (area.y + area.h) = omega arith in
-    let room : columns * (row + 1) ≤ columns * tiles_of (area.y + area.h) = mul-le-mul_left columns reach in
-    omega arith
+part_tile columns column row area part words summary has low is = omega (arith, part_tile_low columns column row area part has.across low is)
 
 -- ---- filling
 
@@ -144,15 +107,9 @@ summed columns part words now summary new value some is filled put has are x y a
           put (tile_at columns x y) ∙ ap (λ (z : Bool). cond z some (is_set summary (tile_at columns x y))) here ∙ has (number_at columns x y) (both_true _ _ bit marked))
       | inr other ↦
           (let off : tile_at columns x y ≡ tile → ⊥ = λ e. elim other [ inl less ↦ absurd (omega arith) | inr more ↦ absurd (omega arith) ] in
-          let away : is_between tile (tile + 1) (tile_at columns x y) ≡ false = is_between_false tile (tile + 1) (tile_at columns x y) (λ b. let above = b.above in let below = b.below in off (omega arith)) in
+          let away : is_between tile (tile + 1) (tile_at columns x y) ≡ false = is_between_false tile (tile + 1) (tile_at columns x y) (λ b. off (omega arith)) in
           let out : is_in part x y ≡ false = false_from_ne_true (is_in part x y) (λ e.
           let place = in_is part x y e in
-          let l = place.left in
-          let r = place.right in
-          let t = place.top in
-          let b = place.bottom in
-          let column = is.column in
-          let row = is.row in
           let level : y / 16 ≡ part.y / 16 = omega arith in
           let even : y / 16 * columns ≡ part.y / 16 * columns = ap (λ (n : ℕ). n * columns) level in
           off (omega arith)) in
@@ -173,9 +130,7 @@ tiles_more area from column row x y order =
           (let a = and_parts (is_in area x y) (nat_eq (y / 16) row && is_between from column (x / 16)) before in
           let b = and_parts (nat_eq (y / 16) row) (is_between from column (x / 16)) a.1 in
           let between = between_is from column (x / 16) b.1 in
-          let above = between.above in
-          let below = between.below in
-          both_true _ _ a.0 (both_true _ _ b.0 (is_between_true from (column + 1) (x / 16) above (omega arith))))
+          both_true _ _ a.0 (both_true _ _ b.0 (is_between_true from (column + 1) (x / 16) between.above (omega arith))))
       | inr here ↦
           (let a = and_parts (is_in area x y) (is_in (square column row) x y) here in
           let at = in_square column row x y a.1 in
@@ -185,10 +140,8 @@ tiles_more area from column row x y order =
     (λ e. let a = and_parts (is_in area x y) (nat_eq (y / 16) row && is_between from (column + 1) (x / 16)) e in
     let b = and_parts (nat_eq (y / 16) row) (is_between from (column + 1) (x / 16)) a.1 in
     let between = between_is from (column + 1) (x / 16) b.1 in
-    let above = between.above in
-    let below = between.below in
     elim (cases_lt (x / 16) column) [
-      | inl before ↦ or_left _ _ (both_true _ _ a.0 (both_true _ _ b.0 (is_between_true from column (x / 16) above before)))
+      | inl before ↦ or_left _ _ (both_true _ _ a.0 (both_true _ _ b.0 (is_between_true from column (x / 16) between.above before)))
       | inr behind ↦ or_right _ _ (both_true _ _ a.0 (square_true column row x y (omega arith) (eqb-true (y / 16) row b.0)))
     ])
 
@@ -198,8 +151,6 @@ no_tiles area from row x y = false_from_ne_true _ (λ e.
     let a = and_parts (is_in area x y) (nat_eq (y / 16) row && is_between from from (x / 16)) e in
     let b = and_parts (nat_eq (y / 16) row) (is_between from from (x / 16)) a.1 in
     let between = between_is from from (x / 16) b.1 in
-    let above = between.above in
-    let below = between.below in
     absurd (omega arith))
 
 -- ---- whole tiles
@@ -210,8 +161,6 @@ tile_between : (columns row from to x y : ℕ) → to ≤ columns → x < 16 * c
 tile_between columns row from to x y within across =
     same_test (is_between (row * columns + from) (row * columns + to) (tile_at columns x y)) (nat_eq (y / 16) row && is_between from to (x / 16))
     (λ e. let b = between_is (row * columns + from) (row * columns + to) (tile_at columns x y) e in
-    let above = b.above in
-    let below = b.below in
     elim (cases_order (y / 16) row) [
       | inl level ↦
           (let same : y / 16 * columns ≡ row * columns = ap (λ (n : ℕ). n * columns) level in
@@ -231,8 +180,6 @@ tile_between columns row from to x y within across =
     let level : y / 16 ≡ row = eqb-true (y / 16) row a.0 in
     let same : y / 16 * columns ≡ row * columns = ap (λ (n : ℕ). n * columns) level in
     let b = between_is from to (x / 16) a.1 in
-    let above = b.above in
-    let below = b.below in
     is_between_true (row * columns + from) (row * columns + to) (tile_at columns x y) (omega arith) (omega arith))
 
 -- and its places are, by their bits' numbers
@@ -243,12 +190,8 @@ tiles_between columns row from to x y within across =
     let end = row * columns + to in
     same_test (is_between (first * 256) (end * 256) (number_at columns x y)) (is_between first end (tile_at columns x y))
     (λ e. let b = between_is (first * 256) (end * 256) (number_at columns x y) e in
-    let above = b.above in
-    let below = b.below in
     is_between_true first end (tile_at columns x y) (omega arith) (omega arith))
     (λ e. let b = between_is first end (tile_at columns x y) e in
-    let above = b.above in
-    let below = b.below in
     is_between_true (first * 256) (end * 256) (number_at columns x y) (omega arith) (omega arith))
     ∙ tile_between columns row from to x y within across
 
@@ -293,8 +236,6 @@ row_of_parts area row from to x y inside =
     ])
     (λ e. let p = and_parts (is_in area x y) (nat_eq (y / 16) row) e in
     let place = in_is area x y p.0 in
-    let l = place.left in
-    let r = place.right in
     elim (cases_lt (x / 16) from) [
       | inl before ↦ or_left (a || b) c (or_left a b (both_true _ _ p.0 (both_true _ _ p.1 (is_between_true (area.x / 16) from (x / 16) (omega arith) before))))
       | inr on ↦ elim (cases_lt (x / 16) to) [
@@ -405,11 +346,7 @@ more_row p q area left right y x end order above x_is end_is is row =
       holds_each = λ a b e. elim (or_parts (p a b) (q a b) e) [
         | inl old ↦
             (let place = in_is area a b (is.holds_each a b old) in
-            let l = place.left in
-            let r = place.right in
-            let t = place.top in
-            let u = place.bottom in
-            is_in_true (record { x = x; y = area.y; w = end - x; h = y + 1 - area.y }) a b (record { left = omega arith; right = omega arith; top = t; bottom = omega arith }))
+            is_in_true (record { x = x; y = area.y; w = end - x; h = y + 1 - area.y }) a b (record { left = omega arith; right = omega arith; top = place.top; bottom = omega arith }))
         | inr new ↦
             (let same = row.level a b new in
             let ends = row.between a b new in
@@ -435,17 +372,10 @@ pub row_is : (words : List ℕ) (columns : ℕ) (part : Area) (row from : ℕ) (
     → AreEnds (λ k. is_between from (from + part.w) k && is_set words k) ends
     → IsRow (λ a b. is_in (row_of part row) a b && is_marked columns words a b) (part.x + (ends.first - from)) (part.x + (ends.last - from)) (part.y + row)
 row_is words columns part row from ends is low from_is are =
-    let fits = is.column in
-    let deep = is.row in
-    let across = is.across in
     let p = and_parts (is_between from (from + part.w) ends.first) (is_set words ends.first) are.first in
     let q = and_parts (is_between from (from + part.w) ends.last) (is_set words ends.last) are.last in
     let a = between_is from (from + part.w) ends.first p.0 in
     let b = between_is from (from + part.w) ends.last q.0 in
-    let a_low = a.above in
-    let a_high = a.below in
-    let b_low = b.above in
-    let b_high = b.below in
     let first_at : number_at columns (part.x + (ends.first - from)) (part.y + row) ≡ ends.first = omega (arith, further columns part.x part.y row (ends.first - from) (omega arith) (omega arith)) in
     let last_at : number_at columns (part.x + (ends.last - from)) (part.y + row) ≡ ends.last = omega (arith, further columns part.x part.y row (ends.last - from) (omega arith) (omega arith)) in
     record {
@@ -453,16 +383,10 @@ row_is words columns part row from ends is low from_is are =
       last = both_true _ _ (is_in_true (row_of part row) (part.x + (ends.last - from)) (part.y + row) (record { left = omega arith; right = omega arith; top = omega arith; bottom = omega arith })) (ap (is_set words) last_at ∙ q.1);
       level = λ x y e.
           let place = in_is (row_of part row) x y (and_parts (is_in (row_of part row) x y) (is_marked columns words x y) e).0 in
-          let t = place.top in
-          let u = place.bottom in
           omega arith;
       between = λ x y e.
           let parts = and_parts (is_in (row_of part row) x y) (is_marked columns words x y) e in
           let place = in_is (row_of part row) x y parts.0 in
-          let l = place.left in
-          let r = place.right in
-          let t = place.top in
-          let u = place.bottom in
           let n = x - part.x in
           let column : part.x + n ≡ x = omega arith in
           let level : part.y + row ≡ y = omega arith in
@@ -476,15 +400,10 @@ row_is words columns part row from ends is low from_is are =
 pub none_in_row : (words : List ℕ) (columns : ℕ) (part : Area) (row from : ℕ) → IsTilePart columns part words → row < part.h → from ≡ number_at columns part.x part.y + row * 16
     → AreEndsOf (λ k. is_between from (from + part.w) k && is_set words k) None → (x y : ℕ) → (is_in (row_of part row) x y && is_marked columns words x y) ≡ true → ⊥
 none_in_row words columns part row from is low from_is none x y e =
-    let fits = is.column in
-    let deep = is.row in
-    let across = is.across in
     let parts = and_parts (is_in (row_of part row) x y) (is_marked columns words x y) e in
     let place = in_is (row_of part row) x y parts.0 in
-    let l = place.left in
-    let r = place.right in
     let within : x < 16 * columns = omega arith in
-    let here = row_between columns row part x y fits (omega arith) across within ∙ parts.0 in
+    let here = row_between columns row part x y is.column (omega arith) is.across within ∙ parts.0 in
     none (number_at columns x y) (both_true _ _ (rw (← from_is) at here) parts.1)
 
 either_and : (a b s : Bool) → ((a && s) || (b && s)) ≡ ((a || b) && s)

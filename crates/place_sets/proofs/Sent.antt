@@ -27,14 +27,6 @@ inside outer q area is x y e =
     let t = in_is outer is.top.0 area.y (and_parts (is_in outer is.top.0 area.y) (q is.top.0 area.y) is.top.1).0 in
     let b = in_is outer is.bottom.0 (area.y + area.h - 1) (and_parts (is_in outer is.bottom.0 (area.y + area.h - 1)) (q is.bottom.0 (area.y + area.h - 1)) is.bottom.1).0 in
     let place = in_is area x y e in
-    let left = l.left in
-    let right = r.right in
-    let top = t.top in
-    let bottom = b.bottom in
-    let pl = place.left in
-    let pr = place.right in
-    let pt = place.top in
-    let pb = place.bottom in
     is_in_true outer x y (record { left = omega arith; right = omega arith; top = omega arith; bottom = omega arith })
 
 -- and on its screen
@@ -42,10 +34,6 @@ pub on_screen : (width height : ℕ) (outer : Area) (q : ℕ → ℕ → Bool) (
 on_screen width height outer q area within is =
     let r = in_is outer (area.x + area.w - 1) is.right.0 (and_parts (is_in outer (area.x + area.w - 1) is.right.0) (q (area.x + area.w - 1) is.right.0) is.right.1).0 in
     let b = in_is outer is.bottom.0 (area.y + area.h - 1) (and_parts (is_in outer is.bottom.0 (area.y + area.h - 1)) (q is.bottom.0 (area.y + area.h - 1)) is.bottom.1).0 in
-    let right = r.right in
-    let bottom = b.bottom in
-    let columns = within.columns in
-    let rows = within.rows in
     record { columns = omega arith; rows = omega arith }
 
 -- an area inside another, on a screen
