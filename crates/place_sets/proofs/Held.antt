@@ -55,10 +55,6 @@ none_set n k e = elim (cases_lt (k / 64) n) [
 pub has_tiles : (width height : ℕ) (words summary : List ℕ) (area : Area) → AreTiles width height words summary → area.x + area.w ≤ width → area.y + area.h ≤ height
     → HasTiles (tiles_of width) area words summary
 has_tiles width height words summary area are columns rows =
-    let wide = are.wide in
-    let high = are.high in
-    let bits = are.bits in
-    let tiles = are.tiles in
     let less : tiles_of (area.y + area.h) ≤ tiles_of height = omega arith in
     let room : tiles_of width * tiles_of (area.y + area.h) ≤ tiles_of width * tiles_of height = mul-le-mul_left (tiles_of width) less in
     record { few = omega arith; across = omega arith; wide = omega arith; high = omega arith; bits = omega arith; tiles = omega arith }
@@ -111,8 +107,6 @@ part_smallest width height words tile area part o columns rows just is =
     ∙ elim (cases_Bool (is_in area x y)) [
       | inl here ↦
           (let place = in_is area x y here in
-          let r = place.right in
-          let b = place.bottom in
           ap (λ (s : Bool). is_in area x y && (s && is_marked (tiles_of width) words x y)) (square_is (tiles_of width) tile x y (omega arith))
           ∙ ap (λ (m : Bool). is_in area x y && (nat_eq (tile_at (tiles_of width) x y) tile && m)) (sym (holds_marked width height words x y (omega arith) (omega arith))))
       | inr away ↦ rw away refl
@@ -123,9 +117,6 @@ pub tile_part : (width height tile : ℕ) (words summary : List ℕ) (area part 
     → HasJust (λ x y. is_in area x y && is_in (square (tile % tiles_of width) (tile / tiles_of width)) x y) part → IsTilePart (tiles_of width) part words
 tile_part width height tile words summary area part are columns rows just =
     let both = common_within area (square (tile % tiles_of width) (tile / tiles_of width)) part just in
-    let pb = both.0.bottom in
-    let qt = both.1.top in
-    let deep = just.down in
     part_is (tiles_of width) (tile % tiles_of width) (tile / tiles_of width) area part words summary (has_tiles width height words summary area are columns rows) (omega arith) just
 
 -- ---- tiles all of whose places are in the set

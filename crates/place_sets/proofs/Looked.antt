@@ -19,11 +19,6 @@ has_places p outer area width height wide high columns rows of is =
     let l = in_is area area.x is.left.0 (is.holds_each area.x is.left.0 is.left.1) in
     let r = in_is outer (area.x + area.w - 1) is.right.0 (of (area.x + area.w - 1) is.right.0 is.right.1) in
     let b = in_is outer is.bottom.0 (area.y + area.h - 1) (of is.bottom.0 (area.y + area.h - 1) is.bottom.1) in
-    let lr = l.right in
-    let lt = l.top in
-    let lb = l.bottom in
-    let rr = r.right in
-    let bb = b.bottom in
     record { across = omega arith; down = omega arith; columns = omega arith; rows = omega arith }
 
 -- no tile before this one has a place of the set in the area, of those from a number on
@@ -37,8 +32,6 @@ end_of columns area = tile_at columns (area.x + area.w - 1) (area.y + area.h - 1
 pub before_end : (columns : ℕ) (area : Area) (x y : ℕ) → is_in area x y ≡ true → tile_at columns x y < end_of columns area
 before_end columns area x y e =
     let place = in_is area x y e in
-    let r = place.right in
-    let b = place.bottom in
     let above : y / 16 ≤ (area.y + area.h - 1) / 16 = omega arith in
     let rows : columns * (y / 16) ≤ columns * ((area.y + area.h - 1) / 16) = mul-le-mul_left columns above in
     let left : x / 16 ≤ (area.x + area.w - 1) / 16 = omega arith in
@@ -50,8 +43,6 @@ pub summed_up : (width height : ℕ) (words summary : List ℕ) (area : Area) (n
     → (is_between next (end_of (tiles_of width) area) (tile_at (tiles_of width) x y) && is_set summary (tile_at (tiles_of width) x y)) ≡ true
 summed_up width height words summary area next x y are columns rows here held from =
     let place = in_is area x y here in
-    let r = place.right in
-    let b = place.bottom in
     let across : x < width = omega arith in
     let down : y < height = omega arith in
     both_true _ _ (is_between_true next (end_of (tiles_of width) area) (tile_at (tiles_of width) x y) from (before_end (tiles_of width) area x y here))
@@ -103,8 +94,6 @@ pub first_tile : (width height : ℕ) (words summary : List ℕ) (area : Area) (
     → IsFirstTile (places_of width height words) from area (record { tile = tile; area = found })
 first_tile width height words summary area from next tile found are columns rows across down on before first is =
     let b = between_is next (end_of (tiles_of width) area) tile (and_parts (is_between next (end_of (tiles_of width) area) tile) (is_set summary tile) first.passes).0 in
-    let above = b.above in
-    let below = b.below in
     let last = tile_within width height (area.x + area.w - 1) (area.y + area.h - 1) (omega arith) (omega arith) in
     let within : tile < tiles_of height * tiles_of width = omega arith in
     record {
@@ -178,14 +167,7 @@ smallest_around p q a b c is of round =
 -- the area round two has places
 pub around_places : (a b c : Area) → HasPlaces a → HasPlaces b → IsSmallest (λ x y. is_in a x y || is_in b x y) c → HasPlaces c
 around_places a b c p q round =
-    let pc = p.columns in
-    let pr = p.rows in
-    let qc = q.columns in
-    let qr = q.rows in
     let l = in_is c c.x round.left.0 (round.holds_each c.x round.left.0 round.left.1) in
-    let lr = l.right in
-    let lt = l.top in
-    let lb = l.bottom in
     record {
       across = omega arith;
       down = omega arith;

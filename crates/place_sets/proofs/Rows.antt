@@ -19,15 +19,11 @@ rows_more area row x y =
     same_test (is_in (rows area row) x y || is_in (row_of area row) x y) (is_in (rows area (row + 1)) x y)
     (λ e. elim (or_parts (is_in (rows area row) x y) (is_in (row_of area row) x y) e) [
       | inl before ↦ (let place = in_is (rows area row) x y before in
-          let bottom = place.bottom in
           is_in_true (rows area (row + 1)) x y (record { left = place.left; right = place.right; top = place.top; bottom = omega arith }))
       | inr level ↦ (let place = in_is (row_of area row) x y level in
-          let top = place.top in
-          let bottom = place.bottom in
           is_in_true (rows area (row + 1)) x y (record { left = place.left; right = place.right; top = omega arith; bottom = omega arith }))
     ])
     (λ e. let place = in_is (rows area (row + 1)) x y e in
-    let bottom = place.bottom in
     elim (cases_lt y (area.y + row)) [
       | inl above ↦ or_left (is_in (rows area row) x y) (is_in (row_of area row) x y) (is_in_true (rows area row) x y (record { left = place.left; right = place.right; top = place.top; bottom = above }))
       | inr level ↦ or_right (is_in (rows area row) x y) (is_in (row_of area row) x y) (is_in_true (row_of area row) x y (record { left = place.left; right = place.right; top = level; bottom = omega arith }))
