@@ -2,6 +2,7 @@
 use Rattle.std.proofs.Common.{◌≡◌, ℕ, ◌*◌, List, ◌∷◌, ◌++◌, inl, inr, refl, ap, ◌∙◌, append_assoc}
 use Rattle.pixel_format.specs.Format.{Format, pixel_bytes}
 use Rattle.terms.specs.Reading.{Reading, Got, More, Bad, field, guard, Extends, IsLocal}
+use Rattle.terms.proofs.Measured.{Front}
 use Rattle.terms.proofs.Readings.{field_local, bind_local, guard_local}
 use Rattle.terms.specs.declared.area.Area.{Area}
 use Rattle.terms.specs.declared.wire_fault.WireFault.{WireFault}
@@ -34,6 +35,22 @@ copy_local width height area bytes more =
 
 -- ---- the codecs
 
+-- What a codec reads is data that stand at the front, and these it reads again whatever follows; its
+-- faults it finds again too.
+codec_local : {A E : Type 0} (read : List ℕ → Reading A E) (Is : List ℕ → A → Type 0)
+    → ((bytes : List ℕ) (x : A) (rest : List ℕ) → read bytes ≡ Got x rest → Front Is bytes x rest)
+    → ((front more : List ℕ) (x : A) → Is front x → read (front ++ more) ≡ Got x more)
+    → ((fault : E) (bytes more : List ℕ) → read bytes ≡ Bad fault → read (bytes ++ more) ≡ Bad fault)
+    → IsLocal read
+codec_local {A} {E} read Is whole again refused bytes more = extends (read bytes) refl
+  where
+    extends : (r : Reading A E) → read bytes ≡ r → Extends r more (read (bytes ++ more))
+    extends (Got x rest) e =
+        (let d = whole bytes x rest e in
+        ap read (ap (λ z. z ++ more) d.bytes_are ∙ append_assoc d.front rest more) ∙ again d.front (rest ++ more) x d.is)
+    extends More e = tt
+    extends (Bad fault) e = refused fault bytes more e
+
 refused_rre : (f : Format) (w h : ℕ) (bytes more : List ℕ) → rre_data.IsRefused f w h bytes → rre_data.IsRefused f w h (bytes ++ more)
 refused_rre f w h bytes more is = record {
   head = is.head;
@@ -55,17 +72,12 @@ refused_rre f w h bytes more is = record {
   leaves = is.leaves;
 }
 
+refused_rre_more : (f : Format) (w h : ℕ) (fault : rre.Fault) (bytes more : List ℕ) → rre.data_at f w h bytes ≡ Bad fault → rre.data_at f w h (bytes ++ more) ≡ Bad fault
+refused_rre_more f w h rre.Outside bytes more e =
+    rre_content.refused_again f w h (bytes ++ more) (refused_rre f w h bytes more (rre_refused.refused_read f w h bytes e))
+
 rre_local : (f : Format) (w h : ℕ) → IsLocal (rre.data_at f w h)
-rre_local f w h bytes more = extends (rre.data_at f w h bytes) refl
-  where
-    extends : (r : Reading rre.Content rre.Fault) → rre.data_at f w h bytes ≡ r → Extends r more (rre.data_at f w h (bytes ++ more))
-    extends (Got content rest) e =
-        (let d = rre_content.data_read f w h bytes content rest e in
-        ap (rre.data_at f w h) (ap (λ z. z ++ more) d.bytes_are ∙ append_assoc d.front rest more)
-        ∙ rre_content.data_again f w h d.front (rest ++ more) content d.is)
-    extends More e = tt
-    extends (Bad rre.Outside) e =
-        rre_content.refused_again f w h (bytes ++ more) (refused_rre f w h bytes more (rre_refused.refused_read f w h bytes e))
+rre_local f w h = codec_local (rre.data_at f w h) (rre_data.IsData f w h) (rre_content.data_read f w h) (rre_content.data_again f w h) (refused_rre_more f w h)
 
 forbidden_more : (before : List hextile.Tile) (rest more : List ℕ) → hextile_data.HasForbidden before rest → hextile_data.HasForbidden before (rest ++ more)
 forbidden_more before rest more is = record {
@@ -116,17 +128,14 @@ refused_hextile f w h bytes more is = record {
   ];
 }
 
+refused_hextile_more : (f : Format) (w h : ℕ) (fault : hextile.Fault) (bytes more : List ℕ) → hextile.data_at f w h bytes ≡ Bad fault
+    → hextile.data_at f w h (bytes ++ more) ≡ Bad fault
+refused_hextile_more f w h hextile.Refused bytes more e =
+    hextile_refused.refused_again f w h (bytes ++ more) (refused_hextile f w h bytes more (hextile_refused.refused_read f w h bytes e))
+
 hextile_local : (f : Format) (w h : ℕ) → IsLocal (hextile.data_at f w h)
-hextile_local f w h bytes more = extends (hextile.data_at f w h bytes) refl
-  where
-    extends : (r : Reading (List hextile.Tile) hextile.Fault) → hextile.data_at f w h bytes ≡ r → Extends r more (hextile.data_at f w h (bytes ++ more))
-    extends (Got tiles rest) e =
-        (let d = hextile_content.data_read f w h bytes tiles rest e in
-        ap (hextile.data_at f w h) (ap (λ z. z ++ more) d.bytes_are ∙ append_assoc d.front rest more)
-        ∙ hextile_content.data_again f w h d.front (rest ++ more) tiles d.is)
-    extends More e = tt
-    extends (Bad hextile.Refused) e =
-        hextile_refused.refused_again f w h (bytes ++ more) (refused_hextile f w h bytes more (hextile_refused.refused_read f w h bytes e))
+hextile_local f w h =
+    codec_local (hextile.data_at f w h) (hextile_data.IsData f w h) (hextile_content.data_read f w h) (hextile_content.data_again f w h) (refused_hextile_more f w h)
 
 judged_local : {A E : Type 0} (fault : WireFault) (r longer : Reading A E) (more : List ℕ) → Extends r more longer
     → Extends (judged_as fault r) more (judged_as fault longer)
