@@ -1,8 +1,8 @@
 -- Appending the numbers of an area's pixels.
-use Rattle.std.proofs.Common.{◌≡◌, ℕ, ◌+◌, ◌-◌, ◌<◌, List, [], ◌∷◌, ◌++◌, length, get_or, map, set, cond, inl, inr, refl, sym, ap, subst, ◌∙◌, arith, append_assoc, length-append}
+use Rattle.std.proofs.Common.{◌≡◌, ℕ, ◌+◌, ◌-◌, ◌<◌, List, [], ◌++◌, length, get_or, map, set, cond, inl, inr, refl, sym, ap, subst, ◌∙◌, arith, length-append}
 use Rattle.std.specs.Prelude.{All, Result, Ok, Err, OnOk, is_ok}
 use Rattle.std.proofs.lemmas.Bool.{cases_lt, cases_eq}
-use Rattle.std.proofs.lemmas.List.{append-nil, get_or-map, length-map, map-append, get_or-append-add, get_or-set_same, get_or-set_other, get_or_default, ext_get_or}
+use Rattle.std.proofs.lemmas.List.{get_or-map, length-map, map-append, get_or-append-add, get_or-set_same, get_or-set_other, get_or_default, ext_get_or}
 use Rattle.std.proofs.Math.ListN.{get_or-append}
 use Rattle.pixel_format.specs.declared.Color.{Color}
 use Rattle.pixel_format.specs.Format.{Format}
@@ -10,6 +10,7 @@ use Rattle.pixel_format.specs.Canvas.{black, nth}
 use Rattle.pixel_format.specs.Number.{number_color, IsNumber}
 use Rattle.pixel_format.specs.Pixel.{converted}
 use Rattle.terms.specs.Appending.{Appends}
+use Rattle.terms.proofs.Progress.{Joins, joins_mapped}
 use Rattle.painter.specs.declared.pixel.Pixel.{Pixel}
 use Rattle.painter.specs.Pixels.{color_of}
 use Rattle.painter.specs.Sent.{seen_colors}
@@ -44,43 +45,21 @@ all_joined f a b first second k d less = elim (cases_lt k (length a)) [
 ]
 
 -- numbers of some colours, and behind them those of others
-pub numbers_joined : (f : Format) (a b : List Color) (old between new : List ℕ) → Appends (AreNumbersOf f a) old between → Appends (AreNumbersOf f b) between new
-    → Appends (AreNumbersOf f (a ++ b)) old new
-numbers_joined f a b old between new first second = record {
-  bytes = first.bytes ++ second.bytes;
-  is = second.is ∙ ap (λ z. z ++ second.bytes) first.is ∙ append_assoc old first.bytes second.bytes;
-  are = record {
-    colors_are = map-append (number_color f) first.bytes second.bytes ∙ ap (λ z. z ++ map (number_color f) second.bytes) first.are.colors_are ∙ ap (λ z. a ++ z) second.are.colors_are;
-    each = all_joined f first.bytes second.bytes first.are.each second.are.each;
-  };
+pub numbers_join : (f : Format) → Joins (AreNumbersOf f)
+numbers_join f a b p q first second = record {
+  colors_are = map-append (number_color f) p q ∙ ap (λ z. z ++ map (number_color f) q) first.colors_are ∙ ap (λ z. a ++ z) second.colors_are;
+  each = all_joined f p q first.each second.each;
 }
 
-pub numbers_none : (f : Format) (old : List ℕ) → Appends (AreNumbersOf f []) old old
-numbers_none f old = record { bytes = []; is = sym (append-nil old); are = record { colors_are = refl; each = λ k d less. absurd (omega arith) } }
+pub no_numbers : (f : Format) → AreNumbersOf f [] []
+no_numbers f = record { colors_are = refl; each = λ k d less. absurd (omega arith) }
 
--- a row of which a part is left
-pub record Left (f : Format) (row rest : List Pixel) (old new : List ℕ) : Type 0 where
-  pub done : List Pixel
-  pub all : row ≡ done ++ rest
-  pub are : Appends (AreNumbersOf f (seen_colors f done)) old new
+-- the numbers of a row's places
+abbrev pub AreRowNumbers : Format → List Pixel → List ℕ → Type 0
+AreRowNumbers f row = AreNumbersOf f (seen_colors f row)
 
-pub left_begins : (f : Format) (row : List Pixel) (old : List ℕ) → Left f row row old old
-left_begins f row old = record { done = []; all = refl; are = numbers_none f old }
-
-pub left_goes_on : (f : Format) (row rest some behind : List Pixel) (old between new : List ℕ) → rest ≡ some ++ behind → Left f row rest old between
-    → Appends (AreNumbersOf f (seen_colors f some)) between new → Left f row behind old new
-left_goes_on f row rest some behind old between new split left more = record {
-  done = left.done ++ some;
-  all = left.all ∙ ap (λ (ps : List Pixel). left.done ++ ps) split ∙ sym (append_assoc left.done some behind);
-  are = subst (λ (cs : List Color). Appends (AreNumbersOf f cs) old new) (sym (map-append (λ p. converted f (color_of p)) left.done some))
-      (numbers_joined f (seen_colors f left.done) (seen_colors f some) old between new left.are more);
-}
-
-pub left_ends : (f : Format) (row rest : List Pixel) (old new : List ℕ) → length rest ≡ 0 → Left f row rest old new → Appends (AreNumbersOf f (seen_colors f row)) old new
-left_ends f row [] old new none left =
-    let all : row ≡ left.done = left.all ∙ append-nil left.done in
-    subst (λ (ps : List Pixel). Appends (AreNumbersOf f (seen_colors f ps)) old new) (sym all) left.are
-left_ends f row (p ∷ rest) old new none left = absurd (omega arith)
+pub row_numbers_join : (f : Format) → Joins (AreRowNumbers f)
+row_numbers_join f = joins_mapped (λ p. converted f (color_of p)) (AreNumbersOf f) (numbers_join f)
 
 -- what was appended, where it was
 pub ok_appended : {T E : Type 0} (r : Result T E) (P : List ℕ → Type 0) (old new more : List ℕ) → new ≡ cond (is_ok r) (old ++ more) old → P more → OnOk r (Appends P old new)

@@ -1,5 +1,5 @@
 -- Appending the pixels of an area.
-use Rattle.std.proofs.Common.{◌≡◌, ℕ, zero, suc, ◌+◌, ◌-◌, ◌*◌, ◌/◌, ◌%◌, ◌<◌, ◌≤◌, List, [], ◌∷◌, ◌++◌, length, take, drop, get_or, map, refl, sym, ap, subst, ◌∙◌, arith, zero-mul, append_assoc}
+use Rattle.std.proofs.Common.{◌≡◌, ℕ, zero, suc, ◌+◌, ◌-◌, ◌*◌, ◌/◌, ◌%◌, ◌<◌, ◌≤◌, List, [], ◌∷◌, ◌++◌, length, take, drop, get_or, map, refl, sym, ap, subst, ◌∙◌, arith}
 use Rattle.std.specs.Prelude.{Result, Ok, Err, OnOk}
 use Rattle.std.specs.List.{flat_map, range_with_len}
 use Rattle.std.proofs.lemmas.List.{append-nil, get_or-map, length-map, map-append}
@@ -12,10 +12,11 @@ use Rattle.pixel_format.specs.Pixel.{pixel_of, pixel_color, converted, converted
 use Rattle.pixel_format.specs.Canvas.{black, nth}
 use Rattle.terms.specs.Appending.{Appends, Grows}
 use Rattle.terms.proofs.Appends.{grows_more}
+use Rattle.terms.proofs.Progress.{Joins, joins_mapped}
 use Rattle.rect_codec.specs.Picture.{pixel_at}
 use Rattle.rect_codec.specs.Written.{IsPixelOf, ArePixels}
 use Rattle.rect_codec.proofs.PixelsPut.{pixel_more}
-use Rattle.rect_codec.proofs.PixelsJoined.{Progress, goes_on, ends}
+use Rattle.rect_codec.proofs.PixelsJoined.{are_joined}
 use Rattle.painter.specs.declared.pixel.Pixel.{Pixel}
 use Rattle.painter.specs.Pixels.{color_of}
 use Rattle.painter.specs.Sent.{seen_colors}
@@ -54,20 +55,12 @@ row_more f row bytes pixel k s d color e size lt whole done put back is =
     let here : color ≡ nth all k = is ∙ sym (get_or-map (λ p. converted f (color_of p)) row k d black lt) in
     pixel_more f all bytes pixel k s e room (omega arith) whole done (record { bytes_are = put ∙ ap (pixel_of f) here; color_is = back ∙ here })
 
--- pixels of some colours, and behind them those of others
-pub appended_more : (f : Format) (a b : List Color) (old between new : List ℕ) → Appends (ArePixels f a) old between → Appends (ArePixels f b) between new
-    → Appends (ArePixels f (a ++ b)) old new
-appended_more f a b old between new first second =
-    let so_far : Progress f (a ++ b) b old between = record { done = a; all = refl; are = first } in
-    ends f (a ++ b) [] old new refl (goes_on f (a ++ b) b b [] old between new (sym (append-nil b)) so_far second)
+-- the pixels of a row's places
+abbrev pub AreRowPixels : Format → List Pixel → List ℕ → Type 0
+AreRowPixels f row = ArePixels f (seen_colors f row)
 
--- none are appended
-pub appended_none : (f : Format) (old : List ℕ) → Appends (ArePixels f []) old old
-appended_none f old = record {
-  bytes = [];
-  is = sym (append-nil old);
-  are = record { size = sym (zero-mul (pixel_bytes f)); pixels_are = λ n less. absurd (omega arith) };
-}
+pub row_pixels_join : (f : Format) → Joins (AreRowPixels f)
+row_pixels_join f = joins_mapped (λ p. converted f (color_of p)) (ArePixels f) (are_joined f)
 
 -- one number more of a range
 range_more : (a n : ℕ) → range_with_len a (suc n) ≡ range_with_len a n ++ (a + n) ∷ []
@@ -90,30 +83,6 @@ rows_joined g n =
 pub rows_mapped : {X Y : Type 0} (h : X → Y) (g : ℕ → List X) (k : ℕ → List Y) → ((n : ℕ) → map h (g n) ≡ k n) → (ns : List ℕ) → map h (flat_map g ns) ≡ flat_map k ns
 rows_mapped h g k each [] = refl
 rows_mapped h g k each (n ∷ ns) = map-append h (g n) (flat_map g ns) ∙ ap (λ r. r ++ map h (flat_map g ns)) (each n) ∙ ap (λ r. k n ++ r) (rows_mapped h g k each ns)
-
--- a row of which a part is left
-pub record Left (f : Format) (row rest : List Pixel) (old new : List ℕ) : Type 0 where
-  pub done : List Pixel
-  pub all : row ≡ done ++ rest
-  pub are : Appends (ArePixels f (seen_colors f done)) old new
-
-pub left_begins : (f : Format) (row : List Pixel) (old : List ℕ) → Left f row row old old
-left_begins f row old = record { done = []; all = refl; are = appended_none f old }
-
-pub left_goes_on : (f : Format) (row rest some behind : List Pixel) (old between new : List ℕ) → rest ≡ some ++ behind → Left f row rest old between
-    → Appends (ArePixels f (seen_colors f some)) between new → Left f row behind old new
-left_goes_on f row rest some behind old between new split left more = record {
-  done = left.done ++ some;
-  all = left.all ∙ ap (λ (ps : List Pixel). left.done ++ ps) split ∙ sym (append_assoc left.done some behind);
-  are = subst (λ (cs : List Color). Appends (ArePixels f cs) old new) (sym (map-append (λ p. converted f (color_of p)) left.done some))
-      (appended_more f (seen_colors f left.done) (seen_colors f some) old between new left.are more);
-}
-
-pub left_ends : (f : Format) (row rest : List Pixel) (old new : List ℕ) → length rest ≡ 0 → Left f row rest old new → Appends (ArePixels f (seen_colors f row)) old new
-left_ends f row [] old new none left =
-    let all : row ≡ left.done = left.all ∙ append-nil left.done in
-    subst (λ (ps : List Pixel). Appends (ArePixels f (seen_colors f ps)) old new) (sym all) left.are
-left_ends f row (p ∷ rest) old new none left = absurd (omega arith)
 
 -- what was appended so far, and what some bytes more are
 pub grows_so_far : {P : List ℕ → Type 0} (old between new : List ℕ) → Appends P old between → Grows between new → Grows old new

@@ -1,8 +1,8 @@
 -- Pixels that are appended to others.
-use Rattle.std.proofs.Common.{◌≡◌, ℕ, ◌+◌, ◌-◌, ◌*◌, ◌<◌, ◌≤◌, List, [], ◌∷◌, ◌++◌, length, take, drop, get_or, inl, inr, refl, sym, ap, subst, ◌∙◌, arith, length-append, append_assoc, zero-mul}
+use Rattle.std.proofs.Common.{◌≡◌, ℕ, ◌+◌, ◌-◌, ◌*◌, ◌<◌, ◌≤◌, List, [], ◌++◌, length, take, drop, get_or, inl, inr, sym, ap, subst, ◌∙◌, arith, length-append, zero-mul}
 use Rattle.std.specs.Prelude.{All}
 use Rattle.std.proofs.lemmas.Bool.{cases_lt}
-use Rattle.std.proofs.lemmas.List.{append-nil, take_at, take-append-le, drop-append-le, get_or-append-add, length-drop}
+use Rattle.std.proofs.lemmas.List.{take_at, take-append-le, drop-append-le, get_or-append-add, length-drop}
 use Rattle.std.proofs.Math.Seq.{drop-append-add}
 use Rattle.std.proofs.Math.ListN.{get_or-append}
 use Rattle.std.proofs.Math.Nat.{mul-le-mul_left, mul_comm, mul-add}
@@ -11,31 +11,15 @@ use Rattle.pixel_format.specs.Format.{Format, pixel_bytes}
 use Rattle.pixel_format.specs.Pixel.{IsWithin}
 use Rattle.pixel_format.specs.Canvas.{nth, black}
 use Rattle.terms.specs.Appending.{Appends}
+use Rattle.terms.proofs.Progress as progress
 use Rattle.rect_codec.specs.Picture.{pixel_at}
 use Rattle.rect_codec.specs.Written.{IsPixelOf, ArePixels}
-
--- the front of the colours is appended
-pub record Progress (f : Format) (colors rest : List Color) (old new : List ℕ) : Type 0 where
-  pub done : List Color
-  pub all : colors ≡ done ++ rest
-  pub are : Appends (ArePixels f done) old new
-
-pub begins : (f : Format) (colors : List Color) (old : List ℕ) → Progress f colors colors old old
-begins f colors old = record {
-  done = [];
-  all = refl;
-  are = record {
-    bytes = [];
-    is = sym (append-nil old);
-    are = record { size = sym (zero-mul (pixel_bytes f)); pixels_are = λ n less. absurd (omega arith) };
-  };
-}
 
 distribute : (a b s : ℕ) → (a + b) * s ≡ a * s + b * s
 distribute a b s = mul_comm (a + b) s ∙ mul-add s a b ∙ omega (arith, mul_comm s a, mul_comm s b)
 
 -- the pixels of some colours, and those of others behind them
-are_joined : (f : Format) (a b : List Color) (p q : List ℕ) → ArePixels f a p → ArePixels f b q → ArePixels f (a ++ b) (p ++ q)
+pub are_joined : (f : Format) (a b : List Color) (p q : List ℕ) → ArePixels f a p → ArePixels f b q → ArePixels f (a ++ b) (p ++ q)
 are_joined f a b p q first second =
     let s = pixel_bytes f in
     let len = length-append a b in
@@ -62,23 +46,22 @@ are_joined f a b p q first second =
       ];
     }
 
+pub no_pixels : (f : Format) → ArePixels f [] []
+no_pixels f = record { size = sym (zero-mul (pixel_bytes f)); pixels_are = λ n less. absurd (omega arith) }
+
+-- the front of the colours is appended
+abbrev pub Progress : Format → List Color → List Color → List ℕ → List ℕ → Type 0
+Progress f = progress.Progress (ArePixels f)
+
+pub begins : (f : Format) (colors : List Color) (old : List ℕ) → Progress f colors colors old old
+begins f = progress.begins (ArePixels f) (no_pixels f)
+
 pub goes_on : (f : Format) (colors rest some behind : List Color) (old between new : List ℕ) → rest ≡ some ++ behind → Progress f colors rest old between
     → Appends (ArePixels f some) between new → Progress f colors behind old new
-goes_on f colors rest some behind old between new split p more = record {
-  done = p.done ++ some;
-  all = p.all ∙ ap (λ (cs : List Color). p.done ++ cs) split ∙ sym (append_assoc p.done some behind);
-  are = record {
-    bytes = p.are.bytes ++ more.bytes;
-    is = more.is ∙ ap (λ (bs : List ℕ). bs ++ more.bytes) p.are.is ∙ append_assoc old p.are.bytes more.bytes;
-    are = are_joined f p.done some p.are.bytes more.bytes p.are.are more.are;
-  };
-}
+goes_on f = progress.goes_on (ArePixels f) (are_joined f)
 
 pub ends : (f : Format) (colors rest : List Color) (old new : List ℕ) → length rest ≡ 0 → Progress f colors rest old new → Appends (ArePixels f colors) old new
-ends f colors [] old new none p =
-    let all : colors ≡ p.done = p.all ∙ append-nil p.done in
-    subst (λ (cs : List Color). Appends (ArePixels f cs) old new) (sym all) p.are
-ends f colors (c ∷ rest) old new none p = absurd (omega arith)
+ends f = progress.ends (ArePixels f)
 
 -- the colours that are left are some of all
 pub part_within : (f : Format) (colors rest some behind : List Color) (old new : List ℕ) → rest ≡ some ++ behind → All (IsWithin f) colors → Progress f colors rest old new → All (IsWithin f) some

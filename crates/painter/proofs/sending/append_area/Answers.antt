@@ -3,7 +3,9 @@ use Rattle.pixel_format.specs.declared.Color.{Color}
 use Rattle.rect_codec.specs.Written.{ArePixels}
 use Rattle.terms.specs.Appending.{Appends}
 use Rattle.painter.specs.Sent.{seen_colors, seen_area}
-use Rattle.painter.proofs.SentRows.{appended_more, rows_joined}
+use Rattle.terms.proofs.Progress.{both_appended}
+use Rattle.rect_codec.proofs.PixelsJoined.{are_joined}
+use Rattle.painter.proofs.SentRows.{rows_joined}
 use Rattle.painter.proofs.sending.append_area.Goals as goal
 
 pub loop-row-preserved : goal.loop-row-preserved
@@ -19,5 +21,5 @@ loop-row-preserved c =
     let more = subst (λ (n : ℕ). Appends (ArePixels f (seen_colors f (take n (drop start pixels)))) c.loop-row.out.items c.append_row.new.out.items) long told in
     subst (λ (cs : List Color). Appends (ArePixels f cs) c.args.out.now.items c.append_row.new.out.items)
     (sym (rows_joined (λ n. seen_colors f (take area.w (drop ((area.y + n) * width + area.x) pixels))) row))
-    (appended_more f (seen_area f pixels width area row) (seen_colors f (take area.w (drop start pixels))) c.args.out.now.items c.loop-row.out.items c.append_row.new.out.items
+    (both_appended (ArePixels f) (are_joined f) (seen_area f pixels width area row) (seen_colors f (take area.w (drop start pixels))) c.args.out.now.items c.loop-row.out.items c.append_row.new.out.items
     c.loop-row.invariant more)
