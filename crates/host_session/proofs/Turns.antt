@@ -59,35 +59,38 @@ linked : (expected : Option (ℕ × ℕ)) (old : Position) (before front more re
     → position_at expected old before (front ++ (more ++ rest)) ≡ say first t → t ≡ u → position_at expected old before ((front ++ more) ++ rest) ≡ say first u
 linked expected old before front more rest first one two = ap (position_at expected old before) (append_assoc front more rest) ∙ one ∙ ap (say first) two
 
+-- A turn that leads on, and one from there to what is reached behind it, whatever comes: so do both.
+two_turns : {Q R : List ℕ → Type 0} (expected : Option (ℕ × ℕ)) (old mid : Position) (before between front more due then later : List ℕ) (reached : List ℕ → Talk Told Refusal)
+    → Says (λ said. Leads expected old before front said mid between) due then → Says Q then later
+    → ((said : List ℕ) → Q said → (rest : List ℕ) → position_at expected mid between (more ++ rest) ≡ say said (reached rest))
+    → ((said : List ℕ) → ((rest : List ℕ) → position_at expected old before ((front ++ more) ++ rest) ≡ say said (reached rest)) → R said)
+    → Says R due later
+two_turns expected old mid before between front more due then later reached a b links is =
+    says_more due then later a b (λ first second one two. is (first ++ second)
+    (λ rest. linked expected old before front more rest first (one.link (more ++ rest)) (links second two rest) ∙ say_more first second (reached rest)))
+
 pub leads_more : (expected : Option (ℕ × ℕ)) (old mid new : Position) (before between after front more due then later : List ℕ)
     → Says (λ said. Leads expected old before front said mid between) due then
     → Says (λ said. Leads expected mid between more said new after) then later
     → Says (λ said. Leads expected old before (front ++ more) said new after) due later
-leads_more expected old mid new before between after front more due then later a b = says_more due then later a b (λ first second one two. record {
-  link = λ rest.
-      linked expected old before front more rest first (one.link (more ++ rest)) (two.link rest)
-      ∙ say_more first second (position_at expected new after rest);
-})
+leads_more expected old mid new before between after front more due then later a b =
+    two_turns expected old mid before between front more due then later (position_at expected new after) a b (λ said step. step.link) (λ said link. record { link = link })
 
 pub leads_end : (expected : Option (ℕ × ℕ)) (old mid : Position) (before between front more due then later requests : List ℕ) (told : Told)
     → Says (λ said. Leads expected old before front said mid between) due then
     → Says (λ said. Ends expected mid between more (said ++ requests) told) then later
     → Says (λ said. Ends expected old before (front ++ more) (said ++ requests) told) due later
-leads_end expected old mid before between front more due then later requests told a b = says_more due then later a b (λ first second one two. record {
-  link = λ rest.
-      linked expected old before front more rest first (one.link (more ++ rest)) (two.link rest)
-      ∙ say_more first (second ++ requests) (silent (Got told rest)) ∙ ap (λ z. say z (silent (Got told rest))) (sym (append_assoc first second requests));
-})
+leads_end expected old mid before between front more due then later requests told a b =
+    let told_at : List ℕ → Talk Told Refusal = λ rest. silent (Got told rest) in
+    two_turns expected old mid before between front more due then later (λ rest. say requests (told_at rest)) a b (λ said step rest. step.link rest ∙ sym (say_more said requests (told_at rest)))
+    (λ said link. record { link = λ rest. link rest ∙ say_more said requests (told_at rest) })
 
 pub leads_fail : (expected : Option (ℕ × ℕ)) (old mid : Position) (before between front more due then later : List ℕ) (f : HostFault) (field : List ℕ)
     → Says (λ said. Leads expected old before front said mid between) due then
     → Says (λ said. Fails expected mid between more said f field) then later
     → Says (λ said. Fails expected old before (front ++ more) said f field) due later
-leads_fail expected old mid before between front more due then later f field a b = says_more due then later a b (λ first second one two. record {
-  link = λ rest.
-      linked expected old before front more rest first (one.link (more ++ rest)) (two.link rest)
-      ∙ say_more first second (failed f field);
-})
+leads_fail expected old mid before between front more due then later f field a b =
+    two_turns expected old mid before between front more due then later (λ rest. failed f field) a b (λ said step. step.link) (λ said link. record { link = link })
 
 pub unless_memory_map : (f : HostFault) (P Q : Type 0) → (P → Q) → UnlessMemory f P → UnlessMemory f Q
 unless_memory_map (faults.Wire f) P Q m p = unless_wire_memory_map f P Q m p

@@ -1,8 +1,9 @@
 //! The fields of a host's handshake.
 
-ghost use Rattle.std.specs.Prelude.{◌≡◌, ℕ, ◌<◌, ◌++◌, min, length, IfOk, IfErr, OnOk, OnErr, Option};
+ghost use Rattle.std.specs.Prelude.{◌≡◌, ℕ, ◌+◌, ◌<◌, ◌≤◌, ◌++◌, min, length, IfOk, IfErr, OnOk, OnErr, Option};
 ghost use Rattle.host_session.specs.Handshake.{is_expected, offers_security_none, text_limit};
 ghost use Rattle.host_session.specs.Stage.{wants_of, rank_of, answer_bytes, IsStep, IsFault, IsFurther};
+ghost use Rattle.terms.specs.Number.{u32_at};
 
 use crate::fault::HostFault;
 use terms::{NoMemory, is_size};
@@ -122,6 +123,14 @@ fn answered(answer: Answer, stage: Stage) -> AfterField
     }
 }
 
+// The number that stands in a field from this byte on.
+fn number_at(field: &[u8], at: usize) -> u32
+    requires { at + 4 ≤ length field.now }
+    ensures { result ≡ u32_at field.now at }
+{
+    u32::from_be_bytes([field[at], field[at + 1], field[at + 2], field[at + 3]])
+}
+
 // Another version than 003.008 is refused (RFC 6143, section 7.1.1).
 fn behind_version(field: &[u8]) -> Result<AfterField, HostFault>
     requires { length field.now ≡ 12 }
@@ -171,8 +180,7 @@ fn behind_outcome(field: &[u8]) -> AfterField
         → IsStep expected Stage.Outcome field.now result }
     ensures falls { IsFurther 6 result.position }
 {
-    let outcome = u32::from_be_bytes([field[0], field[1], field[2], field[3]]);
-    if outcome != 0 {
+    if number_at(field, 0) != 0 {
         return next(Stage::ReasonLength);
     }
     answered(Answer::One, Stage::Size)
@@ -194,32 +202,6 @@ fn behind_size(expected: Option<(u16, u16)>, field: &[u8]) -> Result<AfterField,
         return Err(HostFault::SizeDiffers);
     }
     Ok(next(Stage::Head { width, height }))
-}
-
-// The reason's length, of which no more is known to be sent.
-fn behind_length(field: &[u8]) -> AfterField
-    requires { length field.now ≡ 4 }
-    ensures goes { (expected : Option (ℕ × ℕ))
-        → IsStep expected Stage.ReasonLength field.now result }
-    ensures falls { IsFurther 2 result.position }
-{
-    let count = u32::from_be_bytes([field[0], field[1], field[2], field[3]]);
-    next(Stage::Reason { count })
-}
-
-// The host's own format is read over (RFC 6143, section 7.3.2).
-fn behind_head(width: u16, height: u16, field: &[u8]) -> AfterField
-    requires { length field.now ≡ 20 }
-    ensures goes { (expected : Option (ℕ × ℕ))
-        → IsStep expected (Stage.Head width height) field.now result }
-    ensures falls { IsFurther 4 result.position }
-{
-    let count = u32::from_be_bytes([field[16], field[17], field[18], field[19]]);
-    next(Stage::Name {
-        width,
-        height,
-        count,
-    })
 }
 
 // What is beyond the name's first bytes is read over.
@@ -255,10 +237,17 @@ pub fn behind(
         Stage::Count => Ok(behind_count(field)),
         Stage::Types { count } => behind_types(count, field),
         Stage::Outcome => Ok(behind_outcome(field)),
-        Stage::ReasonLength => Ok(behind_length(field)),
+        Stage::ReasonLength => Ok(next(Stage::Reason {
+            count: number_at(field, 0),
+        })),
         Stage::Reason { .. } => Err(HostFault::Failed),
         Stage::Size => behind_size(expected, field),
-        Stage::Head { width, height } => Ok(behind_head(width, height, field)),
+        // The host's own format is read over (RFC 6143, section 7.3.2).
+        Stage::Head { width, height } => Ok(next(Stage::Name {
+            width,
+            height,
+            count: number_at(field, 16),
+        })),
         Stage::Name {
             width,
             height,
