@@ -92,52 +92,6 @@ where
     Ok(status.parse::<u8>().ok() == Some(ended) && printed.as_slice() == output.as_slice())
 }
 
-// Whether a command ends with this refusal.
-fn is_refused<R>(rt: &R, words: &[&str], refusal: &str) -> Result<bool, Fail>
-where
-    R: AllocGlobal + Clock + Eprint + Files<File = File> + Sync + Threads + Wait,
-    R: Net<Stream = TcpStream, Listener = TcpListener>,
-{
-    let (status, printed) = ran(rt, words, "")?;
-    let command = words.first().ok_or("no command")?;
-    let line = format!(in rt.alloc(); "recorderd: {command} refused {refusal}\n")?;
-    Ok(status == 1 && printed.as_slice() == line.as_bytes())
-}
-
-// Whether each command of a paragraph's lines ends with the refusal behind it.
-fn are_refused<R>(rt: &R, lines: &str) -> Result<bool, Fail>
-where
-    R: AllocGlobal + Clock + Eprint + Files<File = File> + Sync + Threads + Wait,
-    R: Net<Stream = TcpStream, Listener = TcpListener>,
-{
-    for line in lines.lines() {
-        let (words, refusal) = line.split_once(" ; ").ok_or("a refusal")?;
-        let words: Vec<&str> = words.split_whitespace().collect(rt.alloc())?;
-        if !is_refused(rt, &words, refusal)? {
-            return Ok(false);
-        }
-    }
-    Ok(true)
-}
-
-// Whether a command ends with the refusal behind each change of a paragraph's lines, on the file that
-// is changed so.
-fn are_changes_refused<R>(rt: &R, from: &str, command: &str, lines: &str) -> Result<bool, Fail>
-where
-    R: AllocGlobal + Clock + Eprint + Files<File = File> + Sync + Threads + Wait,
-    R: Net<Stream = TcpStream, Listener = TcpListener>,
-{
-    for line in lines.lines() {
-        let (place_and_byte, refusal) = line.split_once(" ; ").ok_or("a refusal")?;
-        let (place, byte) = place_and_byte.split_once(" ").ok_or("a place")?;
-        change(rt, from, "changed", place, byte)?;
-        if !is_refused(rt, &[command, "changed"], refusal)? {
-            return Ok(false);
-        }
-    }
-    Ok(true)
-}
-
 // Writes a file as another one, with another byte at a place.
 fn change<R: AllocGlobal + Files<File = File>>(
     rt: &R,
@@ -166,8 +120,6 @@ where
     match words.as_slice() {
         ["#", ..] => {}
         ["file", name] => fs::write(rt, *name, bytes_of(alloc, lines)?.as_slice())?,
-        ["refused"] => return are_refused(rt, lines),
-        ["changed", from, command] => return are_changes_refused(rt, from, command, lines),
         ["change", from, name, place, byte] => change(rt, from, name, place, byte)?,
         ["link", from, name] => fs::hard_link(rt, *from, *name)?,
         ["remove", names @ ..] => {

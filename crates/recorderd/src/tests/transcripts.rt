@@ -6,8 +6,6 @@
 //! |---|---|
 //! | `STATUS WORDS`, and lines behind `< `, `| ` and `: ` | with these words and this input it ends so, and prints these lines and bytes |
 //! | `file NAME`, and bytes | a file is written |
-//! | `refused`, and lines `WORDS ; AREA N` | with these words and no input it ends with 1, and prints that refusal |
-//! | `changed FROM COMMAND`, and lines `PLACE BYTE ; AREA N` | so it does on another file, `changed`, which is FROM with another byte at a place |
 //! | `change FROM NAME PLACE BYTE` | a file is written as another one, with another byte at a place |
 //! | `link FROM NAME` | a file has another name, too |
 //! | `here NAME`, and bytes | a file has just these bytes |
@@ -90,16 +88,20 @@ here o
 
 # A part that isn't there: nothing is created or emptied.
 
-refused
-export r 1 0 o ; export 2
-export r 2 1 o ; export 1
+1 export r 1 0 o
+| recorderd: export refused export 2
+
+1 export r 2 1 o
+| recorderd: export refused export 1
 
 0 fbs-check o
 | fbs 1 1 messages 1 rest 0
 
-refused
-export r 2 1 p ; export 1
-fbs-check p ; file 1
+1 export r 2 1 p
+| recorderd: export refused export 1
+
+1 fbs-check p
+| recorderd: fbs-check refused file 1
 
 here r
 4f524642524543310001000100040001784f0000001d 00010000000000000000140000000100000000000100
@@ -138,42 +140,80 @@ file mine
 
 link mine also_mine
 
-refused
-export mine 0 1 mine ; file 1
-export mine 0 1 ./mine ; file 1
-export mine 0 1 also_mine ; file 1
-export mine 0 1 no_such_folder/o ; file 1
-drill --keep mine ; file 1
-drill --keep no_such_folder/r ; file 1
-check no_such_file ; file 1
-list no_such_file ; file 1
-times no_such_file ; file 1
-frames no_such_file --rate 1 ; file 1
-browse no_such_file ; file 1
-browse mine --listen nowhere ; net 1
+1 export mine 0 1 mine
+| recorderd: export refused file 1
+
+1 export mine 0 1 ./mine
+| recorderd: export refused file 1
+
+1 export mine 0 1 also_mine
+| recorderd: export refused file 1
+
+1 export mine 0 1 no_such_folder/o
+| recorderd: export refused file 1
+
+1 drill --keep mine
+| recorderd: drill refused file 1
+
+1 drill --keep no_such_folder/r
+| recorderd: drill refused file 1
+
+1 check no_such_file
+| recorderd: check refused file 1
+
+1 list no_such_file
+| recorderd: list refused file 1
+
+1 times no_such_file
+| recorderd: times refused file 1
+
+1 frames no_such_file --rate 1
+| recorderd: frames refused file 1
+
+1 browse no_such_file
+| recorderd: browse refused file 1
+
+1 browse mine --listen nowhere
+| recorderd: browse refused net 1
 
 # A folder is opened, and fails at the first read; a full device at the first write.
 
-refused
-check . ; journal 3
-fbs-check . ; fbs 9
-export mine 0 1 . ; file 1
-export mine 0 1 /dev/full ; export 5
-export no_such_file 0 1 o ; file 1
-serve --file mine --listen nowhere --viewers 64 --from 0 ; net 1
+1 check .
+| recorderd: check refused journal 3
+
+1 fbs-check .
+| recorderd: fbs-check refused fbs 9
+
+1 export mine 0 1 .
+| recorderd: export refused file 1
+
+1 export mine 0 1 /dev/full
+| recorderd: export refused export 5
+
+1 export no_such_file 0 1 o
+| recorderd: export refused file 1
+
+1 serve --file mine --listen nowhere --viewers 64 --from 0
+| recorderd: serve refused net 1
 
 # What can't be served makes no file, and an empty one is no recording.
 
-refused
-serve --file none --listen 127.0.0.1:0 ; file 1
-serve --file none --listen 127.0.0.1:0 --host nowhere --key 4096 ; net 1
-serve --file none --listen 127.0.0.1:0 --host 127.0.0.1:1 ; net 1
-check none ; file 1
+1 serve --file none --listen 127.0.0.1:0
+| recorderd: serve refused file 1
+
+1 serve --file none --listen 127.0.0.1:0 --host nowhere --key 4096
+| recorderd: serve refused net 1
+
+1 serve --file none --listen 127.0.0.1:0 --host 127.0.0.1:1
+| recorderd: serve refused net 1
+
+1 check none
+| recorderd: check refused file 1
 
 file empty
 
-refused
-serve --file empty --listen 127.0.0.1:0 ; journal 1
+1 serve --file empty --listen 127.0.0.1:0
+| recorderd: serve refused journal 1
 
 here mine
 4f524642524543310001000100040001784f0000001d 00010000000000000000140000000100000000000100
@@ -187,39 +227,76 @@ file r
 4f524642524543310001000100040001784f0000001d 00010000000000000000140000000100000000000100
 01000000000000ff0043
 
-# Changed are the entry's kind and its length, the message's type, the body's length, and how many
-# entries there are.
+# Kind of the entry.
 
-changed r check
-24 2 ; index 1 block 0
-24 1 ; index 3 block 0
-32 21 ; index 1 block 0
-32 19 ; index 2 block 0
-33 9 ; index 2 block 0
-21 28 ; index 1 block 0
-23 2 ; index 1 block 0
-23 0 ; journal 2 block 0
+change r d 24 2
+
+1 check d
+| recorderd: check refused index 1 block 0
+
+change r d 24 1
+
+1 check d
+| recorderd: check refused index 3 block 0
+
+# Its length.
+
+change r d 32 21
+
+1 check d
+| recorderd: check refused index 1 block 0
+
+change r d 32 19
+
+1 check d
+| recorderd: check refused index 2 block 0
+
+# The message's type.
+
+change r d 33 9
+
+1 check d
+| recorderd: check refused index 2 block 0
+
+# The body's length.
+
+change r d 21 28
+
+1 check d
+| recorderd: check refused index 1 block 0
+
+# How many entries there are.
+
+change r d 23 2
+
+1 check d
+| recorderd: check refused index 1 block 0
+
+change r d 23 0
+
+1 check d
+| recorderd: check refused journal 2 block 0
 
 # A header that is cut off, a header alone, and a block that is cut off; and one with a closed gate.
 
 file d
 4f524642524543310001000100040001
 
-refused
-check d ; journal 1
+1 check d
+| recorderd: check refused journal 1
 
 file d
 4f52464252454331000100010004000178
 
-refused
-check d ; journal 2 block 0
+1 check d
+| recorderd: check refused journal 2 block 0
 
 file d
 4f524642524543310001000100040001784f0000001d 00010000000000000000140000000100000000000100
 01000000000000ff00
 
-refused
-check d ; journal 2 block 0
+1 check d
+| recorderd: check refused journal 2 block 0
 
 change r d 17 0
 
@@ -232,12 +309,16 @@ file d
 4f524642524543310001000100040001784f00000014 00020000000005000000010200000000040000000102
 43
 
-refused
-list d ; index 4 block 0
-check d ; index 4 block 0
-export d 0 1 o ; index 4 block 0
+1 list d
+| recorderd: list refused index 4 block 0
 
-remove r d changed";
+1 check d
+| recorderd: check refused index 4 block 0
+
+1 export d 0 1 o
+| recorderd: export refused index 4 block 0
+
+remove r d";
 
 /// A recording of format 2, whose blocks are chained by digests.
 pub const CHAINED: &str = "\
@@ -278,31 +359,35 @@ here chained
 0 digest chained 39d7152cbe60f1a64b3c9ac3743e6387e6fc7a35e038a825c7bcdbd9bde2dfa5
 | block 0 digest 39d7152cbe60f1a64b3c9ac3743e6387e6fc7a35e038a825c7bcdbd9bde2dfa5
 
-refused
-digest chained 0000000000000000000000000000000000000000000000000000000000000000 ; digest 2
+1 digest chained 0000000000000000000000000000000000000000000000000000000000000000
+| recorderd: digest refused digest 2
 
 # A digest of which one bit is changed, and a body of which one is.
 
-changed chained check
-24 56 ; journal 5 block 0
+change chained bad 24 56
 
-changed chained digest
-60 1 ; journal 5 block 0
+1 check bad
+| recorderd: check refused journal 5 block 0
+
+change chained bad 60 1
+
+1 digest bad
+| recorderd: digest refused journal 5 block 0
 
 # A recording of format 2 without blocks, and one of format 1.
 
 file bad
 4f5246425245433200010001000400017843
 
-refused
-digest bad ; digest 2
+1 digest bad
+| recorderd: digest refused digest 2
 
 file bad
 4f524642524543310001000100040001784f0000001d 00010000000000000000140000000100000000000100
 01000000000000ff0043
 
-refused
-digest bad ; digest 1
+1 digest bad
+| recorderd: digest refused digest 1
 
 # That one, written again in format 2.
 
@@ -314,14 +399,16 @@ here again
 39d7152cbe60f1a64b3c9ac3743e6387e6fc7a35e038a825c7bcdbd9bde2dfa5
 000000000000000014000000010000000000010001000000000000ff0043
 
-refused
-migrate again bad ; migrate 5
-migrate bad again ; migrate 1
+1 migrate again bad
+| recorderd: migrate refused migrate 5
+
+1 migrate bad again
+| recorderd: migrate refused migrate 1
 
 0 check again
 | recording 1 1 messages 1 blocks 1
 
-remove chained bad again changed";
+remove chained bad again";
 
 /// FBS files.
 pub const FBS_FILES: &str = "\
@@ -354,14 +441,14 @@ file d
 464253203030312e3030300a00000029524642203030 332e3030330a00000001000100012018000100ff00ff
 00ff1008000000000000000178000000000000000000 00070000
 
-refused
-fbs-check d ; fbs 2
+1 fbs-check d
+| recorderd: fbs-check refused fbs 2
 
 file d
 464253203030312e303030
 
-refused
-fbs-check d ; fbs 1
+1 fbs-check d
+| recorderd: fbs-check refused fbs 1
 
 # A black update, no colours of a colour map, which aren't recorded, a bell, and a red update, in one
 # block.
@@ -378,19 +465,41 @@ file d
 # A byte is changed: of the start, the version, the security type, the format, the width, the
 # type of a message.
 
-changed f fbs-check
-0 0 ; fbs 1
-24 56 ; fbs 3
-31 2 ; fbs 4
-36 16 ; fbs 5
-33 0 ; fbs 6
-68 9 ; fbs 7 wire 1
+change f d 0 0
 
-remove f d changed";
+1 fbs-check d
+| recorderd: fbs-check refused fbs 1
+
+change f d 24 56
+
+1 fbs-check d
+| recorderd: fbs-check refused fbs 3
+
+change f d 31 2
+
+1 fbs-check d
+| recorderd: fbs-check refused fbs 4
+
+change f d 36 16
+
+1 fbs-check d
+| recorderd: fbs-check refused fbs 5
+
+change f d 33 0
+
+1 fbs-check d
+| recorderd: fbs-check refused fbs 6
+
+change f d 68 9
+
+1 fbs-check d
+| recorderd: fbs-check refused fbs 7 wire 1
+
+remove f d";
 
 /// Key screens, pictures, frames and times.
 pub const SHOWN: &str = "\
-remove k d o.ppm o.bmp changed
+remove k d o.ppm o.bmp
 
 # Three messages in two blocks, of which the second has a key screen: red, green and blue; then twice
 # the first two places copied one to the right.
@@ -439,11 +548,15 @@ here k
 
 change k d 127 255
 
-changed d check
-128 0 ; index 3 block 1
+change d d 128 0
 
-changed k check
-13 3 ; index 3 block 1
+1 check d
+| recorderd: check refused index 3 block 1
+
+change k d 13 3
+
+1 check d
+| recorderd: check refused index 3 block 1
 
 change k d 13 1
 
@@ -476,9 +589,11 @@ here o.bmp
 424d4200000000000000360000002800000003000000 0100000001002000000000000c000000000000000000
 000000000000000000000000ff0000ff0000ff000000
 
-refused
-picture k o.ppm --message 4 ; replay 1
-picture k no/o.ppm --at 0 ; file 1
+1 picture k o.ppm --message 4
+| recorderd: picture refused replay 1
+
+1 picture k no/o.ppm --at 0
+| recorderd: picture refused file 1
 
 # Black at first, and the newest screen once the last message has come; then that of the time of the
 # first message alone.
@@ -496,7 +611,7 @@ here k
 00004f00000042000201000000070000001c00000001 0000000000030001000000000000ff000000ff0000ff
 00000000000009000000140000000100010000000200 01000000010000000043
 
-remove k d o.ppm o.bmp changed
+remove k d o.ppm o.bmp
 
 # An update, a bell and an update a second later, and one more in a second block.
 
