@@ -2,7 +2,7 @@
 
 ghost use Rattle.std.specs.Prelude.{◌≢◌};
 
-use crate::recording::{open_file, open_recording};
+use crate::recording::open_path;
 use crate::refusal::{Ended, Refusal};
 use file_disk::{FileDisk, Progress, sync_folder};
 use gated_journal::State;
@@ -62,8 +62,7 @@ pub fn write_migration<R: Files<File = File> + AllocGlobal>(
     progress: Progress,
 ) -> Result<u64, Ended> {
     let alloc = rt.alloc();
-    let file = open_file(rt, what.recording)?;
-    let mut index = open_recording(alloc, file, progress)?;
+    let mut index = open_path(rt, what.recording, progress)?;
     may_be_migrated(&index).map_err(Refusal::Migrate)?;
     let file = open_target(rt, what.out)?;
     let target = FileDisk::watched(file, progress);

@@ -5,7 +5,7 @@ ghost use Rattle.std.specs.Prelude.{◌≡◌, IfOk};
 use crate::refusal::Refusal;
 use file_disk::{FileDisk, Progress};
 use gated_journal::State;
-use key_index::Indexed;
+use key_index::{IndexFault, Indexed};
 use std::alloc::Global;
 use std::fs::File;
 use std::rt::Files;
@@ -18,26 +18,32 @@ pub fn open_file<R: Files<File = File>>(files: &R, path: &str) -> Result<File, R
     }
 }
 
-/// The recording in a file, opened for reading alone.
+/// The recording at a path, opened for reading alone.
 pub fn open_path<R: Files<File = File> + AllocGlobal>(
     rt: &R,
     path: &str,
     progress: Progress,
-) -> Result<Indexed<FileDisk>, Refusal> {
+) -> Result<Box<Indexed<FileDisk>>, Refusal>
+    ensures ready { IfOk result (λ i. i.value.numbers.state ≡ State.Ready) }
+{
     let file = open_file(rt, path)?;
     open_recording(rt.alloc(), file, progress)
 }
 
-/// The recording that a file holds.
+/// The recording that a file holds. It is boxed, since it is large, and each way out of a function
+/// that owns it would take it apart.
 pub fn open_recording(
     alloc: Global,
     file: File,
     progress: Progress,
-) -> Result<Indexed<FileDisk>, Refusal>
-    ensures ready { IfOk result (λ i. i.numbers.state ≡ State.Ready) }
+) -> Result<Box<Indexed<FileDisk>>, Refusal>
+    ensures ready { IfOk result (λ i. i.value.numbers.state ≡ State.Ready) }
 {
     match Indexed::open(alloc, FileDisk::watched(file, progress)) {
-        Ok(index) => Ok(index),
+        Ok(index) => match Box::new(alloc, index) {
+            Ok(index) => Ok(index),
+            Err(_) => Err(Refusal::Recording(IndexFault::NoMemory)),
+        },
         Err(refused) => Err(Refusal::Recording(refused.fault)),
     }
 }
