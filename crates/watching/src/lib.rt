@@ -2,7 +2,11 @@
 #![tactic(auto)]
 
 mod live;
+mod place;
 mod played;
+mod watching;
 
-pub use live::Watching;
-pub use played::Playing;
+pub use live::Live;
+pub use place::Place;
+pub use played::Played;
+pub use watching::{Guide, Watching};

@@ -1,0 +1,95 @@
+//! A viewer's worker's sink, whatever decides what is shown when.
+
+use crate::place::Place;
+use connections::{Room, Viewer};
+use replay::Slice;
+use shared_book::{Ending, Mark, Receipt, ViewerSink, ViewerWish};
+use sockets::Connection;
+use std::sync::Wait;
+use std::time::Clock;
+
+/// Decides what a viewer is shown next, and when.
+pub trait Guide<M: Mark, C: Connection, R: Clock + Eprint + Wait>: Drop {
+    /// What is wanted for the viewer at this place. It may wait before.
+    fn wish(&mut self, place: &Place<'_, M, C, R>) -> ViewerWish;
+
+    /// Returns once these messages, which were handed to the viewer's worker, may be shown.
+    fn hold(&mut self, place: &Place<'_, M, C, R>, slice: &Slice);
+}
+
+/// Shows a viewer the recording as its guide decides.
+#[derive(Drop)]
+pub struct Watching<'a, M: Mark, C: Connection, R: Clock + Eprint + Wait, G: Guide<M, C, R>> {
+    place: Place<'a, M, C, R>,
+    guide: G,
+}
+
+impl<'a, M: Mark, C: Connection, R: Clock + Eprint + Wait, G: Guide<M, C, R>> Watching<
+    'a,
+    M,
+    C,
+    R,
+    G,
+> {
+    /// At the start of a viewer's seat.
+    pub fn new(
+        rt: &'a R,
+        viewer: &'a Viewer<M, C>,
+        room: &'a Room<M>,
+        guide: G,
+    ) -> Watching<'a, M, C, R, G> {
+        Watching {
+            place: Place::new(rt, viewer, room),
+            guide,
+        }
+    }
+}
+
+impl<'a, M: Mark, C: Connection, R: Clock + Eprint + Wait, G: Guide<M, C, R>> ViewerSink<
+    Receipt<M>,
+    Ending<M>,
+> for Watching<'a, M, C, R, G> {
+    ghost width = { λ w. M.head.width };
+
+    ghost height = { λ w. M.head.height };
+
+    ghost position = { λ w. w.place.position };
+
+    ghost fresh = { λ w. w.place.is_fresh };
+
+    ghost slice_of = { λ r. r };
+
+    ghost count_of = { λ e. e.count };
+
+    fn has_left(&self) -> bool {
+        self.place.viewer.has_left()
+    }
+
+    fn seated(&mut self, count: u64) {
+        self.place.go_to(count);
+    }
+
+    fn wish(&mut self) -> ViewerWish {
+        let wish = self.guide.wish(&self.place);
+        if let ViewerWish::Seek(count) = wish {
+            self.place.go_to(count);
+        }
+        wish
+    }
+
+    fn slice(&mut self, receipt: Receipt<M>) {
+        let slice = receipt.slice();
+        self.guide.hold(&self.place, slice);
+        self.place.position = slice.end();
+        self.place.is_fresh = false;
+        self.place.show(slice);
+    }
+
+    fn end(&mut self, _ending: Ending<M>) {
+        self.place.is_at_end = true;
+    }
+
+    fn shortage(&mut self) {
+        self.place.tell_shortage();
+    }
+}
