@@ -5,8 +5,11 @@ mod beginning;
 mod committing;
 mod entrance;
 mod no_turnstile;
+mod opening;
 mod recording;
+mod service;
 mod serving;
+mod stopped;
 
 pub use connections::{Audience, Format, Origin, Plan, Playing};
 pub use playing::Pace;

@@ -1,7 +1,8 @@
 //! The recording's file: opened where it has bytes, or made whole.
 
-use connections::{Event, Refusal, Telling};
-use file_disk::{FileDisk, LastError, sync_folder};
+use crate::opening::Opening;
+use connections::{Event, Refusal};
+use file_disk::{FileDisk, sync_folder};
 use flusher_core::Book;
 use gated_journal::{CreateFault, Header};
 use key_index::IndexFault;
@@ -39,8 +40,9 @@ impl Identity {
 /// What stands at the recording's path.
 #[derive(Drop)]
 pub enum Found {
-    /// A recording, opened.
-    Recording(Book<FileDisk>, Identity),
+    /// A recording, opened. It is boxed, since it is large, and each way out of a function that owns
+    /// it would take it apart.
+    Recording(Box<Book<FileDisk>>, Identity),
     /// A file without bytes, open and locked.
     Empty(File),
     /// Nothing.
@@ -65,94 +67,6 @@ fn is_link<R: Files<File = File>>(rt: &R, path: &str) -> bool {
     }
 }
 
-// The file at a path, open and locked, and what the system says of it; none where nothing is there.
-// A device or a pipe is refused, and isn't opened.
-fn open_file<R: Eprint + Files<File = File> + Wait>(
-    rt: &R,
-    path: &str,
-    is_written: bool,
-    telling: &Telling,
-) -> Result<Option<(File, Metadata)>, Refusal> {
-    match fs::metadata(rt, path) {
-        Ok(metadata) if !metadata.is_file() => {
-            telling.tell(rt, Event::NoFile(path));
-            return Err(Refusal::File);
-        }
-        Err(error) if is_written && error.kind() == io::ErrorKind::NotFound => return Ok(None),
-        _ => {}
-    }
-    let opened = OpenOptions::new()
-        .read(true)
-        .write(is_written)
-        .open(rt, path);
-    let file = match opened {
-        Ok(file) => file,
-        Err(error) => {
-            telling.tell_failure(rt, "open", path, &error);
-            return Err(Refusal::File);
-        }
-    };
-    match lock(&file, is_written).and_then(|()| file.metadata()) {
-        Ok(metadata) => Ok(Some((file, metadata))),
-        Err(error) => {
-            if error.kind() == io::ErrorKind::WouldBlock {
-                telling.tell(rt, Event::Locked(path));
-            } else {
-                telling.tell_failure(rt, "lock", path, &error);
-            }
-            Err(Refusal::File)
-        }
-    }
-}
-
-// Opens the recording in a file.
-fn open_book<R: Eprint + Wait>(
-    rt: &R,
-    alloc: Global,
-    file: File,
-    path: &str,
-    telling: &Telling,
-    last_error: &LastError,
-) -> Result<Book<FileDisk>, Refusal> {
-    let Ok(noting) = last_error.share() else {
-        return Err(Refusal::Recording(IndexFault::NoMemory));
-    };
-    match Book::open(alloc, FileDisk::noting(file, noting)) {
-        Ok(book) => Ok(book),
-        Err(refused) => {
-            if let Some(error) = last_error.get() {
-                telling.tell_failure(rt, "read", path, &error);
-            }
-            Err(Refusal::Recording(refused.fault))
-        }
-    }
-}
-
-/// Opens the recording at a path, to be written or only to be read, and locks its file. What is no
-/// file is refused, and so is a link to nothing or to a file without bytes.
-pub fn find<R: Eprint + Files<File = File> + Wait>(
-    rt: &R,
-    alloc: Global,
-    path: &str,
-    is_written: bool,
-    telling: &Telling,
-    last_error: &LastError,
-) -> Result<Found, Refusal> {
-    let found = match open_file(rt, path, is_written, telling)? {
-        Some((file, metadata)) if is_written && metadata.len() == 0 => Found::Empty(file),
-        Some((file, metadata)) => {
-            let book = open_book(rt, alloc, file, path, telling, last_error)?;
-            return Ok(Found::Recording(book, Identity::of(&metadata)));
-        }
-        None => Found::Nothing,
-    };
-    if is_link(rt, path) {
-        telling.tell(rt, Event::Link(path));
-        return Err(Refusal::File);
-    }
-    Ok(found)
-}
-
 // A file beside the recording's path, empty, locked, and for its owner alone. What a creation that
 // was cut off left there is replaced.
 fn open_draft<R: Files<File = File>>(rt: &R, draft: &str, path: &str) -> io::Result<File> {
@@ -174,63 +88,127 @@ fn open_draft<R: Files<File = File>>(rt: &R, draft: &str, path: &str) -> io::Res
     Ok(file)
 }
 
-// Gives a whole recording its name, on the device.
-fn publish<R: Eprint + Files<File = File> + Wait>(
-    rt: &R,
-    draft: &str,
-    path: &str,
-    telling: &Telling,
-) -> Result<(), Refusal> {
-    if let Err(error) = fs::rename(rt, draft, path) {
-        telling.tell_failure(rt, "rename to", path, &error);
-        let _removed = fs::remove_file(rt, draft);
-        return Err(Refusal::File);
+fn boxed(alloc: Global, book: Book<FileDisk>) -> Result<Box<Book<FileDisk>>, Refusal> {
+    match Box::new(alloc, book) {
+        Ok(book) => Ok(book),
+        Err(_) => Err(Refusal::Recording(IndexFault::NoMemory)),
     }
-    if let Err(error) = sync_folder(rt, path) {
-        telling.tell_failure(rt, "sync the folder of", path, &error);
-        return Err(Refusal::File);
-    }
-    Ok(())
 }
 
-/// Makes a recording at a path where there is none, or no byte. It appears there whole: it is made
-/// under a name beside, with `.new` behind it, and renamed once its header and first gate are on
-/// the device.
-pub fn create<R: Eprint + Files<File = File> + Wait>(
-    rt: &R,
-    alloc: Global,
-    path: &str,
-    header: Header,
-    telling: &Telling,
-    last_error: &LastError,
-) -> Result<(Book<FileDisk>, Identity), Refusal> {
-    let Ok(draft) = format!(in alloc; "{path}.new") else {
-        return Err(Refusal::Create(CreateFault::NoMemory));
-    };
-    let Ok(noting) = last_error.share() else {
-        return Err(Refusal::Create(CreateFault::NoMemory));
-    };
-    let opened = open_draft(rt, &draft, path).and_then(|file| {
-        let metadata = file.metadata()?;
-        Ok((file, Identity::of(&metadata)))
-    });
-    let (file, identity) = match opened {
-        Ok(opened) => opened,
-        Err(error) => {
-            telling.tell_failure(rt, "make", &draft, &error);
+impl<'a, R: AllocGlobal + Eprint + Files<File = File> + Wait> Opening<'a, R> {
+    // Tells of a file that a recorder has open why it can't be locked.
+    fn tell_lock(&self, error: &io::Error) {
+        let path = self.plan.file;
+        if error.kind() == io::ErrorKind::WouldBlock {
+            self.telling.tell(self.rt, Event::Locked(path));
+        } else {
+            self.telling.tell_failure(self.rt, "lock", path, error);
+        }
+    }
+
+    // The file at the recording's path, open and locked, and what the system says of it; none where
+    // nothing is there. A device or a pipe is refused, and isn't opened.
+    fn open_file(&self, is_written: bool) -> Result<Option<(File, Metadata)>, Refusal> {
+        let path = self.plan.file;
+        match fs::metadata(self.rt, path) {
+            Ok(metadata) if !metadata.is_file() => {
+                self.telling.tell(self.rt, Event::NoFile(path));
+                return Err(Refusal::File);
+            }
+            Err(error) if is_written && error.kind() == io::ErrorKind::NotFound => return Ok(None),
+            _ => {}
+        }
+        let opened = OpenOptions::new()
+            .read(true)
+            .write(is_written)
+            .open(self.rt, path);
+        let file = self.given(opened, "open", path, Refusal::File)?;
+        match lock(&file, is_written).and_then(|()| file.metadata()) {
+            Ok(metadata) => Ok(Some((file, metadata))),
+            Err(error) => {
+                self.tell_lock(&error);
+                Err(Refusal::File)
+            }
+        }
+    }
+
+    // Tells what the device said last, if it said anything.
+    fn tell_last_error(&self, operation: &str, path: &str) {
+        if let Some(error) = self.last_error.get() {
+            self.telling.tell_failure(self.rt, operation, path, &error);
+        }
+    }
+
+    // Opens the recording in a file.
+    fn open_book(&self, file: File) -> Result<Box<Book<FileDisk>>, Refusal> {
+        let Ok(noting) = self.last_error.share() else {
+            return Err(Refusal::Recording(IndexFault::NoMemory));
+        };
+        match Book::open(self.rt.alloc(), FileDisk::noting(file, noting)) {
+            Ok(book) => boxed(self.rt.alloc(), book),
+            Err(refused) => {
+                self.tell_last_error("read", self.plan.file);
+                Err(Refusal::Recording(refused.fault))
+            }
+        }
+    }
+
+    /// Opens the recording at the plan's path, for a host to be written, else only to be read, and
+    /// locks its file. What is no file is refused, and so is a link to nothing or to a file without
+    /// bytes.
+    pub fn find(&self) -> Result<Found, Refusal> {
+        let is_written = self.plan.host.is_some();
+        let found = match self.open_file(is_written)? {
+            Some((file, metadata)) if is_written && metadata.len() == 0 => Found::Empty(file),
+            Some((file, metadata)) => {
+                let book = self.open_book(file)?;
+                return Ok(Found::Recording(book, Identity::of(&metadata)));
+            }
+            None => Found::Nothing,
+        };
+        if is_link(self.rt, self.plan.file) {
+            self.telling.tell(self.rt, Event::Link(self.plan.file));
             return Err(Refusal::File);
         }
-    };
-    let book = match Book::create(alloc, FileDisk::noting(file, noting), header) {
-        Ok(book) => book,
-        Err(refused) => {
-            if let Some(error) = last_error.get() {
-                telling.tell_failure(rt, "write", &draft, &error);
-            }
-            let _removed = fs::remove_file(rt, &draft);
-            return Err(Refusal::Create(refused.fault));
+        Ok(found)
+    }
+
+    // Gives a whole recording its name, on the device.
+    fn publish(&self, draft: &str) -> Result<(), Refusal> {
+        let path = self.plan.file;
+        let renamed = fs::rename(self.rt, draft, path);
+        if renamed.is_err() {
+            let _removed = fs::remove_file(self.rt, draft);
         }
-    };
-    publish(rt, &draft, path, telling)?;
-    Ok((book, identity))
+        self.given(renamed, "rename to", path, Refusal::File)?;
+        let synced = sync_folder(self.rt, path);
+        self.given(synced, "sync the folder of", path, Refusal::File)
+    }
+
+    /// Makes a recording at the plan's path where there is none, or no byte. It appears there whole:
+    /// it is made under a name beside, with `.new` behind it, and renamed once its header and first
+    /// gate are on the device.
+    pub fn create(&self, header: Header) -> Result<(Box<Book<FileDisk>>, Identity), Refusal> {
+        let alloc = self.rt.alloc();
+        let path = self.plan.file;
+        let (Ok(draft), Ok(noting)) = (format!(in alloc; "{path}.new"), self.last_error.share())
+        else {
+            return Err(Refusal::Create(CreateFault::NoMemory));
+        };
+        let opened = open_draft(self.rt, &draft, path).and_then(|file| {
+            let metadata = file.metadata()?;
+            Ok((file, Identity::of(&metadata)))
+        });
+        let (file, identity) = self.given(opened, "make", &draft, Refusal::File)?;
+        let book = match Book::create(alloc, FileDisk::noting(file, noting), header) {
+            Ok(book) => boxed(alloc, book)?,
+            Err(refused) => {
+                self.tell_last_error("write", &draft);
+                let _removed = fs::remove_file(self.rt, &draft);
+                return Err(Refusal::Create(refused.fault));
+            }
+        };
+        self.publish(&draft)?;
+        Ok((book, identity))
+    }
 }

@@ -1,0 +1,163 @@
+//! A recorder's beginning: the recording, the host, and where viewers come.
+
+use crate::beginning::beginning_of;
+use crate::recording::{Found, Identity};
+use crate::stopped::Stopped;
+use connections::{Beginning, Event, Host, Plan, Refusal, Stopwatch, Telling};
+use disk::Disk;
+use file_disk::{FileDisk, LastError};
+use flusher_core::Book;
+use gated_journal::Header;
+use std::alloc::AllocError;
+use std::fs::File;
+use std::io;
+use std::net::{Net, TcpListener, TcpStream};
+use std::rt::Files;
+use std::sync::Wait;
+use std::time::Clock;
+
+/// What a recorder is begun with: the system, what is asked for, and where is told what fails.
+#[derive(Drop)]
+pub struct Opening<'a, R> {
+    pub rt: &'a R,
+    pub plan: &'a Plan<'a>,
+    pub telling: &'a Telling,
+    pub last_error: &'a LastError,
+}
+
+/// A host, if there is one, and a second handle of its stream.
+#[derive(Drop)]
+pub struct Source {
+    pub host: Option<(Box<Host>, Stopwatch)>,
+    pub stream: Option<TcpStream>,
+}
+
+/// A recorder that may begin: its recording, which file that is, the host, and where viewers come.
+#[derive(Drop)]
+pub struct Opened {
+    pub book: Box<Book<FileDisk>>,
+    pub beginning: Beginning,
+    pub identity: Identity,
+    pub source: Source,
+    pub listener: TcpListener,
+}
+
+impl<'a, R: Eprint + Wait> Opening<'a, R> {
+    /// What the system gave, or this refusal, once what it said is told.
+    pub fn given<T>(
+        &self,
+        outcome: io::Result<T>,
+        operation: &str,
+        place: &str,
+        refusal: Refusal,
+    ) -> Result<T, Refusal> {
+        match outcome {
+            Ok(it) => Ok(it),
+            Err(error) => {
+                self.telling.tell_failure(self.rt, operation, place, &error);
+                Err(refusal)
+            }
+        }
+    }
+
+    // Where viewers come, as the closure makes it.
+    fn listener<L: FnOnce() -> io::Result<TcpListener> + Drop>(
+        &self,
+        listen: L,
+    ) -> Result<TcpListener, Stopped>
+        requires { L.IsAlwaysCallable listen }
+    {
+        let listener = self.given(listen(), "listen at", self.plan.listen, Refusal::Net)?;
+        listener.set_nonblocking(true)?;
+        self.telling
+            .tell(self.rt, Event::Listening(listener.local_addr()?));
+        Ok(listener)
+    }
+}
+
+impl<
+    'a,
+    R: AllocGlobal + Clock + Eprint + Files<File = File> + Net<Stream = TcpStream> + Wait,
+> Opening<'a, R> {
+    // The host's connection, if there is a host; of the size of the recording that was found.
+    fn host(&self, found: &Found) -> Result<Option<Box<Host>>, Stopped> {
+        let Some(address) = self.plan.host else {
+            return Ok(None);
+        };
+        let expected = match found {
+            Found::Recording(book, _) => Some(book.header().size()),
+            _ => None,
+        };
+        let host = Host::connect(self.rt, address, expected, self.telling)?;
+        let host = Box::new(self.rt.alloc(), host).map_err(AllocError::from)?;
+        Ok(Some(host))
+    }
+
+    // The recording that was found, or a new one for a host.
+    fn recording(
+        &self,
+        found: Found,
+        host: Option<&Host>,
+    ) -> Result<(Box<Book<FileDisk>>, Identity), Stopped> {
+        // A file without bytes stays locked until the recording has taken its place.
+        let _empty = match found {
+            Found::Recording(book, identity) => return Ok((book, identity)),
+            Found::Empty(file) => Some(file),
+            Found::Nothing => None,
+        };
+        let Some(((width, height), name)) = host.and_then(|host| host.screen()) else {
+            return Err(Stopped::Refused(Refusal::File));
+        };
+        let plan = self.plan;
+        let alloc = self.rt.alloc();
+        match Header::with_format(alloc, plan.format, width, height, plan.key_interval, name) {
+            Ok(header) => Ok(self.create(header)?),
+            Err(_) => Err(Stopped::out_of_memory()),
+        }
+    }
+
+    // The host, with a stopwatch that goes on from this time, and a second handle of its stream.
+    fn source(&self, host: Option<Box<Host>>, base: u32) -> Result<Source, Stopped> {
+        let Some(host) = host else {
+            return Ok(Source {
+                host: None,
+                stream: None,
+            });
+        };
+        let address = self.plan.host.unwrap_or("");
+        let stream = self.given(
+            host.stream(),
+            "share the socket of host",
+            address,
+            Refusal::Net,
+        )?;
+        let stopwatch = Stopwatch::start(self.rt, base)?;
+        Ok(Source {
+            host: Some((host, stopwatch)),
+            stream: Some(stream),
+        })
+    }
+
+    /// Opens the recording, connects to the host, listens, and makes the recording where there is
+    /// none.
+    pub fn open<L: FnOnce() -> io::Result<TcpListener> + Drop>(
+        &self,
+        listen: L,
+    ) -> Result<Opened, Stopped>
+        requires { L.IsAlwaysCallable listen }
+    {
+        let found = self.find()?;
+        let host = self.host(&found)?;
+        let listener = self.listener(listen)?;
+        let (mut book, identity) = self.recording(found, host.as_deref())?;
+        let source = self.source(host, book.last_time())?;
+        let beginning = beginning_of(&mut book, self.plan).map_err(Refusal::from)?;
+        Ok(Opened {
+            book,
+            beginning,
+            identity,
+            source,
+            listener,
+        })
+    }
+}

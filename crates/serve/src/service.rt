@@ -1,0 +1,231 @@
+//! The threads that record, beside those of viewers.
+
+use crate::committing::Committing;
+use crate::no_turnstile::NoTurnstile;
+use crate::stopped::{Stopped, refuse};
+use connections::{Ends, Event, Host, HostEnd, Messages, Refusal, Room, Stopwatch, first_refusal};
+use disk::Disk;
+use flusher_core::{HostRefusal, TakeRefusal};
+use shared_book::{FlusherEnd, Mark, Shared, run_flusher, run_host};
+use sockets::{Stop, wait_for_stop};
+use std::io::Write;
+use std::net::{Shutdown, TcpListener, TcpStream};
+use std::sync::{Mutex, Wait};
+use std::thread::{JoinHandle, Scope, Threads};
+use std::time::Clock;
+use std::{io, thread};
+
+/// What the threads of a recorder share.
+#[derive(Drop)]
+pub struct Service<'a, D: Disk, M: Mark, R> {
+    pub rt: &'a R,
+    pub shared: &'a Shared<D, M>,
+    pub room: &'a Room<M>,
+    /// Where viewers come.
+    pub listener: &'a TcpListener,
+    /// The host's stream, if there is a host, to be shut.
+    pub stream: Option<&'a TcpStream>,
+}
+
+/// How the host's worker and the host's stream ended.
+type HostEnds = (Result<(), HostRefusal>, HostEnd);
+
+/// The threads beside the flusher's.
+#[derive(Drop)]
+struct Crew {
+    host: Option<JoinHandle<HostEnds>>,
+    viewers: JoinHandle<bool>,
+}
+
+/// How a recorder ended, and whether that could be told.
+#[derive(Drop)]
+pub struct Outcome {
+    refusal: Option<Refusal>,
+    told: io::Result<()>,
+}
+
+impl Outcome {
+    /// How many messages are committed, where it is done.
+    pub fn of(self, committed: u64) -> Result<u64, Stopped> {
+        match (self.told, self.refusal) {
+            (Err(error), _) => Err(Stopped::Failed(error)),
+            (Ok(()), Some(_)) => Err(Stopped::Told),
+            (Ok(()), None) => Ok(committed),
+        }
+    }
+}
+
+// Says why the recorder is refused, if it is.
+fn outcome_of<W: Write>(refusal: Option<Refusal>, err: &mut W) -> Outcome {
+    let told = match refusal {
+        Some(refusal) => refuse(refusal, err),
+        None => Ok(()),
+    };
+    Outcome { refusal, told }
+}
+
+impl<'a, D: Disk, M: Mark, R: Clock + Eprint + Wait> Service<'a, D, M, R> {
+    // Hands in the host's messages until they end, and tells how its stream ended.
+    fn record(&self, host: Box<Host>, stopwatch: Stopwatch) -> HostEnds {
+        let end = Mutex::new(HostEnd::Closed);
+        let messages = Messages::new(self.rt, Box::into_inner(host), stopwatch, self.room, &end);
+        let worker = run_host(self.rt, self.shared, messages, &NoTurnstile);
+        let end = end.into_inner();
+        if !self.room.is_stopped() {
+            self.room.telling.tell(self.rt, Event::HostEnded(end));
+        }
+        (worker, end)
+    }
+
+    // Shuts the host's stream, so that nothing more is read from it.
+    fn shut(&self, how: Shutdown) {
+        if let Some(stream) = self.stream {
+            let _shut = stream.shutdown(how);
+        }
+    }
+
+    // Tells why nothing more is recorded.
+    fn tell_why(&self, why: FlusherEnd) {
+        if let FlusherEnd::Take(TakeRefusal::NoMemory) = why {
+            self.room.telling.tell(self.rt, Event::OutOfMemory);
+            return;
+        }
+        let error = self.room.last_error.get();
+        self.room
+            .telling
+            .tell(self.rt, Event::DeviceFailed(error.as_ref()));
+    }
+
+    // Commits what was accepted, on this thread. A flusher that is refused ends the host, too.
+    fn flush(&self) -> Result<(), FlusherEnd> {
+        let committing = Committing::new(self.rt, self.room);
+        let end = run_flusher(self.rt, self.shared, committing, &NoTurnstile);
+        self.room.tell_recorded(self.rt);
+        if let Err(why) = end {
+            self.tell_why(why);
+            self.shut(Shutdown::Both);
+        }
+        self.room.intake.end(self.rt);
+        end
+    }
+
+    // Waits for what stops the recorder from outside, and stops it.
+    fn stop_when(&self, stop: Stop) {
+        if let Ok(true) = wait_for_stop(self.rt, stop, &self.room.bell) {
+            self.room.telling.tell(self.rt, Event::Stopped);
+            self.room.stop(self.rt);
+            self.shut(Shutdown::Read);
+        }
+    }
+
+    // Ends what was started, where a thread couldn't be made.
+    fn give_up(&self) {
+        self.shut(Shutdown::Both);
+        self.room.intake.end(self.rt);
+        self.shared.end_host(self.rt);
+        self.shared.end_flusher(self.rt);
+        self.room.hall.end(self.rt);
+        self.room.stop(self.rt);
+        self.room.bell.ring();
+    }
+}
+
+impl<'a, D: Disk, M: Mark, R: Threads + Clock + Eprint + Wait> Service<'a, D, M, R> {
+    // Commits until the host has ended, and waits for its worker: how both ended.
+    fn record_all(&self, host: Option<JoinHandle<HostEnds>>) -> Ends {
+        let flusher = self.flush();
+        let (worker, host) = match host {
+            Some(recording) => recording.join(self.rt),
+            None => (Ok(()), HostEnd::Closed),
+        };
+        Ends {
+            flusher,
+            worker,
+            host,
+            is_listener_sound: true,
+        }
+    }
+
+    // Records until the host has ended, says at once where that is refused, and waits until nobody
+    // is left to be served.
+    fn conduct<W: Write>(&self, crew: Crew, err: &mut W) -> Outcome {
+        let Crew { host, viewers } = crew;
+        let ends = self.record_all(host);
+        let outcome = outcome_of(first_refusal(ends), err);
+        self.room.hall.end(self.rt);
+        self.room.hall.wait_until_done(self.rt);
+        self.room.bell.ring();
+        let is_listener_sound = viewers.join(self.rt);
+        if is_listener_sound || outcome.refusal.is_some() {
+            return outcome;
+        }
+        outcome_of(Some(Refusal::Net), err)
+    }
+}
+
+impl<'a, D: Disk + Send, M: Mark + Send + Sync, R: Threads + Clock + Eprint + Wait + Sync> Service<
+    'a,
+    D,
+    M,
+    R,
+> {
+    // Starts the threads beside the flusher's; none where one of them can't be made.
+    fn start<E>(
+        &'a self,
+        scope: &'a Scope<'a, E>,
+        host: Option<(Box<Host>, Stopwatch)>,
+        stop: Stop,
+    ) -> Option<Crew> {
+        let host = match host {
+            Some((host, stopwatch)) => {
+                Some(scope.spawn(move || self.record(host, stopwatch)).ok()?)
+            }
+            None => {
+                self.shared.end_host(self.rt);
+                None
+            }
+        };
+        if stop.may_come() {
+            scope.spawn(move || self.stop_when(stop)).ok()?;
+        }
+        let viewers = scope.spawn(move || self.accept_all()).ok()?;
+        Some(Crew { host, viewers })
+    }
+
+    // Runs the threads of a recorder within a scope of theirs, until all is done.
+    fn run<E, W: Write>(
+        &'a self,
+        scope: &'a Scope<'a, E>,
+        host: Option<(Box<Host>, Stopwatch)>,
+        stop: Stop,
+        err: &mut W,
+    ) -> Outcome {
+        match self.start(scope, host, stop) {
+            Some(crew) => self.conduct(crew, err),
+            None => {
+                self.give_up();
+                outcome_of(Some(Refusal::Thread), err)
+            }
+        }
+    }
+}
+
+/// Records a host, if there is one, and serves viewers, until all have ended: how it ended.
+pub fn run_threads<
+    'a,
+    D: Disk + Send,
+    M: Mark + Send + Sync,
+    R: Threads + Clock + Eprint + Wait + Sync,
+    W: Write,
+>(
+    service: &'a Service<'a, D, M, R>,
+    host: Option<(Box<Host>, Stopwatch)>,
+    stop: Stop,
+    err: &'a mut W,
+) -> Outcome {
+    thread::scope(
+        thread::scope_env(),
+        service.rt,
+        |scope| service.run(scope, host, stop, err),
+    )
+}

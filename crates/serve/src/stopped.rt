@@ -1,0 +1,46 @@
+//! How a recorder ends that isn't done.
+
+use connections::Refusal;
+use std::alloc::AllocError;
+use std::io;
+use std::io::Write;
+
+/// How a recorder ends that isn't done.
+pub enum Stopped {
+    Refused(Refusal),
+    /// It was refused, and that was told.
+    Told,
+    /// A stream can't be written, or memory for the program's own work is wanting.
+    Failed(io::Error),
+}
+
+impl Stopped {
+    /// Memory for the program's own work is wanting.
+    pub fn out_of_memory() -> Stopped {
+        Stopped::Failed(io::ErrorKind::OutOfMemory.into())
+    }
+}
+
+impl From<Refusal> for Stopped {
+    fn from(refusal: Refusal) -> Stopped {
+        Stopped::Refused(refusal)
+    }
+}
+
+impl From<AllocError> for Stopped {
+    fn from(error: AllocError) -> Stopped {
+        Stopped::Failed(error.into())
+    }
+}
+
+impl From<io::Error> for Stopped {
+    fn from(error: io::Error) -> Stopped {
+        Stopped::Failed(error)
+    }
+}
+
+/// Says why the recorder is refused.
+pub fn refuse<E: Write>(refusal: Refusal, err: &mut E) -> io::Result<()> {
+    writeln!(err, "recorderd: serve refused {refusal}")?;
+    err.flush()
+}
