@@ -9,5 +9,5 @@ mod serving;
 mod site;
 
 pub use request::{Asked, Fault, Judged, asked_by, judge};
-pub use serving::{Browsing, browse, browse_on};
+pub use serving::{Browsing, browse, listen_at};
 pub use sockets::Stop;

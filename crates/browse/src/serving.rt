@@ -97,6 +97,37 @@ fn open<R: AllocGlobal + Files<File = File> + Net>(
     Site::new(rt.alloc(), index, Bell::new(rt)?)
 }
 
+// Listens, says where, and serves until it is to end.
+fn serve<R, L, O: Write>(
+    rt: &R,
+    site: &Site,
+    stop: Stop,
+    listen: L,
+    out: &mut O,
+) -> Result<(), Ended>
+where
+    R: Clock + Sync + Threads + Wait,
+    L: FnOnce() -> io::Result<TcpListener> + Drop,
+    requires { L.IsAlwaysCallable listen }
+{
+    let Ok(listener) = listen() else {
+        return Err(Ended::Refused(Refusal::Net));
+    };
+    listener.set_nonblocking(true)?;
+    let address = listener.local_addr()?;
+    writeln!(out, "browsing http://{address}/")?;
+    out.flush()?;
+    let served = thread::scope(
+        thread::scope_env(),
+        rt,
+        |scope| serve_in(rt, scope, site, &listener, stop),
+    );
+    match served {
+        Ok(()) => Ok(()),
+        Err(_) => Err(Ended::Refused(Refusal::Net)),
+    }
+}
+
 fn run<R, L, O: Write>(
     rt: &R,
     what: &Browsing<'_>,
@@ -111,30 +142,14 @@ where
     requires { L.IsAlwaysCallable listen }
 {
     let site = open(rt, what.recording, progress)?;
-    let Ok(listener) = listen() else {
-        return Err(Ended::Refused(Refusal::Net));
-    };
-    listener.set_nonblocking(true)?;
-    let address = listener.local_addr()?;
-    writeln!(out, "browsing http://{address}/")?;
-    out.flush()?;
-    let stop = what.stop;
-    let served = thread::scope(
-        thread::scope_env(),
-        rt,
-        |scope| serve_in(rt, scope, &site, &listener, stop),
-    );
-    match served {
-        Ok(()) => Ok(()),
-        Err(_) => Err(Ended::Refused(Refusal::Net)),
-    }
+    serve(rt, &site, what.stop, listen, out)
 }
 
 /// Serves a page on which a recording, which is opened for reading alone, is looked at, to browsers
 /// that connect to the listener that the closure makes. It writes `browsing` and the page's address
 /// once they may come, and goes on until it is to stop. It answers as
 /// [`run`](file_commands::run) does.
-pub fn browse_on<R, L, O: Write, E: Write>(
+pub fn browse<R, L, O: Write, E: Write>(
     rt: &R,
     what: Browsing<'_>,
     listen: L,
@@ -151,8 +166,8 @@ where
     answer("browse", run(rt, &what, listen, progress, out), err)
 }
 
-// Listens at an address; a number alone is a port of this machine, which no other machine reaches.
-fn listen_at<R: Net<Stream = TcpStream, Listener = TcpListener>>(
+/// Listens at an address; a number alone is a port of this machine, which no other machine reaches.
+pub fn listen_at<R: Net<Stream = TcpStream, Listener = TcpListener>>(
     rt: &R,
     alloc: Global,
     address: &str,
@@ -162,28 +177,4 @@ fn listen_at<R: Net<Stream = TcpStream, Listener = TcpListener>>(
         return TcpListener::bind(rt, address.as_str());
     }
     TcpListener::bind(rt, address)
-}
-
-/// The same with browsers that connect to the address that is asked for.
-pub fn browse<R, O: Write, E: Write>(
-    rt: &R,
-    what: Browsing<'_>,
-    progress: Progress,
-    out: &mut O,
-    err: &mut E,
-) -> io::Result<bool>
-where
-    R: AllocGlobal + Clock + Files<File = File> + Sync + Threads + Wait,
-    R: Net<Stream = TcpStream, Listener = TcpListener>,
-{
-    let alloc = rt.alloc();
-    let address = what.listen;
-    browse_on(
-        rt,
-        what,
-        || listen_at(rt, alloc, address),
-        progress,
-        out,
-        err,
-    )
 }

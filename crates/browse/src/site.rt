@@ -29,7 +29,7 @@ const MOST_CONNECTIONS: u32 = 16;
 pub struct Site {
     pub alloc: Global,
     pub bell: Bell,
-    recording: Mutex<Indexed<FileDisk>>,
+    recording: Mutex<Box<Indexed<FileDisk>>>,
     times: Vec<u8>,
     connections: AtomicU32,
 }
@@ -107,7 +107,11 @@ fn write_refusal<W: Write>(refusal: Refusal, out: &mut W) -> io::Result<()> {
 
 impl Site {
     /// A recording that was opened, of which all is read once more.
-    pub fn new(alloc: Global, mut index: Indexed<FileDisk>, bell: Bell) -> Result<Site, Ended> {
+    pub fn new(
+        alloc: Global,
+        mut index: Box<Indexed<FileDisk>>,
+        bell: Bell,
+    ) -> Result<Site, Ended> {
         let mut times = Vec::new(alloc);
         write_times(&mut index, &mut times)?;
         Ok(Site {
@@ -141,7 +145,7 @@ impl Site {
         out: &mut W,
     ) -> io::Result<()> {
         let mut recording = self.recording.lock(rt);
-        let screen = screen_of(self.alloc, &mut *recording, moment);
+        let screen = screen_of(self.alloc, &mut **recording, moment);
         drop(recording);
         match screen {
             Ok(screen) => write_screen(self.alloc, &screen, out),
