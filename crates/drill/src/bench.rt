@@ -15,12 +15,12 @@ use std::io::{BufRead, BufReader, Read, Write};
 use std::{io, mem};
 
 /// What a drill has: nothing before the first `new`, then a disk, and a desk on it unless `new` or
-/// `open` was refused.
+/// `open` was refused. The desk is boxed, since it is large.
 #[derive(Drop)]
 enum Bench {
     Empty,
     Disk(FusedDisk),
-    Desk(Desk<FusedDisk>),
+    Desk(Box<Desk<FusedDisk>>),
 }
 
 /// The state of a run between two lines.
@@ -31,22 +31,42 @@ struct Drill {
     bench: Bench,
 }
 
+// A desk in a box, or, where memory is wanting, its disk.
+fn boxed(alloc: Global, desk: Desk<FusedDisk>) -> Result<Box<Desk<FusedDisk>>, FusedDisk> {
+    match Box::new(alloc, desk) {
+        Ok(desk) => Ok(desk),
+        Err(failed) => Err(failed.value.into_book().close()),
+    }
+}
+
 // A desk with a new recording. It and the next one promise nothing: a drill's answers rest on the
 // desk's steps alone.
 fn new_desk(
     alloc: Global,
     disk: FusedDisk,
     header: Header,
-) -> Result<Desk<FusedDisk>, Refused<FusedDisk, CreateFault>> {
-    Ok(Desk::new(Book::create(alloc, disk, header)?))
+) -> Result<Box<Desk<FusedDisk>>, Refused<FusedDisk, CreateFault>> {
+    match boxed(alloc, Desk::new(Book::create(alloc, disk, header)?)) {
+        Ok(desk) => Ok(desk),
+        Err(disk) => Err(Refused {
+            disk,
+            fault: CreateFault::NoMemory,
+        }),
+    }
 }
 
 // A desk with the recording that the disk holds.
 fn opened_desk(
     alloc: Global,
     disk: FusedDisk,
-) -> Result<Desk<FusedDisk>, Refused<FusedDisk, IndexFault>> {
-    Ok(Desk::new(Book::open(alloc, disk)?))
+) -> Result<Box<Desk<FusedDisk>>, Refused<FusedDisk, IndexFault>> {
+    match boxed(alloc, Desk::new(Book::open(alloc, disk)?)) {
+        Ok(desk) => Ok(desk),
+        Err(disk) => Err(Refused {
+            disk,
+            fault: IndexFault::NoMemory,
+        }),
+    }
 }
 
 impl Drill {
@@ -81,7 +101,7 @@ impl Drill {
         let disk = match bench {
             Bench::Empty => return Ok(Vec::new(alloc)),
             Bench::Disk(disk) => disk,
-            Bench::Desk(desk) => desk.into_book().close(),
+            Bench::Desk(desk) => Box::into_inner(desk).into_book().close(),
         };
         disk.left(fill).bytes().to_vec(alloc)
     }
@@ -132,7 +152,7 @@ impl Drill {
         let disk = match mem::replace(&mut self.bench, Bench::Empty) {
             Bench::Empty => return Ok(Answer::Bad),
             Bench::Disk(disk) => disk,
-            Bench::Desk(desk) => desk.into_book().close(),
+            Bench::Desk(desk) => Box::into_inner(desk).into_book().close(),
         };
         let disk = match left {
             None => disk,
