@@ -2,9 +2,8 @@
 
 ghost use Rattle.std.specs.Prelude.{◌≡◌, ◌<◌, length};
 
-use crate::words::{bad, spelled};
+use crate::words::{Spelled, bad, tell};
 use pixel_format::{Color, PixelFormat};
-use std::alloc::Global;
 use std::io;
 
 /// Formats by the number of their bits.
@@ -19,12 +18,13 @@ pub(crate) fn of_bits(bits: u16) -> io::Result<PixelFormat> {
     PixelFormat::read(&bytes).map_err(|_| bad())
 }
 
-// A pixel's colour, and the pixel that is put from it; then the screen colour (255, 128, 0) as the
-// format has it.
-fn told(alloc: Global, format: &PixelFormat, pixel: &[u8]) -> io::Result<String> {
+// Tells a pixel's colour, and the pixel that is put from it; then the screen colour (255, 128, 0) as
+// the format has it.
+fn tell_format(account: &mut String, format: &PixelFormat, pixel: &[u8]) -> io::Result<()> {
     let size = format.bytes();
+    tell(account, format_args!("{size} bytes"))?;
     if pixel.len() != size {
-        return Ok(format!(in alloc; "{size} bytes")?);
+        return Ok(());
     }
     let Color { r, g, b } = format.pixel(pixel);
     let orange = format.convert(Color {
@@ -32,22 +32,20 @@ fn told(alloc: Global, format: &PixelFormat, pixel: &[u8]) -> io::Result<String>
         g: 128,
         b: 0,
     });
-    let mut put = vec![in alloc; 0; size]?;
-    format.put(orange, &mut put);
-    let put = spelled(alloc, &put)?;
-    Ok(format!(in alloc; "{size} bytes; {r} {g} {b}; orange {put}")?)
+    let mut put = [0; 4];
+    let put = &mut put[..size];
+    format.put(orange, put);
+    tell(account, format_args!("{r} {g} {b}"))?;
+    tell(account, format_args!("orange {}", Spelled(put)))
 }
 
-/// What a format of 16 bytes makes of the pixel behind it, or the number of its fault.
-pub(crate) fn outcome(alloc: Global, bytes: &[u8]) -> io::Result<String> {
+/// Tells what a format of 16 bytes makes of the pixel behind it, or the number of its fault.
+pub(crate) fn run(account: &mut String, bytes: &[u8]) -> io::Result<()> {
     let Some((first, pixel)) = bytes.split_first_chunk::<16>() else {
         return Err(bad());
     };
     match PixelFormat::read(first) {
-        Ok(format) => told(alloc, &format, pixel),
-        Err(fault) => {
-            let number = fault.number();
-            Ok(format!(in alloc; "refused {number}")?)
-        }
+        Ok(format) => tell_format(account, &format, pixel),
+        Err(fault) => tell(account, format_args!("refused {}", fault.number())),
     }
 }

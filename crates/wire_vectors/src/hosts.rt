@@ -1,11 +1,14 @@
 //! A host's stream, and single messages of one.
 
+ghost use Rattle.std.specs.Prelude.{◌<◌};
+
 use crate::readings::{Given, Message, Reader, finest, longest, read, read_cut};
 use crate::words::tell;
 use rfb_wire::{Front, HostMessage, Rectangle, ServerReader, read_message};
 use std::alloc::Global;
+use std::fmt::Write;
 use std::io;
-use terms::WireFault;
+use terms::{Area, WireFault};
 
 impl Reader<HostMessage> for ServerReader {
     fn take(&mut self, piece: &[u8], messages: &mut Vec<HostMessage>) -> Result<(), WireFault> {
@@ -18,43 +21,39 @@ impl Message for HostMessage {
         self.same(other) && self.rectangles() == other.rectangles()
     }
 
-    fn told(&self, alloc: Global, read: &[u8]) -> io::Result<String> {
-        let mut account = kind_of(alloc, self.bytes())?;
+    fn describe(&self, account: &mut String, read: &[u8]) -> io::Result<()> {
+        write!(
+            account,
+            "{} of {}",
+            kind_of(self.bytes()),
+            self.bytes().len()
+        )?;
         if !read.ends_with(self.bytes()) {
             account.push_str(" of other bytes")?;
         }
         for rectangle in self.rectangles() {
-            tell_rectangle(alloc, &mut account, rectangle)?;
+            describe_rectangle(account, rectangle)?;
         }
-        Ok(account)
+        Ok(())
     }
 }
 
-// What kind of message begins with these bytes, and how many it has.
-fn kind_of(alloc: Global, bytes: &[u8]) -> io::Result<String> {
-    let count = bytes.len();
-    let kind = match bytes.first() {
+// What kind of message begins with these bytes.
+fn kind_of(bytes: &[u8]) -> &'static str {
+    match bytes.first() {
         Some(0) => "update",
         Some(2) => "bell",
         Some(3) => "text",
         _ => "another",
-    };
-    Ok(format!(in alloc; "{kind} of {count}")?)
+    }
 }
 
 // Adds a rectangle: its area, its encoding's number, and where its data begin and end.
-fn tell_rectangle(alloc: Global, account: &mut String, rectangle: &Rectangle) -> io::Result<()> {
-    let Rectangle {
-        area,
-        encoding,
-        start,
-        end,
-    } = *rectangle;
-    let (x, y, w, h) = (area.x, area.y, area.w, area.h);
-    let number = encoding.number();
-    let told = format!(in alloc; ", {x} {y} {w} {h} in {number} at {start} to {end}")?;
-    account.push_str(&told)?;
-    Ok(())
+fn describe_rectangle(account: &mut String, rectangle: &Rectangle) -> io::Result<()> {
+    let Area { x, y, w, h } = rectangle.area;
+    write!(account, ", {x} {y} {w} {h}")?;
+    let (number, start, end) = (rectangle.encoding.number(), rectangle.start, rectangle.end);
+    Ok(write!(account, " in {number} at {start} to {end}")?)
 }
 
 // What the plain function makes of the bytes, message by message.
@@ -80,27 +79,54 @@ fn plain(alloc: Global, size: (u16, u16), bytes: &[u8]) -> io::Result<Given<Host
     Ok(given)
 }
 
-/// What comes of a host's stream for a screen of this size: each message and the fault, behind the
-/// number of bytes that had come by then.
-pub(crate) fn outcome(alloc: Global, size: (u16, u16), bytes: &[u8]) -> io::Result<String> {
+// What a stream gives in pieces of this length.
+fn in_pieces(
+    alloc: Global,
+    size: (u16, u16),
+    bytes: &[u8],
+    length: usize,
+) -> io::Result<Given<HostMessage>>
+    requires { 0 < length }
+{
     let mut reader = ServerReader::new(alloc, size.0, size.1);
-    let given = read(alloc, &mut reader, bytes, finest(bytes))?;
+    read(alloc, &mut reader, bytes, length)
+}
+
+// What is otherwise if the bytes come in longer pieces, or are read by the plain function.
+fn tell_difference(
+    alloc: Global,
+    account: &mut String,
+    size: (u16, u16),
+    bytes: &[u8],
+    given: &Given<HostMessage>,
+) -> io::Result<()> {
     for length in 1..=longest(bytes) {
-        let mut reader = ServerReader::new(alloc, size.0, size.1);
-        if !given.is_same(&read(alloc, &mut reader, bytes, length)?) {
-            return Ok(format!(in alloc; "otherwise in pieces of {length}")?);
+        if !given.is_same(&in_pieces(alloc, size, bytes, length)?) {
+            return tell(account, format_args!("otherwise in pieces of {length}"));
         }
     }
     if !given.is_same(&plain(alloc, size, bytes)?) {
-        return Ok("otherwise by the plain function".to_string(alloc)?);
+        return tell(account, "otherwise by the plain function");
     }
-    given.told(alloc, bytes)
+    Ok(())
+}
+
+/// Tells what comes of a host's stream for a screen of this size: each message and the fault, behind
+/// the number of bytes that had come by then.
+pub(crate) fn run(
+    alloc: Global,
+    account: &mut String,
+    size: (u16, u16),
+    bytes: &[u8],
+) -> io::Result<()> {
+    let given = in_pieces(alloc, size, bytes, finest(bytes))?;
+    given.tell(account, bytes)?;
+    tell_difference(alloc, account, size, bytes, &given)
 }
 
 // Whether a stream gives the same however it is cut in two.
 fn is_cut_alike(alloc: Global, size: (u16, u16), bytes: &[u8]) -> io::Result<bool> {
-    let mut reader = ServerReader::new(alloc, size.0, size.1);
-    let given = read(alloc, &mut reader, bytes, 1)?;
+    let given = in_pieces(alloc, size, bytes, 1)?;
     for cut in 0..bytes.len() {
         let mut reader = ServerReader::new(alloc, size.0, size.1);
         if !given.is_same(&read_cut(alloc, &mut reader, bytes, cut)?) {
@@ -110,34 +136,38 @@ fn is_cut_alike(alloc: Global, size: (u16, u16), bytes: &[u8]) -> io::Result<boo
     Ok(true)
 }
 
-/// What comes of a host's stream of which one byte is another, each in turn, and each with five
-/// values: how many streams give the same however they are cut in two, up to one that doesn't.
-pub(crate) fn changed(alloc: Global, size: (u16, u16), bytes: &[u8]) -> io::Result<String> {
+/// Tells what comes of a host's stream of which one byte is another, each in turn, and each with
+/// five values: how many streams give the same however they are cut in two, up to one that doesn't.
+pub(crate) fn run_changed(
+    alloc: Global,
+    account: &mut String,
+    size: (u16, u16),
+    bytes: &[u8],
+) -> io::Result<()> {
+    let mut stream = bytes.to_vec(alloc)?;
     let mut alike = 0u64;
-    for place in 0..bytes.len() {
+    for (place, byte) in bytes.iter().enumerate() {
         for value in [0, 1, 5, 0x80, 0xff] {
-            let mut stream = bytes.to_vec(alloc)?;
-            if let Some(byte) = stream.get_mut(place) {
-                *byte = value;
-            }
+            stream[place] = value;
             if !is_cut_alike(alloc, size, &stream)? {
-                return Ok(format!(in alloc; "otherwise with {value} at {place}")?);
+                return tell(account, format_args!("otherwise with {value} at {place}"));
             }
             alike = alike.saturating_add(1);
         }
+        stream[place] = *byte;
     }
-    Ok(format!(in alloc; "{alike} alike")?)
+    tell(account, format_args!("{alike} alike"))
 }
 
-/// What all of the bytes are as one message, or the number of the refusal.
-pub(crate) fn message(alloc: Global, size: (u16, u16), bytes: &[u8]) -> io::Result<String> {
-    let mut account = String::new(alloc);
+/// Tells what all of the bytes are as one message, or the number of the refusal.
+pub(crate) fn run_message(
+    alloc: Global,
+    account: &mut String,
+    size: (u16, u16),
+    bytes: &[u8],
+) -> io::Result<()> {
     match HostMessage::from_bytes(alloc, size.0, size.1, bytes) {
-        Ok(message) => tell(&mut account, &message.told(alloc, bytes)?)?,
-        Err(fault) => {
-            let number = fault.number();
-            tell(&mut account, &format!(in alloc; "refused {number}")?)?;
-        }
+        Ok(message) => message.describe(account, bytes),
+        Err(fault) => tell(account, format_args!("refused {}", fault.number())),
     }
-    Ok(account)
 }

@@ -18,20 +18,26 @@ mod words;
 
 use std::{env, fs, io};
 
+// Prints a vector whose outcome is another: whether there is one in this part of a file.
+fn run_part(rt: &HostRuntime, name: &str, part: &str) -> io::Result<bool> {
+    let told = words::without_comments(rt.alloc(), part)?;
+    let Some((vector, expected)) = told.split_once("->") else {
+        return Ok(false);
+    };
+    let mut outcome = String::new(rt.alloc());
+    vector::run(rt.alloc(), &mut outcome, vector)?;
+    if !words::are_same(&outcome, expected) {
+        println!(rt; "{name}: {vector}\n-> {outcome}")?;
+    }
+    Ok(true)
+}
+
 // Prints what is found of a file of vectors.
 fn run_file(rt: &HostRuntime, name: &str) -> io::Result<()> {
     let text = fs::read_to_string(rt, name)?;
     let mut count = 0u64;
     for part in text.split("\n\n") {
-        let told = words::without_comments(rt.alloc(), part)?;
-        let Some((vector, expected)) = told.split_once("->") else {
-            continue;
-        };
-        count = count.wrapping_add(1);
-        let outcome = vector::outcome(rt.alloc(), vector)?;
-        if !words::are_same(&outcome, expected) {
-            println!(rt; "{name}: {vector}\n-> {outcome}")?;
-        }
+        count = count.wrapping_add(u64::from(run_part(rt, name, part)?));
     }
     println!(rt; "{name}: vectors {count}")
 }

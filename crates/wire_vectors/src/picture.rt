@@ -1,7 +1,7 @@
 //! Pictures in letters.
 
 use pixel_format::Color;
-use std::alloc::Global;
+use std::fmt::Write;
 use std::io;
 
 /// What has a colour at each place.
@@ -10,10 +10,10 @@ pub(crate) trait Places {
     fn color_at(&self, x: u16, y: u16) -> Option<Color>;
 }
 
-// The letter of a colour, or its numbers.
-fn letter(alloc: Global, color: Option<Color>) -> io::Result<String> {
+// Adds the letter of a colour, or its numbers.
+fn write_letter(account: &mut String, color: Option<Color>) -> io::Result<()> {
     let Some(Color { r, g, b }) = color else {
-        return Ok("?".to_string(alloc)?);
+        return Ok(account.push_str("?")?);
     };
     let letter = match (r, g, b) {
         (0, 0, 0) => ".",
@@ -21,28 +21,32 @@ fn letter(alloc: Global, color: Option<Color>) -> io::Result<String> {
         (0, 255, 0) => "g",
         (0, 0, 255) => "b",
         (255, 255, 255) => "w",
-        _ => return Ok(format!(in alloc; "({r},{g},{b})")?),
+        _ => return Ok(write!(account, "({r},{g},{b})")?),
     };
-    Ok(letter.to_string(alloc)?)
+    Ok(account.push_str(letter)?)
 }
 
-fn row<P: Places>(alloc: Global, places: &P, width: u16, y: u16) -> io::Result<String> {
-    let mut text = String::new(alloc);
-    for x in 0..width {
-        text.push_str(&letter(alloc, places.color_at(x, y))?)?;
-    }
-    Ok(text)
+// Whether a row is as the one before it.
+fn is_repeated<P: Places>(places: &P, width: u16, y: u16) -> bool {
+    y > 0 && (0..width).all(|x| places.color_at(x, y) == places.color_at(x, y - 1))
 }
 
-/// The rows of a picture, each behind a space; a row that is as the one before it is a dash.
-pub(crate) fn rows<P: Places>(alloc: Global, places: &P, size: (u16, u16)) -> io::Result<String> {
-    let mut account = String::new(alloc);
-    let mut before = String::new(alloc);
-    for y in 0..size.1 {
-        let row = row(alloc, places, size.0, y)?;
+/// Adds the rows of a picture, each behind a space; a row that is as the one before it is a dash.
+pub(crate) fn write_rows<P: Places>(
+    account: &mut String,
+    places: &P,
+    size: (u16, u16),
+) -> io::Result<()> {
+    let (width, height) = size;
+    for y in 0..height {
         account.push_str(" ")?;
-        account.push_str(if y > 0 && row == before { "-" } else { &row })?;
-        before = row;
+        if is_repeated(places, width, y) {
+            account.push_str("-")?;
+            continue;
+        }
+        for x in 0..width {
+            write_letter(account, places.color_at(x, y))?;
+        }
     }
-    Ok(account)
+    Ok(())
 }

@@ -4,6 +4,7 @@ ghost use Rattle.std.specs.Prelude.{◌<◌};
 
 use crate::words::tell;
 use std::alloc::{AllocError, Global};
+use std::fmt::Write;
 use std::io;
 use terms::WireFault;
 
@@ -17,8 +18,8 @@ pub(crate) trait Reader<M> {
 pub(crate) trait Message {
     fn is_same(&self, other: &Self) -> bool;
 
-    /// What it says. `read` are the bytes up to its last one.
-    fn told(&self, alloc: Global, read: &[u8]) -> io::Result<String>;
+    /// Adds what it says. `read` are the bytes up to its last one.
+    fn describe(&self, account: &mut String, read: &[u8]) -> io::Result<()>;
 }
 
 /// What a reader gave, and how many bytes had come by then.
@@ -90,34 +91,32 @@ impl<M: Message + Drop> Given<M> {
         self.fault == other.fault && !self.went_on && !other.went_on
     }
 
-    /// What was given of the bytes, and at which of them.
-    pub(crate) fn told(&self, alloc: Global, bytes: &[u8]) -> io::Result<String> {
-        let mut account = String::new(alloc);
+    /// Tells what was given of the bytes, and at which of them.
+    pub(crate) fn tell(&self, account: &mut String, bytes: &[u8]) -> io::Result<()> {
         for (message, end) in self.messages.iter().zip(&self.ends) {
-            let told = message.told(alloc, bytes.get(..*end).unwrap_or(bytes))?;
-            tell(&mut account, &format!(in alloc; "{end} {told}")?)?;
+            tell(account, format_args!("{end} "))?;
+            message.describe(account, bytes.get(..*end).unwrap_or(bytes))?;
         }
         if let Some(fault) = &self.fault {
-            let (end, told) = (self.fault_end, told_fault(alloc, fault)?);
-            tell(&mut account, &format!(in alloc; "{end} fault {told}")?)?;
+            tell(
+                account,
+                format_args!("{} fault {}", self.fault_end, fault.number()),
+            )?;
+            tell_cause(account, fault)?;
         }
         if self.went_on {
-            tell(&mut account, "and it goes on")?;
+            tell(account, "and it goes on")?;
         }
-        Ok(account)
+        Ok(())
     }
 }
 
-// A fault's number, and which encoding or what of a format is refused.
-fn told_fault(alloc: Global, fault: &WireFault) -> Result<String, AllocError> {
-    let number = fault.number();
+// Adds which encoding, or what of a format, is refused.
+fn tell_cause(account: &mut String, fault: &WireFault) -> io::Result<()> {
     match fault {
-        WireFault::Encoding(encoding) => format!(in alloc; "{number} {encoding}"),
-        WireFault::BadFormat(format) => {
-            let format = format.number();
-            format!(in alloc; "{number} {format}")
-        }
-        _ => format!(in alloc; "{number}"),
+        WireFault::Encoding(encoding) => Ok(write!(account, " {encoding}")?),
+        WireFault::BadFormat(format) => Ok(write!(account, " {}", format.number())?),
+        _ => Ok(()),
     }
 }
 

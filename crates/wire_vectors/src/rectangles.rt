@@ -1,11 +1,10 @@
 //! Data of rectangles.
 
 use crate::formats;
-use crate::picture::{Places, rows};
-use crate::words::bad;
+use crate::picture::{Places, write_rows};
+use crate::words::{bad, tell};
 use pixel_format::{Color, PixelFormat};
 use rect_data::{Encoding, Judging, measure};
-use std::alloc::Global;
 use std::io;
 use terms::{Area, WireFault};
 use wire_tests::{HEIGHT, Kind, Short, TestCanvas, WIDTH, hextile_in_pieces};
@@ -20,15 +19,15 @@ impl Places for TestCanvas {
     }
 }
 
-/// At which byte data are whole, with one column and one row more than they paint, or refused. Of
-/// Hextile, also field by field.
-pub(crate) fn painted(
-    alloc: Global,
+/// Tells at which byte data are whole, with one column and one row more than they paint, or refused.
+/// Of Hextile, also field by field.
+pub(crate) fn run_painted(
+    account: &mut String,
     kind: &str,
     bits: u16,
     size: (u16, u16),
     bytes: &[u8],
-) -> io::Result<String> {
+) -> io::Result<()> {
     let format = formats::of_bits(bits)?;
     let (w, h) = size;
     let kind = match kind {
@@ -41,34 +40,34 @@ pub(crate) fn painted(
         let answer = kind.measure(&format, w, h, data);
         let pieces = hextile_in_pieces(&format, w, h, data).map_err(Short::from);
         if kind == Kind::Hextile && pieces != answer {
-            return Ok(format!(in alloc; "{count} otherwise in pieces")?);
+            return tell(account, format_args!("{count} otherwise in pieces"));
         }
         match answer {
             Err(Short::NeedMore) => {}
-            Err(Short::Bad) => return Ok(format!(in alloc; "{count} bad")?),
+            Err(Short::Bad) => return tell(account, format_args!("{count} bad")),
             Ok(length) => {
-                let picture = picture(alloc, kind, &format, size, data)?;
-                return Ok(format!(in alloc; "{count} whole {length}{picture}")?);
+                tell(account, format_args!("{count} whole {length}"))?;
+                return write_picture(account, kind, &format, size, data);
             }
         }
     }
-    Ok("needs more".to_string(alloc)?)
+    tell(account, "needs more")
 }
 
-// The rows that whole data paint, where they have an area and fit on the canvas.
-fn picture(
-    alloc: Global,
+// Adds the rows that whole data paint, where they have an area and fit on the canvas.
+fn write_picture(
+    account: &mut String,
     kind: Kind,
     format: &PixelFormat,
     size: (u16, u16),
     data: &[u8],
-) -> io::Result<String> {
+) -> io::Result<()> {
     let (w, h) = size;
     if w == 0 || h == 0 || w >= WIDTH || h >= HEIGHT {
-        return Ok(String::new(alloc));
+        return Ok(());
     }
     match kind.painted(format, w, h, data) {
-        Ok(canvas) => rows(alloc, &canvas, (w + 1, h + 1)),
+        Ok(canvas) => write_rows(account, &canvas, (w + 1, h + 1)),
         Err(_) => Err(bad()),
     }
 }
@@ -97,32 +96,29 @@ fn in_pieces(
     Ok(None)
 }
 
-/// At which byte the data of a rectangle of a screen of this size are whole or refused.
-pub(crate) fn measured(
-    alloc: Global,
+/// Tells at which byte the data of a rectangle of a screen of this size are whole or refused.
+pub(crate) fn run_measured(
+    account: &mut String,
     number: u16,
     size: (u16, u16),
     area: Area,
     bytes: &[u8],
-) -> io::Result<String> {
+) -> io::Result<()> {
     let Some(encoding) = Encoding::from_number(u32::from(number)) else {
-        return Ok("no encoding".to_string(alloc)?);
+        return tell(account, "no encoding");
     };
     let host = PixelFormat::host();
     for count in 0..=bytes.len() {
         let data = bytes.get(..count).unwrap_or(bytes);
         let answer = measure(&host, size.0, size.1, encoding, area, data);
         if in_pieces(size, encoding, area, data) != answer {
-            return Ok(format!(in alloc; "{count} otherwise in pieces")?);
+            return tell(account, format_args!("{count} otherwise in pieces"));
         }
         match answer {
             Ok(None) => {}
-            Ok(Some(length)) => return Ok(format!(in alloc; "{count} whole {length}")?),
-            Err(fault) => {
-                let number = fault.number();
-                return Ok(format!(in alloc; "{count} fault {number}")?);
-            }
+            Ok(Some(length)) => return tell(account, format_args!("{count} whole {length}")),
+            Err(fault) => return tell(account, format_args!("{count} fault {}", fault.number())),
         }
     }
-    Ok("needs more".to_string(alloc)?)
+    tell(account, "needs more")
 }

@@ -1,7 +1,7 @@
 //! A conversation with a host.
 
 use crate::readings::Message;
-use crate::words::{spelled, tell};
+use crate::words::{Spelled, tell};
 use host_session::{HostFault, HostSession};
 use rfb_wire::HostMessage;
 use std::alloc::Global;
@@ -58,68 +58,82 @@ impl Talk {
     }
 
     // Adds what the session knows in the end.
-    fn tell(&self, alloc: Global, account: &mut String) -> io::Result<()> {
+    fn tell(&self, account: &mut String) -> io::Result<()> {
         if let Some((w, h)) = self.session.size() {
-            let name = spelled(alloc, self.session.name())?;
-            tell(account, &format!(in alloc; "size {w} {h}; name {name}")?)?;
+            let name = Spelled(self.session.name());
+            tell(account, format_args!("size {w} {h}; name {name}"))?;
         }
         if !self.session.reason().is_empty() {
-            let reason = spelled(alloc, self.session.reason())?;
-            tell(account, &format!(in alloc; "reason {reason}")?)?;
+            let reason = Spelled(self.session.reason());
+            tell(account, format_args!("reason {reason}"))?;
         }
         if self.went_on {
             tell(account, "and it goes on")?;
         }
         Ok(())
     }
+
+    // Feeds one more byte, the one of this number, and adds what it brought.
+    fn tell_byte(&mut self, account: &mut String, number: usize, byte: u8) -> io::Result<()> {
+        let (count, length, fault) = (self.messages.len(), self.said.len(), self.fault);
+        self.feed(&[byte])?;
+        let said = self.said.get(length..).unwrap_or_default();
+        if !said.is_empty() {
+            tell(account, format_args!("{number} says {}", Spelled(said)))?;
+        }
+        if self.messages.len() > count {
+            tell(account, format_args!("{number} message"))?;
+        }
+        match self.fault {
+            Some(new) if fault.is_none() => {
+                tell(account, format_args!("{number} fault {}", new.number()))
+            }
+            _ => Ok(()),
+        }
+    }
 }
 
-// Adds what one more byte, the one of this number, brought.
-fn tell_byte(
+// Whether what is fed in two pieces comes to the same.
+fn is_cut_alike(
+    alloc: Global,
+    expected: Option<(u16, u16)>,
+    pieces: (&[u8], &[u8]),
+    talk: &Talk,
+) -> io::Result<bool> {
+    let mut again = Talk::new(alloc, expected);
+    again.feed(pieces.0)?;
+    again.feed(pieces.1)?;
+    Ok(talk.is_same(&again))
+}
+
+// Tells what comes of the bytes, and what is otherwise where they are cut in two.
+fn tell_all(
     alloc: Global,
     account: &mut String,
+    expected: Option<(u16, u16)>,
+    bytes: &[u8],
     talk: &mut Talk,
-    byte: u8,
-    number: usize,
 ) -> io::Result<()> {
-    let (count, length, fault) = (talk.messages.len(), talk.said.len(), talk.fault);
-    talk.feed(&[byte])?;
-    let said = talk.said.get(length..).unwrap_or_default();
-    if !said.is_empty() {
-        let bytes = spelled(alloc, said)?;
-        tell(account, &format!(in alloc; "{number} says {bytes}")?)?;
+    for (number, byte) in (1usize..).zip(bytes) {
+        talk.tell_byte(account, number, *byte)?;
     }
-    if talk.messages.len() > count {
-        tell(account, &format!(in alloc; "{number} message")?)?;
-    }
-    if let (None, Some(fault)) = (fault, talk.fault) {
-        let fault = fault.number();
-        tell(account, &format!(in alloc; "{number} fault {fault}")?)?;
+    talk.tell(account)?;
+    for cut in 0..=bytes.len().min(100) {
+        if !is_cut_alike(alloc, expected, bytes.split_at(cut), talk)? {
+            return tell(account, format_args!("otherwise if it is cut at {cut}"));
+        }
     }
     Ok(())
 }
 
-/// What comes of what a host sends: what is said to it, its messages and the fault, behind the
+/// Tells what comes of what a host sends: what is said to it, its messages and the fault, behind the
 /// number of bytes that had come by then; and in the end the screen's size and name, or the reason.
-pub(crate) fn outcome(
+pub(crate) fn run(
     alloc: Global,
+    account: &mut String,
     expected: Option<(u16, u16)>,
     bytes: &[u8],
-) -> io::Result<String> {
+) -> io::Result<()> {
     let mut talk = Talk::new(alloc, expected);
-    let mut account = String::new(alloc);
-    for (number, byte) in (1usize..).zip(bytes) {
-        tell_byte(alloc, &mut account, &mut talk, *byte, number)?;
-    }
-    for cut in 0..=bytes.len().min(100) {
-        let (first, second) = bytes.split_at(cut);
-        let mut again = Talk::new(alloc, expected);
-        again.feed(first)?;
-        again.feed(second)?;
-        if !talk.is_same(&again) {
-            return Ok(format!(in alloc; "otherwise if it is cut at {cut}")?);
-        }
-    }
-    talk.tell(alloc, &mut account)?;
-    Ok(account)
+    tell_all(alloc, account, expected, bytes, &mut talk)
 }

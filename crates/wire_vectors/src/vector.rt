@@ -6,57 +6,56 @@ use std::alloc::Global;
 use std::io;
 use terms::Area;
 
-/// The outcome of a vector, which its kind and numbers, a colon and its bytes tell.
-pub(crate) fn outcome(alloc: Global, vector: &str) -> io::Result<String> {
+/// Tells what comes of a vector, which its kind and numbers, a colon and its bytes tell.
+pub(crate) fn run(alloc: Global, account: &mut String, vector: &str) -> io::Result<()> {
     let Some((head, text)) = vector.split_once(":") else {
         return Err(bad());
     };
     let kind = head.split_whitespace().next().unwrap_or("");
     let numbers = numbers(alloc, head)?;
-    match numbers.as_slice() {
-        [] => without_numbers(alloc, kind, text),
-        [w, h] => of_a_size(alloc, kind, (*w, *h), text),
-        [bits, w, h] => rectangles::painted(alloc, kind, *bits, (*w, *h), &bytes(alloc, text)?),
+    if let ("screen", [w, h]) = (kind, numbers.as_slice()) {
+        return screens::run(alloc, account, (*w, *h), text);
+    }
+    run_bytes(alloc, account, kind, &numbers, &bytes(alloc, text)?)
+}
+
+fn run_bytes(
+    alloc: Global,
+    account: &mut String,
+    kind: &str,
+    numbers: &[u16],
+    bytes: &[u8],
+) -> io::Result<()> {
+    match *numbers {
+        [] => match kind {
+            "viewer" => viewers::run(alloc, account, bytes),
+            "session" => sessions::run(alloc, account, None, bytes),
+            "format" => formats::run(account, bytes),
+            _ => Err(bad()),
+        },
+        [w, h] => run_of_size(alloc, account, kind, (w, h), bytes),
+        [bits, w, h] => rectangles::run_painted(account, kind, bits, (w, h), bytes),
         [number, width, height, x, y, w, h] => {
-            let area = Area {
-                x: *x,
-                y: *y,
-                w: *w,
-                h: *h,
-            };
-            rectangles::measured(
-                alloc,
-                *number,
-                (*width, *height),
-                area,
-                &bytes(alloc, text)?,
-            )
+            let area = Area { x, y, w, h };
+            rectangles::run_measured(account, number, (width, height), area, bytes)
         }
         _ => Err(bad()),
     }
 }
 
-fn without_numbers(alloc: Global, kind: &str, text: &str) -> io::Result<String> {
-    let bytes = bytes(alloc, text)?;
+fn run_of_size(
+    alloc: Global,
+    account: &mut String,
+    kind: &str,
+    size: (u16, u16),
+    bytes: &[u8],
+) -> io::Result<()> {
     match kind {
-        "viewer" => viewers::outcome(alloc, &bytes),
-        "session" => sessions::outcome(alloc, None, &bytes),
-        "format" => formats::outcome(alloc, &bytes),
-        _ => Err(bad()),
-    }
-}
-
-fn of_a_size(alloc: Global, kind: &str, size: (u16, u16), text: &str) -> io::Result<String> {
-    if kind == "screen" {
-        return screens::outcome(alloc, size, text);
-    }
-    let bytes = bytes(alloc, text)?;
-    match kind {
-        "host" => hosts::outcome(alloc, size, &bytes),
-        "changed" => hosts::changed(alloc, size, &bytes),
-        "message" => hosts::message(alloc, size, &bytes),
-        "session" => sessions::outcome(alloc, Some(size), &bytes),
-        "key" => screens::key(alloc, size, &bytes),
+        "host" => hosts::run(alloc, account, size, bytes),
+        "changed" => hosts::run_changed(alloc, account, size, bytes),
+        "message" => hosts::run_message(alloc, account, size, bytes),
+        "session" => sessions::run(alloc, account, Some(size), bytes),
+        "key" => screens::run_key(alloc, account, size, bytes),
         _ => Err(bad()),
     }
 }

@@ -1,9 +1,12 @@
 //! A viewer's stream.
 
+ghost use Rattle.std.specs.Prelude.{◌<◌};
+
 use crate::readings::{Given, Message, Reader, finest, longest, read};
-use crate::words::spelled;
+use crate::words::{Spelled, tell};
 use client_wire::{ClientMessage, ClientReader, read_client_message};
 use std::alloc::Global;
+use std::fmt::Write;
 use std::io;
 use terms::WireFault;
 
@@ -44,14 +47,18 @@ impl Message for ClientMessage {
         }
     }
 
-    fn told(&self, alloc: Global, _read: &[u8]) -> io::Result<String> {
+    fn describe(&self, account: &mut String, _read: &[u8]) -> io::Result<()> {
         match self {
             ClientMessage::SetPixelFormat(format) => {
-                let bytes = spelled(alloc, &format.write())?;
-                Ok(format!(in alloc; "format {bytes}")?)
+                write!(account, "format {}", Spelled(&format.write()))?;
             }
-            ClientMessage::SetEncodings(encodings) => told_encodings(alloc, encodings.as_slice()),
-            ClientMessage::Input(kind) => Ok(format!(in alloc; "input {kind}")?),
+            ClientMessage::SetEncodings(encodings) => {
+                account.push_str("encodings")?;
+                for number in encodings.as_slice() {
+                    write!(account, " {number}")?;
+                }
+            }
+            ClientMessage::Input(kind) => write!(account, "input {kind}")?,
             ClientMessage::Request {
                 incremental,
                 x,
@@ -60,18 +67,11 @@ impl Message for ClientMessage {
                 h,
             } => {
                 let kind = if *incremental { "changes" } else { "request" };
-                Ok(format!(in alloc; "{kind} {x} {y} {w} {h}")?)
+                write!(account, "{kind} {x} {y} {w} {h}")?;
             }
         }
+        Ok(())
     }
-}
-
-fn told_encodings(alloc: Global, numbers: &[i32]) -> io::Result<String> {
-    let mut account = "encodings".to_string(alloc)?;
-    for number in numbers {
-        account.push_str(&format!(in alloc; " {number}")?)?;
-    }
-    Ok(account)
 }
 
 // What the plain function makes of the bytes, message by message.
@@ -94,17 +94,36 @@ fn plain(alloc: Global, bytes: &[u8]) -> io::Result<Given<ClientMessage>> {
     Ok(given)
 }
 
-/// What comes of a viewer's stream: each message and the fault, behind the number of bytes that had
-/// come by then.
-pub(crate) fn outcome(alloc: Global, bytes: &[u8]) -> io::Result<String> {
-    let given = read(alloc, &mut ClientReader::new(alloc), bytes, finest(bytes))?;
+// What a stream gives in pieces of this length.
+fn in_pieces(alloc: Global, bytes: &[u8], length: usize) -> io::Result<Given<ClientMessage>>
+    requires { 0 < length }
+{
+    let mut reader = ClientReader::new(alloc);
+    read(alloc, &mut reader, bytes, length)
+}
+
+// What is otherwise if the bytes come in longer pieces, or are read by the plain function.
+fn tell_difference(
+    alloc: Global,
+    account: &mut String,
+    bytes: &[u8],
+    given: &Given<ClientMessage>,
+) -> io::Result<()> {
     for length in 1..=longest(bytes) {
-        if !given.is_same(&read(alloc, &mut ClientReader::new(alloc), bytes, length)?) {
-            return Ok(format!(in alloc; "otherwise in pieces of {length}")?);
+        if !given.is_same(&in_pieces(alloc, bytes, length)?) {
+            return tell(account, format_args!("otherwise in pieces of {length}"));
         }
     }
     if !given.is_same(&plain(alloc, bytes)?) {
-        return Ok("otherwise by the plain function".to_string(alloc)?);
+        return tell(account, "otherwise by the plain function");
     }
-    given.told(alloc, bytes)
+    Ok(())
+}
+
+/// Tells what comes of a viewer's stream: each message and the fault, behind the number of bytes
+/// that had come by then.
+pub(crate) fn run(alloc: Global, account: &mut String, bytes: &[u8]) -> io::Result<()> {
+    let given = in_pieces(alloc, bytes, finest(bytes))?;
+    given.tell(account, bytes)?;
+    tell_difference(alloc, account, bytes, &given)
 }

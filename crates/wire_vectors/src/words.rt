@@ -1,7 +1,8 @@
 //! The words of a vector.
 
 use std::alloc::Global;
-use std::io;
+use std::fmt::{Display, Write};
+use std::{fmt, io};
 
 /// What is answered to words that are no vector.
 pub(crate) fn bad() -> io::Error {
@@ -68,28 +69,30 @@ pub(crate) fn bytes(alloc: Global, text: &str) -> io::Result<Vec<u8>> {
 
 /// Bytes as they are told: in words of hexadecimal digits, 20 bytes each, or one byte and a count
 /// where all are the same.
-pub(crate) fn spelled(alloc: Global, bytes: &[u8]) -> io::Result<String> {
-    if let Some(first) = bytes.first() {
-        if bytes.len() > 16 && bytes.iter().all(|byte| byte == first) {
-            let (byte, count) = (*first, bytes.len());
-            return Ok(format!(in alloc; "{byte:02x}*{count}")?);
+#[derive(Drop)]
+pub(crate) struct Spelled<'a>(pub &'a [u8]);
+
+impl fmt::Display for Spelled<'_> {
+    fn fmt<W: fmt::Write>(&self, f: &mut fmt::Formatter<W>) -> fmt::Result {
+        let Spelled(bytes) = self;
+        if let Some(first) = bytes.first() {
+            if bytes.len() > 16 && bytes.iter().all(|byte| byte == first) {
+                return write!(f, "{first:02x}*{}", bytes.len());
+            }
         }
-    }
-    let mut text = String::new(alloc);
-    for part in bytes.chunks(20) {
-        if !text.is_empty() {
-            text.push_str(" ")?;
+        for (place, byte) in bytes.iter().enumerate() {
+            if place > 0 && place % 20 == 0 {
+                write!(f, " ")?;
+            }
+            write!(f, "{byte:02x}")?;
         }
-        text.push_str(&hex::encode(alloc, part)?)?;
+        Ok(())
     }
-    Ok(text)
 }
 
 /// Adds what happened to an account of it.
-pub(crate) fn tell(account: &mut String, told: &str) -> io::Result<()> {
-    if !account.is_empty() {
-        account.push_str("; ")?;
-    }
-    account.push_str(told)?;
+pub(crate) fn tell<T: Display + Drop>(account: &mut String, told: T) -> io::Result<()> {
+    let comma = if account.is_empty() { "" } else { "; " };
+    write!(account, "{comma}{told}")?;
     Ok(())
 }
