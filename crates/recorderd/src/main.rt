@@ -1,9 +1,9 @@
 //! `recorderd`, a crash-safe recorder of VNC sessions.
 #![tactic(auto)]
 
-mod command;
-mod words;
+ghost use Rattle.std.specs.Prelude.{◌≤◌};
 
+use command_line::{System, command};
 use file_disk::Progress;
 use std::fs::{File, OpenOptions};
 use std::os::fd::AsRawFd;
@@ -38,17 +38,21 @@ fn arguments(rt: &HostRuntime) -> io::Result<Vec<String>> {
     Ok(env::args(rt)?.collect(rt.alloc())?)
 }
 
-fn main(rt: HostRuntime) -> ExitCode {
-    let _held = hold_standard_streams(&rt);
-    let Ok(words) = arguments(&rt) else {
-        return ExitCode::from(1);
+// Runs the program: its exit status, 0 where it is done, 1 where it is refused, and 2 for a bad
+// command line.
+fn run<R: System>(rt: &R) -> u8
+    ensures { result ≤ 2 }
+{
+    let Ok(words) = arguments(rt) else {
+        return 1;
     };
-    let mut out = io::writer(&rt);
+    let mut out = io::writer(rt);
     let mut err = rt.stderr();
     let progress = Progress::new(err);
-    let status = command::command(&rt, &words, progress, rt.reader(), &mut out, &mut err);
-    ExitCode::from(status)
+    command(rt, &words, progress, rt.reader(), &mut out, &mut err)
 }
 
-#[cfg(test)]
-mod tests;
+fn main(rt: HostRuntime) -> ExitCode {
+    let _held = hold_standard_streams(&rt);
+    ExitCode::from(run(&rt))
+}

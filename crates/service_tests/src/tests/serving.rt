@@ -21,7 +21,7 @@ macro_rules! recorded {
         let (hosts, host) = super::peers::listener($rt)?;
         let (viewers, place) = super::peers::listener($rt)?;
         let address = host.address($rt.alloc())?;
-        let plan = super::plan_of($file, Some(address.as_str()), $audience, $from);
+        let plan = crate::plan_of($file, Some(address.as_str()), $audience, $from);
         serve_while!($rt, &plan, viewers, move || $play($rt, hosts, place $(, $more)*))
     }};
 }
@@ -34,7 +34,7 @@ mod viewers;
 
 use file_commands::{FileCommand, run};
 use file_disk::Progress;
-use serve::{Audience, Format, Origin, Plan, Stop, serve_on};
+use serve::{Plan, serve_on};
 use std::fs::File;
 use std::net::{Net, TcpListener, TcpStream};
 use std::rt::Files;
@@ -43,22 +43,6 @@ use std::test::Fail;
 use std::thread::Threads;
 use std::time::Clock;
 use std::{fs, io};
-
-// What a test serves, to whom, and where they begin.
-fn plan_of<'a>(file: &'a str, host: Option<&'a str>, audience: Audience, from: Origin) -> Plan<'a> {
-    Plan {
-        file,
-        listen: "",
-        host,
-        format: Format::Two,
-        key_interval: 4,
-        audience,
-        from,
-        playing: None,
-        stop: Stop::never(),
-        is_verbose: false,
-    }
-}
 
 // Serves a recording: whether it is done, and what is printed.
 fn print<R>(rt: &R, plan: &Plan<'_>, listener: TcpListener) -> io::Result<String>

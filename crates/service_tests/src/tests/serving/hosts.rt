@@ -1,9 +1,10 @@
 //! How a host ends, and a recording without one.
 
+use super::checked;
 use super::peers::{
     ALL, BLACK, CHANGES, GREEN, Peer, Place, RED, deaf_host, listener, small_host, viewer,
 };
-use super::{checked, plan_of};
+use crate::plan_of;
 use serve::{Audience, Origin};
 use std::fs;
 use std::net::{Net, TcpListener, TcpStream};

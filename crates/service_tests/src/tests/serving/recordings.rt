@@ -1,7 +1,8 @@
 //! Recordings that are shown from their start.
 
+use super::checked;
 use super::peers::{ALL, BLACK, CHANGES, GREEN, Peer, Place, RED, listener, viewer};
-use super::{checked, plan_of};
+use crate::plan_of;
 use serve::{Audience, Origin, Pace, Plan, Playing};
 use std::fs;
 use std::net::{Net, TcpListener, TcpStream};

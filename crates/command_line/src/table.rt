@@ -1,0 +1,278 @@
+//! What stands in help of each command, as a table, and the reader of words that is made of it.
+
+use clap::{Arg, ArgAction, Command};
+use std::alloc::{AllocError, Global};
+
+/// What a command takes. The last text of each tells of it in help.
+enum Argument {
+    /// A word that has to be given, and its name.
+    Word(&'static str, &'static str),
+    /// A word that may be left out, and its name.
+    MaybeWord(&'static str, &'static str),
+    /// `--NAME VALUE`: both names.
+    Value(&'static str, &'static str, &'static str),
+    /// The same, where it has to be given.
+    NeededValue(&'static str, &'static str, &'static str),
+    /// `--NAME`.
+    Flag(&'static str, &'static str),
+}
+
+use Argument::{Flag, MaybeWord, NeededValue, Value, Word};
+
+/// A command: its name, what it does, an example, and what it takes, in the order of its help.
+struct CommandWords {
+    name: &'static str,
+    about: &'static str,
+    example: &'static str,
+    arguments: &'static [Argument],
+}
+
+const COMMANDS: [CommandWords; 13] = [
+    CommandWords {
+        name: "drill",
+        about: "Runs the drill script on standard input, and answers each of its lines",
+        example: "Example: recorderd drill --keep r < first-recording.drill",
+        arguments: &[Value(
+            "keep",
+            "FILE",
+            "Writes the recording to this file in the end, which must not be there yet",
+        )],
+    },
+    CommandWords {
+        name: "list",
+        about: "Prints a line for each block of a recording",
+        example: "Example: recorderd list r",
+        arguments: &[Word("PATH", "The recording")],
+    },
+    CommandWords {
+        name: "check",
+        about: "Reads a whole recording, and prints its size and how much it holds",
+        example: "Example: recorderd check r",
+        arguments: &[Word("PATH", "The recording")],
+    },
+    CommandWords {
+        name: "digest",
+        about: "Prints the digest of a recording's last block, which stands for all before it too",
+        example: "Example, a day later: recorderd digest r DIGEST finds the block of that day",
+        arguments: &[
+            Word("PATH", "The recording"),
+            MaybeWord(
+                "DIGEST",
+                "Prints the block that has this digest, or refuses: 64 hexadecimal digits",
+            ),
+        ],
+    },
+    CommandWords {
+        name: "migrate",
+        about: "Writes a recording of format 1 again in format 2, whose blocks have digests",
+        example: "Example: recorderd migrate r chained",
+        arguments: &[
+            Word("PATH", "The recording"),
+            Word("OUT", "The file to write, without bytes or not there yet"),
+        ],
+    },
+    CommandWords {
+        name: "export",
+        about: "Writes a part of a recording as an FBS file",
+        example: "Example, the first 20 messages: recorderd export r 0 20 r.fbs",
+        arguments: &[
+            Word("PATH", "The recording"),
+            Word("FROM", "The block to begin with, from 0"),
+            Word("TO", "The number of the first message left out"),
+            Word("OUT", "The file to write"),
+        ],
+    },
+    CommandWords {
+        name: "fbs-check",
+        about: "Reads a whole FBS file, and prints its size and how much it holds",
+        example: "Example: recorderd fbs-check r.fbs",
+        arguments: &[Word("PATH", "The FBS file")],
+    },
+    CommandWords {
+        name: "times",
+        about: "Prints when something came in a recording, and how much",
+        example: "Example, minute by minute: recorderd times r --every 60",
+        arguments: &[
+            Word("PATH", "The recording"),
+            Value(
+                "every",
+                "SECONDS",
+                "How long the stretches are, 1 to 86400 seconds [default: 10]",
+            ),
+        ],
+    },
+    CommandWords {
+        name: "picture",
+        about: "Writes the screen at a moment of a recording as a picture, in PPM or BMP",
+        example: "Example, after a minute: recorderd picture r r.bmp --at 60000",
+        arguments: &[
+            Word("PATH", "The recording"),
+            Word(
+                "OUT",
+                "The file to write, which ends in .ppm or .bmp; or -, for PPM on standard output",
+            ),
+            Value(
+                "at",
+                "TIME",
+                "The moment, in milliseconds of the recording, as list prints them",
+            ),
+            Value(
+                "message",
+                "COUNT",
+                "In place of a time: behind so many messages",
+            ),
+        ],
+    },
+    CommandWords {
+        name: "frames",
+        about: "Writes the screens of a recording as PPM pictures on standard output, for a video",
+        example: "Example: recorderd frames r --rate 10 | ffmpeg -f image2pipe -framerate 10 -i - r.mp4",
+        arguments: &[
+            Word("PATH", "The recording"),
+            NeededValue(
+                "rate",
+                "RATE",
+                "How many pictures a second of the recording, 1 to 60",
+            ),
+            Value(
+                "from",
+                "FROM",
+                "The first picture's moment, in milliseconds of the recording [default: 0]",
+            ),
+            Value(
+                "to",
+                "TO",
+                "No picture is later [default: when the last message is shown]",
+            ),
+        ],
+    },
+    CommandWords {
+        name: "browse",
+        about: "Serves a page on which a recording is looked at in a browser",
+        example: "Example: recorderd browse r, and then look at http://127.0.0.1:8080/",
+        arguments: &[
+            Word("PATH", "The recording"),
+            Value(
+                "listen",
+                "ADDR",
+                "Where browsers connect to; a number is a port of this machine alone [default: 8080]",
+            ),
+            Value("seconds", "SECONDS", "Ends after so many seconds"),
+            Flag("until-input-ends", "Ends once standard input ends"),
+        ],
+    },
+    CommandWords {
+        name: "serve",
+        about: "Records a host into a file, and shows the recording to viewers as it grows",
+        example: "Example: recorderd serve --file r --host 127.0.0.1:5901 --listen 127.0.0.1:5900",
+        arguments: &[
+            NeededValue(
+                "file",
+                "PATH",
+                "The recording; made for a host where it isn't there",
+            ),
+            NeededValue("listen", "ADDR", "Where viewers connect to"),
+            Value(
+                "host",
+                "HOST",
+                "The host; without one the recording is served alone",
+            ),
+            Value(
+                "key",
+                "K",
+                "A new recording's key interval, 1 to 4096 [default: 256]",
+            ),
+            Value(
+                "format",
+                "FORMAT",
+                "A new recording's format, 1 or 2, whose blocks have digests [default: 2]",
+            ),
+            Value(
+                "viewers",
+                "N",
+                "How many viewers are waited for, 1 to 64, or any: whoever comes [default: 1]",
+            ),
+            Value(
+                "from",
+                "FROM",
+                "A number of messages, or live: where viewers begin [default: live]",
+            ),
+            Value(
+                "at",
+                "TIME",
+                "In place of a number of messages: a time, in milliseconds of the recording",
+            ),
+            Value(
+                "pace",
+                "PACE",
+                "Without a host: plays the recording so many times as fast as it happened, 0.1 to 100",
+            ),
+            Value(
+                "longest-pause",
+                "PAUSE",
+                "With --pace: shortens longer pauses to so many seconds of the recording",
+            ),
+            Flag("repeat", "With --pace: begins again at the end"),
+            Value("seconds", "SECONDS", "Ends after so many seconds"),
+            Flag("until-input-ends", "Ends once standard input ends"),
+            Flag(
+                "verbose",
+                "Tells what happens, a line each, on standard error",
+            ),
+        ],
+    },
+    CommandWords {
+        name: "explain",
+        about: "Says what a refusal means, where it comes from, and what to do",
+        example: "Example, of the line 'recorderd: check refused journal 1': recorderd explain journal 1",
+        arguments: &[
+            Word("AREA", "The word behind 'refused'"),
+            Word("NUMBER", "The number behind it"),
+        ],
+    },
+];
+
+fn arg<'a>(alloc: Global, argument: &Argument) -> Arg<'a> {
+    let (name, long, is_needed, help) = match *argument {
+        Word(name, help) => (name, None, true, help),
+        MaybeWord(name, help) => (name, None, false, help),
+        Value(long, name, help) => (name, Some(long), false, help),
+        NeededValue(long, name, help) => (name, Some(long), true, help),
+        Flag(long, help) => {
+            return Arg::new(alloc, long)
+                .long(long)
+                .help(help)
+                .action(ArgAction::SetTrue);
+        }
+    };
+    let arg = Arg::new(alloc, name)
+        .help(help)
+        .required(is_needed)
+        .action(ArgAction::Set);
+    match long {
+        Some(long) => arg.long(long),
+        None => arg,
+    }
+}
+
+fn command<'a>(alloc: Global, words: &CommandWords) -> Result<Command<'a>, AllocError> {
+    let mut command = Command::new(alloc, words.name)
+        .about(words.about)
+        .after_help(words.example);
+    for argument in words.arguments {
+        command = command.arg(arg(alloc, argument))?;
+    }
+    Ok(command)
+}
+
+/// The reader of the program's words.
+pub fn reader<'a>(alloc: Global) -> Result<Command<'a>, AllocError> {
+    let mut program = Command::new(alloc, "recorderd")
+        .about("Records one VNC session, so that a crash at any moment loses nothing acknowledged")
+        .version("0.1.0")
+        .subcommand_required(true);
+    for words in &COMMANDS {
+        program = program.subcommand(command(alloc, words)?)?;
+    }
+    Ok(program)
+}

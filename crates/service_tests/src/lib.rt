@@ -1,0 +1,33 @@
+//! Tests of the two servers over loopback.
+#![tactic(auto)]
+
+ghost use Rattle.std.specs.Prelude.{◌≡◌};
+
+use serve::{Audience, Format, Origin, Plan, Stop};
+
+/// A plan of a test: what it serves, to whom, and where they begin. It ends with its viewers.
+pub fn plan_of<'a>(
+    file: &'a str,
+    host: Option<&'a str>,
+    audience: Audience,
+    from: Origin,
+) -> Plan<'a>
+    ensures audience { result.audience ≡ audience }
+    ensures from { result.from ≡ from }
+{
+    Plan {
+        file,
+        listen: "",
+        host,
+        format: Format::Two,
+        key_interval: 4,
+        audience,
+        from,
+        playing: None,
+        stop: Stop::never(),
+        is_verbose: false,
+    }
+}
+
+#[cfg(test)]
+mod tests;
