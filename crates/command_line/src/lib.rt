@@ -8,4 +8,4 @@ mod servers;
 mod table;
 mod words;
 
-pub use running::{System, command};
+pub use running::command;

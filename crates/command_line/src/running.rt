@@ -21,22 +21,6 @@ const REFUSED: u8 = 1;
 /// The words are no command line.
 const BAD_WORDS: u8 = 2;
 
-/// What a command takes of the system: memory, files, sockets, threads and the time.
-pub trait System: AllocGlobal
-    + Clock
-    + Eprint
-    + Files<File = File>
-    + Net<Stream = TcpStream, Listener = TcpListener>
-    + Sync
-    + Threads
-    + Wait {}
-
-impl<R> System for R
-where
-    R: AllocGlobal + Clock + Eprint + Files<File = File> + Sync + Threads + Wait,
-    R: Net<Stream = TcpStream, Listener = TcpListener>,
-{}
-
 // Runs a drill whose recording is kept in a new file, which is made first.
 fn drill_to_file<R: Files<File = File> + AllocGlobal, I: Read + Drop, O: Write, E: Write>(
     rt: &R,
@@ -98,7 +82,7 @@ fn status_of<O: Write>(done: io::Result<bool>, out: &mut O) -> u8
 /// told of, its input, and its two outputs; files and sockets are those of the runtime. Answers the
 /// exit status: 0 where it is done, 1 where it is refused, where memory for its own work is, or where
 /// a stream can't be read or written, and 2 for a bad command line.
-pub fn command<R: System, I: Read + Drop, O: Write, E: Write>(
+pub fn command<R, I: Read + Drop, O: Write, E: Write>(
     rt: &R,
     words: &[String],
     progress: Progress,
@@ -106,6 +90,9 @@ pub fn command<R: System, I: Read + Drop, O: Write, E: Write>(
     out: &mut O,
     err: &mut E,
 ) -> u8
+where
+    R: AllocGlobal + Clock + Eprint + Files<File = File> + Sync + Threads + Wait,
+    R: Net<Stream = TcpStream, Listener = TcpListener>,
     ensures { result ≤ 2 }
 {
     let alloc = rt.alloc();

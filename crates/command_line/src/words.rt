@@ -35,7 +35,10 @@ fn choose<'a>(matches: &ArgMatches<'a>) -> Option<Chosen<'a>> {
             keep: matches.get_str("FILE"),
         }),
         "browse" => browsing(matches).map(Chosen::Browse),
-        "serve" => plan(matches).map(Chosen::Serve),
+        "serve" => match plan(matches) {
+            Some(plan) => Some(Chosen::Serve(plan)),
+            None => None,
+        },
         "explain" => {
             let number = number(matches.get_str("NUMBER")?)?;
             Some(Chosen::Explain(matches.get_str("AREA")?, number))

@@ -19,49 +19,29 @@
 //! has little room, and one whose input can't be read: their exit statuses are printed.
 #![tactic(auto)]
 
+mod calls;
 mod files;
-mod paragraph;
-mod running;
+mod playing;
 mod streams;
 
-use command_line::System;
-use running::run;
-use std::{env, fs, io};
+use calls::words_of;
+use playing::{play, run};
+use std::{env, io};
 use streams::Input;
 
 /// A drill that prints 25 bytes.
 const DRILL: &[u8] = b"new 1 1 4 x\nopen\n";
 
-// Prints what is found of a file of transcripts.
-fn play<R: System + Print>(rt: &R, name: &str) -> io::Result<()> {
-    let text = fs::read_to_string(rt, name)?;
-    let mut count = 0u64;
-    for paragraph in text.split("\n\n") {
-        if paragraph.starts_with("#") {
-            continue;
-        }
-        match paragraph::difference(rt, paragraph)? {
-            None => count = count.wrapping_add(1),
-            Some(instead) => println!(rt; "{name}: not so:\n{paragraph}\nbut:\n{instead}")?,
-        }
-    }
-    println!(rt; "{name}: {count} paragraphs are so")
-}
-
-// Prints how drills end whose output or input fails.
-fn play_failures<R: System + Print>(rt: &R) -> io::Result<()> {
-    print!(rt; "a drill of 25 bytes, with room for 0 to 25:")?;
-    for room in 0..=25 {
-        let ended = run(rt, &["drill"], Input::Bytes(DRILL), room)?;
-        print!(rt; " {}", ended.status)?;
-    }
-    let ended = run(rt, &["drill"], Input::Unreadable, 25)?;
-    println!(rt; "\nwith an input that can't be read: {}", ended.status)
-}
-
 fn main(rt: HostRuntime) -> io::Result<()> {
     for name in env::args(&rt)?.skip(1) {
         play(&rt, name.as_str())?;
     }
-    play_failures(&rt)
+    let words = words_of(rt.alloc(), "drill")?;
+    print!(rt; "a drill of 25 bytes, with room for 0 to 25:")?;
+    for room in 0..=25 {
+        let outcome = run(&rt, &words, Input::Bytes(DRILL), room)?;
+        print!(rt; " {}", outcome.status)?;
+    }
+    let outcome = run(&rt, &words, Input::Unreadable, 25)?;
+    println!(rt; "\nwith an input that can't be read: {}", outcome.status)
 }

@@ -1,9 +1,10 @@
 //! `recorderd`, a crash-safe recorder of VNC sessions.
 #![tactic(auto)]
 
-ghost use Rattle.std.specs.Prelude.{◌≤◌};
+ghost use Rattle.std.specs.Prelude.{◌≤◌, IfSome};
+ghost use Rattle.std.specs.Process.{exit_status};
 
-use command_line::{System, command};
+use command_line::command;
 use file_disk::Progress;
 use std::fs::{File, OpenOptions};
 use std::os::fd::AsRawFd;
@@ -38,21 +39,22 @@ fn arguments(rt: &HostRuntime) -> io::Result<Vec<String>> {
     Ok(env::args(rt)?.collect(rt.alloc())?)
 }
 
-// Runs the program: its exit status, 0 where it is done, 1 where it is refused, and 2 for a bad
-// command line.
-fn run<R: System>(rt: &R) -> u8
-    ensures { result ≤ 2 }
+// How the program ends: with the status of its command, or with 1 where its words can't be read.
+fn exit_code(status: Option<u8>) -> ExitCode
+    requires { IfSome status (λ status. status ≤ 2) }
+    ensures { exit_status result ≤ 2 }
 {
-    let Ok(words) = arguments(rt) else {
-        return 1;
-    };
-    let mut out = io::writer(rt);
-    let mut err = rt.stderr();
-    let progress = Progress::new(err);
-    command(rt, &words, progress, rt.reader(), &mut out, &mut err)
+    ExitCode::from(status.unwrap_or(1))
 }
 
 fn main(rt: HostRuntime) -> ExitCode {
     let _held = hold_standard_streams(&rt);
-    ExitCode::from(run(&rt))
+    let Ok(words) = arguments(&rt) else {
+        return exit_code(None);
+    };
+    let mut out = io::writer(&rt);
+    let mut err = rt.stderr();
+    let progress = Progress::new(err);
+    let status = command(&rt, &words, progress, rt.reader(), &mut out, &mut err);
+    exit_code(Some(status))
 }
