@@ -1,14 +1,7 @@
-//! What no clause says: recordings worked by hand, and that steps pass where they may.
+//! What no clause says: devices, readers and writers that fail, workers beside each other, and what
+//! a viewer is answered.
 
-mod adding;
-mod books;
-mod desks;
-mod disks;
-mod drills;
 mod fbs_files;
-mod index;
-mod journal;
-mod lines;
-mod replays;
+mod recordings;
 mod shared;
 mod viewers;

@@ -2,8 +2,8 @@
 //! rules.
 //!
 //! Each word names a file of drills, which empty lines part. A line of a drill that begins with `> `
-//! is a line of its script, one with `# ` a comment; the others are its answers. For each file a
-//! line is printed that counts its drills, and one for each that was answered in another way.
+//! or `* ` is a line of its script, one with `# ` a comment; the others are its answers. For each
+//! file a line is printed that counts its drills, and one for each that was answered in another way.
 #![tactic(auto)]
 
 mod random;

@@ -4,28 +4,32 @@ use std::alloc::Global;
 use std::io;
 
 /// A script, and what it is to answer. Where its disk has a recording at first, the first line is
-/// `<` and the hexadecimal digits of that one's bytes. Where the bytes that its disk then has are told too, they
-/// are the last line of the answers, as `=` and their hexadecimal digits.
+/// `<` and the hexadecimal digits of that one's bytes. Where the bytes that its disk then has are
+/// told too, they are the last line of the answers, as `=` and their hexadecimal digits.
 #[derive(Drop)]
 pub struct Transcript {
     recording: Option<Vec<u8>>,
-    script: String,
+    script: Vec<u8>,
     answers: String,
     tells_bytes: bool,
 }
 
 impl Transcript {
-    /// Reads the lines of one drill. `\r` in a line of the script is a carriage return.
+    /// Reads the lines of one drill. `\r` in a line of the script is a carriage return; behind `*` a
+    /// line of it is told by its bytes, as hexadecimal digits.
     pub fn read(alloc: Global, text: &str) -> io::Result<Transcript> {
         let mut recording = None;
-        let mut script = String::new(alloc);
+        let mut script = Vec::new(alloc);
         let mut answers = String::new(alloc);
         let mut tells_bytes = false;
         for line in text.lines() {
             if let Some(words) = line.strip_prefix(">") {
                 let words = words.replace(alloc, "\\r", "\r")?;
-                script.push_str(words.strip_prefix(" ").unwrap_or(""))?;
-                script.push_str("\n")?;
+                script.extend_from_slice(words.strip_prefix(" ").unwrap_or("").as_bytes())?;
+                script.push(b'\n')?;
+            } else if let Some(digits) = line.strip_prefix("*") {
+                script.extend_from_slice(&bytes_of(alloc, digits)?)?;
+                script.push(b'\n')?;
             } else if let Some(digits) = line.strip_prefix("<") {
                 recording = Some(bytes_of(alloc, digits)?);
             } else if !line.starts_with("#") {
@@ -50,7 +54,7 @@ impl Transcript {
     /// What the drill answers, where that is something else.
     pub fn answered_otherwise(&self, alloc: Global) -> io::Result<Option<String>> {
         let mut out = Vec::new(alloc);
-        let script = self.script.as_bytes();
+        let script = self.script.as_slice();
         let ran = match &self.recording {
             Some(bytes) => drill::run_over(alloc, bytes.to_vec(alloc)?, script, &mut out)?,
             None => drill::run_and_read(alloc, script, &mut out)?,

@@ -50,10 +50,8 @@ struct Gates<'a, R: Clock> {
     waiting: AtomicU64,
     missed: AtomicU64,
     lacked: AtomicBool,
-    // Whom the device that failed has ended: a viewer, or the flusher and by it the host.
-    viewer_failed: AtomicBool,
-    flusher_failed: AtomicBool,
-    host_failed: AtomicBool,
+    // Whom the device that failed has ended: 1 for a viewer, 2 for the flusher, 4 for the host.
+    failed: AtomicU64,
 }
 
 impl<'a, R: Clock> Gates<'a, R> {
@@ -66,9 +64,7 @@ impl<'a, R: Clock> Gates<'a, R> {
             waiting: AtomicU64::new(0),
             missed: AtomicU64::new(0),
             lacked: AtomicBool::new(false),
-            viewer_failed: AtomicBool::new(false),
-            flusher_failed: AtomicBool::new(false),
-            host_failed: AtomicBool::new(false),
+            failed: AtomicU64::new(0),
         }
     }
 
@@ -82,19 +78,6 @@ impl<'a, R: Clock> Gates<'a, R> {
 
     fn has_lacked(&self) -> bool {
         self.lacked.load(Ordering::SeqCst)
-    }
-
-    // Whether nobody was held for too long or ended otherwise than is due; nor is anybody to blame for
-    // it who lacked memory.
-    fn were_passed(&self) -> bool {
-        self.missed.load(Ordering::SeqCst) == 0 || self.has_lacked()
-    }
-
-    // Whether a device that failed once has ended either a viewer, or the flusher and the host.
-    fn one_has_failed(&self) -> bool {
-        let flusher = self.flusher_failed.load(Ordering::SeqCst);
-        self.viewer_failed.load(Ordering::SeqCst) != flusher
-            && self.host_failed.load(Ordering::SeqCst) == flusher
     }
 
     fn hold_until(&self, order: Order, count: &AtomicU64, least: u64) {
@@ -268,7 +251,7 @@ fn host<D: Disk, M: Mark, R: Wait + Clock>(
     match (end, gates.order) {
         (Err(HostRefusal::NoMemory), _) => gates.lacks(),
         (Err(HostRefusal::Broken), Order::FailsAfter(_)) => {
-            gates.host_failed.store(true, Ordering::SeqCst);
+            gates.failed.fetch_add(4, Ordering::SeqCst);
         }
         (Err(HostRefusal::Backlog), Order::NoFlusher) => {}
         (Ok(()), order) if order != Order::NoFlusher => {}
@@ -290,7 +273,7 @@ fn flush<D: Disk, M: Mark, R: Wait + Clock>(
     };
     match (run_flusher(rt, shared, kept, gates), gates.order) {
         (Err(FlusherEnd::Flush(FlushRefusal::Device)), Order::FailsAfter(_)) => {
-            gates.flusher_failed.store(true, Ordering::SeqCst);
+            gates.failed.fetch_add(2, Ordering::SeqCst);
         }
         (Ok(()), _) => {}
         (Err(_), _) => gates.lacks(),
@@ -324,7 +307,7 @@ fn view<D: Disk, M: Mark, R: Wait + Clock>(
         (Ok(()), _) => {}
         (Err(ViewerEnd::Join(_)), _) => gates.misses(),
         (Err(ViewerEnd::Next(NextRefusal::Device)), Order::FailsAfter(_)) => {
-            gates.viewer_failed.store(true, Ordering::SeqCst);
+            gates.failed.fetch_add(1, Ordering::SeqCst);
         }
         (Err(_), _) => gates.lacks(),
     }
@@ -427,19 +410,6 @@ fn work<D: Disk + Send, M: Mark + Send + Sync, R: Threads + Wait + Clock + Sync>
     })
 }
 
-// The last two tickets have different numbers.
-fn are_apart<D: Disk, M: Mark, R: Wait + Abort>(
-    rt: &R,
-    closed: &mut Closed<D, M>,
-    tickets: Vec<Ticket<M>>,
-) {
-    let mut tickets = tickets;
-    if let (Some(mut one), Some(mut other)) = (tickets.pop(), tickets.pop()) {
-        closed.apart(rt, &mut one, &mut other);
-        assert!(rt; one.number() != other.number());
-    }
-}
-
 // All receipts are confirmed, all tickets found, and the recording ended where viewers were told the
 // end. Where memory was ample, so many messages are committed, and handed to each viewer.
 fn settle<D: Disk + Drop, M: Mark, R: Wait + Abort>(
@@ -448,7 +418,7 @@ fn settle<D: Disk + Drop, M: Mark, R: Wait + Abort>(
     told: Told<M>,
     due: Option<u64>,
 ) -> Result<(), Fail> {
-    let mut closed = closed;
+    let (mut closed, mut told) = (closed, told);
     find(rt, &mut closed, &told.tickets)?;
     confirm(rt, &mut closed, &told.committed)?;
     assert!(rt; due.unwrap_or(closed.committed()) == closed.committed());
@@ -463,7 +433,10 @@ fn settle<D: Disk + Drop, M: Mark, R: Wait + Abort>(
             None => assert!(rt; due.is_none()),
         }
     }
-    are_apart(rt, &mut closed, told.tickets);
+    if let [.., one, other] = told.tickets.as_mut_slice() {
+        closed.apart(rt, one, other);
+        assert!(rt; one.number() != other.number());
+    }
     Ok(())
 }
 
@@ -530,39 +503,35 @@ fn shared_by_workers<R: Threads + Wait + Clock + Abort + Sync>(
         return Ok(None);
     };
     share::<FailingDisk<MemoryDisk>, Brand, R>(rt, alloc, token, desk, &gates, count, viewers)?;
-    assert!(rt; gates.were_passed());
     if gates.has_lacked() {
         return Ok(None);
     }
+    assert!(rt; gates.missed.load(Ordering::SeqCst) == 0);
     if let Order::FailsAfter(_) = order {
-        assert!(rt; gates.one_has_failed());
+        // A viewer, or the flusher and by it the host.
+        assert!(rt; matches!(gates.failed.load(Ordering::SeqCst), 1 | 6));
     }
     Ok(Some(gates.accepted.load(Ordering::SeqCst)))
 }
 
+// The host goes on while a viewer is served; a viewer is told the end behind the last commit; a
+// backlog that stays ends the host.
 #[test]
-fn the_host_goes_on_while_a_viewer_is_served(rt: HostRuntime) -> Result<(), Fail> {
-    let accepted = shared_by_workers(&rt, rt.alloc(), Order::Meeting, 2, 1)?;
-    assert!(&rt; accepted.unwrap_or(2) == 2);
+fn workers_come_in_each_order(rt: HostRuntime) -> Result<(), Fail> {
+    for (order, count, viewers, due) in [
+        (Order::Meeting, 2, 1, 2),
+        (Order::HostFirst, 300, 2, 300),
+        (Order::NoFlusher, 1_030, 1, 1_024),
+    ] {
+        let accepted = shared_by_workers(&rt, rt.alloc(), order, count, viewers)?;
+        assert!(rt; accepted.unwrap_or(due) == due);
+    }
     Ok(())
 }
 
 #[test]
 fn eight_viewers_are_handed_ten_thousand_messages(rt: HostRuntime) -> Result<(), Fail> {
     shared_by_workers(&rt, rt.alloc(), Order::Free, 10_000, 8)?;
-    Ok(())
-}
-
-#[test]
-fn a_viewer_is_told_the_end_behind_the_last_commit(rt: HostRuntime) -> Result<(), Fail> {
-    shared_by_workers(&rt, rt.alloc(), Order::HostFirst, 300, 2)?;
-    Ok(())
-}
-
-#[test]
-fn a_backlog_that_stays_ends_the_host(rt: HostRuntime) -> Result<(), Fail> {
-    let accepted = shared_by_workers(&rt, rt.alloc(), Order::NoFlusher, 1_030, 1)?;
-    assert!(&rt; accepted.unwrap_or(1_024) == 1_024);
     Ok(())
 }
 

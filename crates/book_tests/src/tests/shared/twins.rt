@@ -4,14 +4,11 @@ ghost use Rattle.std.specs.Prelude.{◌≡◌, IfOk};
 ghost use Rattle.flusher_core.specs.State.{accepted_count};
 
 use super::{UPDATE, confirm, find, new_desk};
-use broadcast::{
-    Desk, JoinRefusal, LeaveRefusal, NextRefusal, Seat, SeekRefusal, Start, StepRefusal,
-};
+use Line::{At, Bell, Body, Gate, Key, Leave, Live, Next, Seek, Take, Update};
+use broadcast::{Desk, Seat, Start};
 use disk::{Disk, FailingDisk, MemoryDisk, Switch};
-use flusher_core::{FlushRefusal, HostRefused, TakeRefusal, Taken};
-use pixel_format::Color;
 use replay::Slice;
-use rfb_wire::{BytesFault, HostMessage};
+use rfb_wire::HostMessage;
 use shared_book::{Mark, Receipt, Shared, Ticket, Token};
 use std::alloc::Global;
 use std::marker::Brand;
@@ -19,10 +16,6 @@ use std::process::Abort;
 use std::sync::Wait;
 use std::test::Fail;
 use terms::NoMemory;
-
-const BLACK: Color = Color { r: 0, g: 0, b: 0 };
-
-const RED: Color = Color { r: 255, g: 0, b: 0 };
 
 /// A bell: it paints nothing.
 const BELL: [u8; 1] = [2];
@@ -35,410 +28,252 @@ enum Line {
     Take,
     Body,
     Gate,
-    Join(Start),
+    Live,
+    At(u64),
     Next,
     Seek(u64),
     Leave,
-    Committed,
-    KeyBefore(u64),
+    /// The committed count, and the last key screen at so many messages or before.
+    Key(u64),
 }
 
-/// What a call is answered: a slice by its first number, the colour of its start, and how many
-/// messages it has.
-#[derive(Clone, Copy, PartialEq, Eq)]
-enum Told {
-    Accepted(u64),
-    Taken(u64, u64),
-    Done,
-    Seated(u32, u64),
-    Handed(u64, Option<Color>, usize),
-    Count(u64),
-    Refused(u64),
-}
+/// Seats that read before, between and behind the steps of a commit, and are moved. No slice is of
+/// two blocks: the lock would hand out the first one's messages alone.
+const READING: [&[Line]; 4] = [
+    &[
+        Live,
+        Update,
+        Bell,
+        Take,
+        Body,
+        Next,
+        Gate,
+        Live,
+        Next,
+        At(1),
+        Next,
+    ],
+    &[Update, Take, Body, Live, Next, Gate, Next, Key(3), Leave],
+    &[At(0), Next, Next, Seek(2), Next, Seek(3), Next, Seek(4)],
+    &[At(4), Live, Next],
+];
 
-fn message(alloc: Global, line: Line) -> Result<HostMessage, BytesFault>
-    ensures { IfOk result (λ message. (message.width ≡ 1) × (message.height ≡ 1)) }
-{
-    match line {
-        Line::Bell => HostMessage::from_bytes(alloc, 1, 1, &BELL),
-        _ => HostMessage::from_bytes(alloc, 1, 1, &UPDATE),
-    }
-}
+/// Behind 300 bells: the second block begins with a key screen.
+const KEYS: [&[Line]; 1] = [&[Take, Body, Gate, Take, Body, Gate, Key(255), Key(1_000)]];
 
-fn told_slice(slice: &Slice) -> Told {
-    let start = match &slice.start {
-        Some(screen) if screen.size() == (1, 1) => Some(screen.color(0, 0)),
-        _ => None,
-    };
-    Told::Handed(slice.first, start, slice.messages.len())
-}
+/// Behind one bell more than may wait.
+const ROOM: [&[Line]; 1] = [&[Take, Body, Gate, Bell]];
 
-fn told_seat(seat: &Seat) -> Told {
-    Told::Seated(seat.number(), seat.position())
-}
-
-fn told_host(answer: Result<u64, HostRefused>) -> Told {
-    match answer {
-        Ok(number) => Told::Accepted(number),
-        Err(refused) => Told::Refused(StepRefusal::Host(refused.why).number()),
-    }
-}
-
-fn told_take(answer: Result<Taken, TakeRefusal>) -> Told {
-    match answer {
-        Ok(taken) => Told::Taken(taken.first, taken.count),
-        Err(refusal) => Told::Refused(StepRefusal::Take(refusal).number()),
-    }
-}
-
-fn told_body(answer: Result<(), FlushRefusal>) -> Told {
-    match answer {
-        Ok(()) => Told::Done,
-        Err(refusal) => Told::Refused(StepRefusal::Flush(refusal).number()),
-    }
-}
-
-fn told_seek(answer: Result<(), SeekRefusal>) -> Told {
-    match answer {
-        Ok(()) => Told::Done,
-        Err(refusal) => Told::Refused(StepRefusal::Seek(refusal).number()),
-    }
-}
-
-fn told_leave(answer: Result<(), LeaveRefusal>) -> Told {
-    match answer {
-        Ok(()) => Told::Done,
-        Err(refusal) => Told::Refused(StepRefusal::Leave(refusal).number()),
-    }
-}
-
-fn gate_at_desk<D: Disk>(desk: &mut Desk<D>) -> Told
-    ensures head { desk.new.head ≡ desk.old.head }
-{
-    match desk.gate() {
-        Ok(slice) => told_slice(&slice),
-        Err(refusal) => Told::Refused(StepRefusal::Flush(refusal).number()),
-    }
-}
-
-fn join_at_desk<D: Disk>(
-    desk: &mut Desk<D>,
-    seats: &mut Vec<Seat>,
-    start: Start,
-) -> Result<Told, NoMemory>
-    ensures head { desk.new.head ≡ desk.old.head }
-{
-    match desk.join(start) {
-        Ok(seat) => {
-            let told = told_seat(&seat);
-            seats.push(seat)?;
-            Ok(told)
-        }
-        Err(refusal) => Ok(Told::Refused(StepRefusal::Join(refusal).number())),
-    }
-}
-
-fn next_at_desk<D: Disk>(desk: &mut Desk<D>, seat: &mut Seat) -> Told
-    ensures head { desk.new.head ≡ desk.old.head }
-{
-    match desk.next(seat, 8) {
-        Ok(slice) => told_slice(&slice),
-        Err(refusal) => Told::Refused(StepRefusal::Next(refusal).number()),
-    }
-}
-
-// One line at a desk.
-fn at_desk<D: Disk>(
-    alloc: Global,
-    desk: &mut Desk<D>,
-    seats: &mut Vec<Seat>,
-    line: Line,
-) -> Result<Told, Fail>
-    requires width { desk.old.head.width ≡ 1 }
-    requires height { desk.old.head.height ≡ 1 }
-    ensures head { desk.new.head ≡ desk.old.head }
-{
-    match line {
-        Line::Update | Line::Bell => Ok(told_host(desk.host(0, message(alloc, line)?))),
-        Line::Take => Ok(told_take(desk.take())),
-        Line::Body => Ok(told_body(desk.body())),
-        Line::Gate => Ok(gate_at_desk(desk)),
-        Line::Join(start) => Ok(join_at_desk(desk, seats, start)?),
-        Line::Next => Ok(next_at_desk(desk, seats.last_mut().ok_or("no seat")?)),
-        Line::Seek(n) => Ok(told_seek(desk.seek(seats.last_mut().ok_or("no seat")?, n))),
-        Line::Leave => Ok(told_leave(desk.leave(seats.pop().ok_or("no seat")?))),
-        Line::Committed => Ok(Told::Count(desk.committed())),
-        Line::KeyBefore(n) => Ok(Told::Count(desk.key_before(n))),
-    }
-}
-
-/// What a thread keeps of its calls.
+/// What is kept of the calls: each seat at the desk and its twin, and what the lock gave.
 #[derive(Drop)]
 struct Kept<M: Mark> {
-    seats: Vec<Seat>,
+    seats: Vec<(Seat, Seat)>,
     receipts: Vec<Receipt<M>>,
     tickets: Vec<Ticket<M>>,
 }
 
-impl<M: Mark> Kept<M> {
-    fn new(alloc: Global) -> Kept<M> {
-        Kept {
-            seats: Vec::new(alloc),
-            receipts: Vec::new(alloc),
-            tickets: Vec::new(alloc),
+// Each of these makes one call at a desk, and the one of its name through the lock: whether both
+// answer the same.
+fn host<D: Disk, M: Mark, R: Wait>(
+    rt: &R,
+    alloc: Global,
+    desk: &mut Desk<D>,
+    shared: &Shared<D, M>,
+    tickets: &mut Vec<Ticket<M>>,
+    bytes: &[u8],
+) -> Result<bool, Fail>
+    requires width { desk.old.head.width ≡ 1 }
+    requires height { desk.old.head.height ≡ 1 }
+    requires sized { (M.head.width ≡ 1) × (M.head.height ≡ 1) }
+    ensures head { desk.new.head ≡ desk.old.head }
+{
+    let answer = desk.host(0, HostMessage::from_bytes(alloc, 1, 1, bytes)?);
+    let twin = shared.host(rt, 0, HostMessage::from_bytes(alloc, 1, 1, bytes)?);
+    match (answer, twin) {
+        (Ok(number), Ok(ticket)) => {
+            let is_same = number == ticket.number();
+            tickets.push(ticket)?;
+            Ok(is_same)
         }
-    }
-
-    fn host(&mut self, answer: Result<Ticket<M>, HostRefused>) -> Result<Told, NoMemory> {
-        match answer {
-            Ok(ticket) => {
-                let number = ticket.number();
-                self.tickets.push(ticket)?;
-                Ok(Told::Accepted(number))
-            }
-            Err(refused) => Ok(Told::Refused(StepRefusal::Host(refused.why).number())),
-        }
-    }
-
-    fn join(&mut self, answer: Result<Seat, JoinRefusal>) -> Result<Told, NoMemory> {
-        match answer {
-            Ok(seat) => {
-                let told = told_seat(&seat);
-                self.seats.push(seat)?;
-                Ok(told)
-            }
-            Err(refusal) => Ok(Told::Refused(StepRefusal::Join(refusal).number())),
-        }
-    }
-
-    fn receipt(&mut self, receipt: Receipt<M>) -> Result<Told, NoMemory> {
-        let told = told_slice(receipt.slice());
-        self.receipts.push(receipt)?;
-        Ok(told)
-    }
-
-    fn gate(&mut self, answer: Result<Receipt<M>, FlushRefusal>) -> Result<Told, NoMemory> {
-        match answer {
-            Ok(receipt) => self.receipt(receipt),
-            Err(refusal) => Ok(Told::Refused(StepRefusal::Flush(refusal).number())),
-        }
-    }
-
-    fn next(&mut self, answer: Result<Receipt<M>, NextRefusal>) -> Result<Told, NoMemory> {
-        match answer {
-            Ok(receipt) => self.receipt(receipt),
-            Err(refusal) => Ok(Told::Refused(StepRefusal::Next(refusal).number())),
-        }
+        (Err(refused), Err(twin)) => Ok(refused.why == twin.why),
+        _ => Ok(false),
     }
 }
 
-// One line through the lock.
-fn at_lock<D: Disk, M: Mark, R: Wait>(
+fn join<D: Disk, M: Mark, R: Wait>(
+    rt: &R,
+    desk: &mut Desk<D>,
+    shared: &Shared<D, M>,
+    seats: &mut Vec<(Seat, Seat)>,
+    start: Start,
+) -> Result<bool, NoMemory>
+    ensures head { desk.new.head ≡ desk.old.head }
+{
+    match (desk.join(start), shared.join(rt, start)) {
+        (Ok(seat), Ok(twin)) => {
+            let is_same = seat.number() == twin.number() && seat.position() == twin.position();
+            seats.push((seat, twin))?;
+            Ok(is_same)
+        }
+        (Err(refusal), Err(twin)) => Ok(refusal == twin),
+        _ => Ok(false),
+    }
+}
+
+fn are_same(slice: &Slice, twin: &Slice) -> bool {
+    let is_start_same = match (&slice.start, &twin.start) {
+        (Some(screen), Some(twin)) => screen.same(twin),
+        (None, None) => true,
+        _ => false,
+    };
+    let messages = slice.messages.iter().zip(&twin.messages);
+    is_start_same
+        && slice.first == twin.first
+        && slice.messages.len() == twin.messages.len()
+        && messages
+            .into_iter()
+            .all(|(stamped, twin)| stamped.same(twin))
+}
+
+// Whether both hand out the same, or refuse it for the same.
+fn hand_out<M: Mark, E: PartialEq + Drop>(
+    receipts: &mut Vec<Receipt<M>>,
+    answer: Result<Slice, E>,
+    twin: Result<Receipt<M>, E>,
+) -> Result<bool, NoMemory> {
+    match (answer, twin) {
+        (Ok(slice), Ok(receipt)) => {
+            let is_same = are_same(&slice, receipt.slice());
+            receipts.push(receipt)?;
+            Ok(is_same)
+        }
+        (Err(refusal), Err(twin)) => Ok(refusal == twin),
+        _ => Ok(false),
+    }
+}
+
+fn both<D: Disk, M: Mark, R: Wait>(
     rt: &R,
     alloc: Global,
+    desk: &mut Desk<D>,
     shared: &Shared<D, M>,
     kept: &mut Kept<M>,
     line: Line,
-) -> Result<Told, Fail>
-    requires { (M.head.width ≡ 1) × (M.head.height ≡ 1) }
+) -> Result<bool, Fail>
+    requires width { desk.old.head.width ≡ 1 }
+    requires height { desk.old.head.height ≡ 1 }
+    requires sized { (M.head.width ≡ 1) × (M.head.height ≡ 1) }
+    ensures head { desk.new.head ≡ desk.old.head }
 {
     match line {
-        Line::Update | Line::Bell => Ok(kept.host(shared.host(rt, 0, message(alloc, line)?))?),
-        Line::Take => Ok(told_take(shared.take(rt))),
-        Line::Body => Ok(told_body(shared.body(rt))),
-        Line::Gate => Ok(kept.gate(shared.gate(rt))?),
-        Line::Join(start) => Ok(kept.join(shared.join(rt, start))?),
-        Line::Next => {
-            let answer = shared.next(rt, kept.seats.last_mut().ok_or("no seat")?, 8);
-            Ok(kept.next(answer)?)
+        Update => host(rt, alloc, desk, shared, &mut kept.tickets, &UPDATE),
+        Bell => host(rt, alloc, desk, shared, &mut kept.tickets, &BELL),
+        Take => Ok(desk.take() == shared.take(rt)),
+        Body => Ok(desk.body() == shared.body(rt)),
+        Gate => Ok(hand_out(&mut kept.receipts, desk.gate(), shared.gate(rt))?),
+        Live => Ok(join(rt, desk, shared, &mut kept.seats, Start::Live)?),
+        At(n) => Ok(join(rt, desk, shared, &mut kept.seats, Start::At(n))?),
+        Next => {
+            let (seat, twin) = kept.seats.last_mut().ok_or("no seat")?;
+            let answer = desk.next(seat, 2);
+            Ok(hand_out(&mut kept.receipts, answer, shared.next(rt, twin, 2))?)
         }
-        Line::Seek(n) => {
-            let seat = kept.seats.last_mut().ok_or("no seat")?;
-            Ok(told_seek(shared.seek(rt, seat, n)))
+        Seek(n) => {
+            let (seat, twin) = kept.seats.last_mut().ok_or("no seat")?;
+            Ok(desk.seek(seat, n) == shared.seek(rt, twin, n))
         }
-        Line::Leave => {
-            let seat = kept.seats.pop().ok_or("no seat")?;
-            Ok(told_leave(shared.leave(rt, seat)))
+        Leave => {
+            let (seat, twin) = kept.seats.pop().ok_or("no seat")?;
+            Ok(desk.leave(seat) == shared.leave(rt, twin))
         }
-        Line::Committed => Ok(Told::Count(shared.committed(rt))),
-        Line::KeyBefore(n) => Ok(Told::Count(shared.key_before(rt, n))),
+        Key(n) => Ok(
+            desk.committed() == shared.committed(rt)
+                && desk.key_before(n) == shared.key_before(rt, n),
+        ),
     }
 }
 
-fn through_desk<D: Disk + Drop>(
-    alloc: Global,
-    desk: Desk<D>,
-    lines: &[Line],
-) -> Result<Vec<Told>, Fail>
-    requires width { desk.head.width ≡ 1 }
-    requires height { desk.head.height ≡ 1 }
-{
-    let mut desk = desk;
-    let mut seats = Vec::new(alloc);
-    let mut told = Vec::new(alloc);
-    for line in lines {
-        told.push(at_desk(alloc, &mut desk, &mut seats, *line)?)?;
-    }
-    Ok(told)
-}
-
-// The lines through the lock; all receipts are then confirmed, and all tickets found that are below
-// the closed count. A reading that meets the one fault is made again.
-fn through_lock<D: Disk + Drop, M: Mark, R: Wait + Abort>(
+// Each line is answered by both as by the other. All receipts are then confirmed, and all tickets
+// found that are below the closed count.
+fn run_both<D: Disk + Drop, M: Mark, R: Wait + Abort>(
     rt: &R,
     alloc: Global,
     token: Token,
     desk: Desk<D>,
+    twin: Desk<D>,
     lines: &[Line],
-) -> Result<Vec<Told>, Fail>
-    requires head { desk.head ≡ M.head }
+) -> Result<(), Fail>
+    requires width { desk.head.width ≡ 1 }
+    requires height { desk.head.height ≡ 1 }
+    requires head { twin.head ≡ M.head }
     requires modelled { (D.is_modelled → M.is_modelled) × (M.is_modelled → D.is_modelled) }
-    requires first { accepted_count desk.state.book ≡ M.first }
+    requires first { accepted_count twin.state.book ≡ M.first }
     requires names { token ≡ M.names }
     requires sized { (M.head.width ≡ 1) × (M.head.height ≡ 1) }
 {
-    let shared = Shared::<D, M>::new(rt, token, desk);
-    let mut kept = Kept::new(alloc);
-    let mut told = Vec::new(alloc);
+    let mut desk = desk;
+    let shared = Shared::<D, M>::new(rt, token, twin);
+    let mut kept = Kept {
+        seats: Vec::new(alloc),
+        receipts: Vec::new(alloc),
+        tickets: Vec::new(alloc),
+    };
     for line in lines {
-        told.push(at_lock(rt, alloc, &shared, &mut kept, *line)?)?;
+        let are_same = both(rt, alloc, &mut desk, &shared, &mut kept, *line)?;
+        assert!(rt; are_same);
     }
     let mut closed = shared.finish();
     confirm(rt, &mut closed, &kept.receipts)?;
     find(rt, &mut closed, &kept.tickets)?;
-    Ok(told)
+    Ok(())
 }
 
-// A disk that fails once, after so many calls, once the switch is on.
-fn failing_disk(alloc: Global, switch: &Switch) -> Result<FailingDisk<MemoryDisk>, Fail> {
-    Ok(FailingDisk::new(MemoryDisk::new(alloc), switch.clone()?))
-}
-
-fn desk_replies(alloc: Global, lines: &[Line], calls: Option<u64>) -> Result<Vec<Told>, Fail> {
+// A desk whose disk fails once, after so many calls.
+fn failing_desk(alloc: Global, calls: u64) -> Result<Desk<FailingDisk<MemoryDisk>>, Fail>
+    ensures width { IfOk result (λ desk. desk.head.width ≡ 1) }
+    ensures height { IfOk result (λ desk. desk.head.height ≡ 1) }
+{
     let switch = Switch::new(alloc)?;
-    let desk = new_desk(alloc, failing_disk(alloc, &switch)?)?;
-    if let Some(calls) = calls {
-        switch.fail_after(calls);
-    }
-    through_desk(alloc, desk, lines)
+    let disk = FailingDisk::new(MemoryDisk::new(alloc), switch.clone()?);
+    let desk = new_desk(alloc, disk)?;
+    switch.fail_after(calls);
+    Ok(desk)
 }
 
-fn lock_replies<R: Wait + Abort>(
+// Two disks that fail at the same call.
+fn run_twins<R: Wait + Abort>(
     rt: &R,
     alloc: Global,
     lines: &[Line],
-    calls: Option<u64>,
-) -> Result<Vec<Told>, Fail> {
-    let switch = Switch::new(alloc)?;
-    let desk = new_desk(alloc, failing_disk(alloc, &switch)?)?;
-    if let Some(calls) = calls {
-        switch.fail_after(calls);
-    }
-    let token = Token::new(alloc)?;
-    through_lock::<FailingDisk<MemoryDisk>, Brand, R>(rt, alloc, token, desk, lines)
-}
-
-// The same replies, without a fault and with each device call failing in turn, until a run doesn't
-// come to it.
-fn are_twins<R: Wait + Abort>(rt: &R, alloc: Global, lines: &[Line]) -> Result<(), Fail> {
-    let sound = desk_replies(alloc, lines, None)?;
-    assert!(rt; lock_replies(rt, alloc, lines, None)? == sound);
-    for calls in 0..1000 {
-        let replies = desk_replies(alloc, lines, Some(calls))?;
-        assert!(rt; lock_replies(rt, alloc, lines, Some(calls))? == replies);
-        if replies == sound {
-            return Ok(());
-        }
-    }
-    Err("a fault was met each time".into())
-}
-
-// The replies to so many bells, and then to these lines, through the lock and at a desk.
-fn are_answered<R: Wait + Abort>(
-    rt: &R,
-    alloc: Global,
-    bells: usize,
-    row: &[(Line, Told)],
+    calls: u64,
 ) -> Result<(), Fail> {
-    let mut lines = Vec::new(alloc);
-    for _ in 0..bells {
-        lines.push(Line::Bell)?;
-    }
-    for (line, _) in row {
-        lines.push(*line)?;
-    }
-    let replies = lock_replies(rt, alloc, &lines, None)?;
-    assert!(rt; replies.len() == lines.len());
-    for (reply, (_, want)) in replies.iter().skip(bells).zip(row) {
-        assert!(rt; reply == want);
-    }
-    are_twins(rt, alloc, &lines)
+    let desk = failing_desk(alloc, calls)?;
+    let twin = failing_desk(alloc, calls)?;
+    let token = Token::new(alloc)?;
+    run_both::<FailingDisk<MemoryDisk>, Brand, R>(rt, alloc, token, desk, twin, lines)
 }
 
-/// What is committed on one thread is what seats are handed.
-const ROW: [(Line, Told); 13] = [
-    (Line::Update, Told::Accepted(0)),
-    (Line::Take, Told::Taken(0, 1)),
-    (Line::Body, Told::Done),
-    (Line::Gate, Told::Handed(0, None, 1)),
-    (Line::Join(Start::Live), Told::Seated(0, 1)),
-    (Line::Next, Told::Handed(1, Some(RED), 0)),
-    (Line::Join(Start::At(0)), Told::Seated(1, 0)),
-    (Line::Next, Told::Handed(0, Some(BLACK), 1)),
-    (Line::Update, Told::Accepted(1)),
-    (Line::Take, Told::Taken(1, 1)),
-    (Line::Body, Told::Done),
-    (Line::Gate, Told::Handed(1, None, 1)),
-    (Line::Join(Start::Live), Told::Seated(2, 2)),
-];
-
-/// The second block begins with a key screen.
-const KEYS: [(Line, Told); 9] = [
-    (Line::Take, Told::Taken(0, 256)),
-    (Line::Body, Told::Done),
-    (Line::Gate, Told::Handed(0, None, 256)),
-    (Line::Take, Told::Taken(256, 44)),
-    (Line::Body, Told::Done),
-    (Line::Gate, Told::Handed(256, None, 44)),
-    (Line::Committed, Told::Count(300)),
-    (Line::KeyBefore(255), Told::Count(0)),
-    (Line::KeyBefore(1_000), Told::Count(256)),
-];
-
-/// A seat that reads between the steps of a commit, and is moved.
-const READING: [Line; 13] = [
-    Line::Update,
-    Line::Take,
-    Line::Body,
-    Line::Join(Start::Live),
-    Line::Next,
-    Line::Gate,
-    Line::Next,
-    Line::Leave,
-    Line::Join(Start::At(0)),
-    Line::Next,
-    Line::Seek(1),
-    Line::Next,
-    Line::Seek(2),
-];
-
+// One line so many times, and then these lines, with each device call failing in turn: no run makes
+// as many as 24.
 #[test]
 fn a_call_through_the_lock_answers_as_the_desk(rt: HostRuntime) -> Result<(), Fail> {
     let alloc = rt.alloc();
-    are_answered(&rt, alloc, 0, &ROW)?;
-    are_answered(&rt, alloc, 300, &KEYS)?;
-    are_twins(&rt, alloc, &READING)?;
-    let mut lines = Vec::new(alloc);
-    for _ in 0..1025 {
-        lines.push(Line::Bell)?;
+    for (count, line, then) in [
+        (0, Bell, &READING[..]),
+        (300, Bell, &KEYS),
+        (1_025, Bell, &ROOM),
+        (65, Live, &[]),
+    ] {
+        let mut lines = Vec::new(alloc);
+        for _ in 0..count {
+            lines.push(line)?;
+        }
+        for row in then {
+            lines.extend_from_slice(row)?;
+        }
+        for calls in 0..=24 {
+            run_twins(&rt, alloc, &lines, calls)?;
+        }
     }
-    for line in [Line::Take, Line::Body, Line::Gate, Line::Bell] {
-        lines.push(line)?;
-    }
-    are_twins(&rt, alloc, &lines)?;
-    lines.clear();
-    for _ in 0..65 {
-        lines.push(Line::Join(Start::Live))?;
-    }
-    are_twins(&rt, alloc, &lines)
+    Ok(())
 }

@@ -200,23 +200,6 @@ fn paint_hextile(cursor: &mut Cursor, area: Area, pixels: &mut [Color]) -> Optio
     Some(())
 }
 
-fn paint_rectangle(cursor: &mut Cursor, pixels: &mut [Color]) -> Option<()> {
-    let area = Area {
-        x: number(cursor)?,
-        y: number(cursor)?,
-        w: number(cursor)?,
-        h: number(cursor)?,
-    };
-    let _high = number(cursor)?;
-    match number(cursor)? {
-        0 => paint_raw(cursor, area, pixels),
-        1 => paint_copy(cursor, area, pixels),
-        2 => paint_rre(cursor, area, pixels),
-        5 => paint_hextile(cursor, area, pixels),
-        _ => None,
-    }
-}
-
 // Paints an update; nothing where it isn't one, or bytes are left.
 fn paint(update: &[u8], format: &PixelFormat, pixels: &mut [Color]) -> Option<()> {
     let mut cursor = Cursor {
@@ -228,12 +211,22 @@ fn paint(update: &[u8], format: &PixelFormat, pixels: &mut [Color]) -> Option<()
         return None;
     }
     for _ in 0..number(&mut cursor)? {
-        paint_rectangle(&mut cursor, pixels)?;
+        let area = Area {
+            x: number(&mut cursor)?,
+            y: number(&mut cursor)?,
+            w: number(&mut cursor)?,
+            h: number(&mut cursor)?,
+        };
+        let _high = number(&mut cursor)?;
+        match number(&mut cursor)? {
+            0 => paint_raw(&mut cursor, area, pixels)?,
+            1 => paint_copy(&mut cursor, area, pixels)?,
+            2 => paint_rre(&mut cursor, area, pixels)?,
+            5 => paint_hextile(&mut cursor, area, pixels)?,
+            _ => return None,
+        }
     }
-    if cursor.at < update.len() {
-        return None;
-    }
-    Some(())
+    (cursor.at == update.len()).then_some(())
 }
 
 // An update of one rectangle: a copy, or Raw in three colours.
