@@ -103,7 +103,11 @@ where
         Chosen::Drill { keep: None } => drill::run(alloc, input, out),
         Chosen::Drill { keep: Some(path) } => drill_to_file(rt, path, input, out, err),
         Chosen::OnFiles(what) => run(rt, &what, progress, out, err),
-        Chosen::Browse(what) => browse::browse(rt, what, progress, out, err),
+        Chosen::Browse(what) => {
+            let address = what.listen;
+            let listen = || browse::listen_at(rt, alloc, address);
+            browse::browse(rt, what, listen, progress, out, err)
+        }
         Chosen::Serve(plan) => serve::serve(rt, &plan, out, err),
         Chosen::Text(text) => print(out, &text),
         Chosen::Explain(area, number) => match explanations::explain(area, number) {

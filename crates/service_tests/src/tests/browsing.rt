@@ -1,7 +1,7 @@
 //! The page over loopback, in one process with a browser of the test.
 
 use browse::page::{PAGE, SCRIPT, STYLE};
-use browse::{Browsing, Stop, browse_on};
+use browse::{Browsing, Stop, browse};
 use file_disk::Progress;
 use std::fs::File;
 use std::io::{Read, Write};
@@ -129,7 +129,7 @@ where
             after: Some(2),
         },
     };
-    let is_done = browse_on(
+    let is_done = browse(
         rt,
         what,
         || Ok(listener),
