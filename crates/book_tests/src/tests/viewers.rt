@@ -1,6 +1,6 @@
 //! What no clause says: sessions worked by hand, and a viewer that paints what it is answered.
 
-ghost use Rattle.std.specs.Prelude.{◌≡◌, IfOk};
+ghost use Rattle.std.specs.Prelude.{◌≡◌, ◌<◌, ◌^◌, IfOk, length};
 
 use key_index::Stamped;
 use painter::Screen;
@@ -35,16 +35,35 @@ const COPIED: [u8; 20] = *b"\0\0\0\x01\0\x01\0\0\0\x02\0\x01\0\0\0\x01\0\0\0\0";
 // A request for the first place.
 const FIRST: [u8; 10] = *b"\x03\0\0\0\0\0\0\x01\0\x01";
 
-// A session behind its handshake, whose start was painted by one update.
-fn started(alloc: Global, width: u16, update: &[u8]) -> Result<Session, Fail>
-    ensures position { IfOk result (λ s. s.view.position ≡ 1) }
-    ensures width { IfOk result (λ s. s.view.screen.width ≡ width) }
-    ensures height { IfOk result (λ s. s.view.screen.height ≡ 1) }
+// A session, boxed, so that a test that ends early doesn't take it apart.
+fn new_session(alloc: Global, width: u16, height: u16, name: &[u8]) -> Result<Box<Session>, Fail>
+    requires name { length name.now < 2 ^ 32 }
+    ensures width { IfOk result (λ s. s.value.view.screen.width ≡ width) }
+    ensures height { IfOk result (λ s. s.value.view.screen.height ≡ height) }
+    ensures position { IfOk result (λ s. s.value.view.position ≡ 0) }
+{
+    Ok(Box::new(alloc, Session::new(alloc, width, height, name)?)?)
+}
+
+// A screen that one update has painted.
+fn painted_once(alloc: Global, width: u16, update: &[u8]) -> Result<Screen, Fail>
+    ensures width { IfOk result (λ screen. screen.width ≡ width) }
+    ensures height { IfOk result (λ screen. screen.height ≡ 1) }
 {
     let message = HostMessage::from_bytes(alloc, width, 1, update)?;
-    let mut start = Screen::black(alloc, width, 1)?;
-    start.paint(&message);
-    let mut session = Session::new(alloc, width, 1, b"r")?;
+    let mut screen = Screen::black(alloc, width, 1)?;
+    screen.paint(&message);
+    Ok(screen)
+}
+
+// A session behind its handshake, whose start was painted by one update.
+fn started(alloc: Global, width: u16, update: &[u8]) -> Result<Box<Session>, Fail>
+    ensures position { IfOk result (λ s. s.value.view.position ≡ 1) }
+    ensures width { IfOk result (λ s. s.value.view.screen.width ≡ width) }
+    ensures height { IfOk result (λ s. s.value.view.screen.height ≡ 1) }
+{
+    let start = painted_once(alloc, width, update)?;
+    let mut session = new_session(alloc, width, 1, b"r")?;
     session.advance(&Slice {
         first: 1,
         start: Some(start),
@@ -98,7 +117,7 @@ fn handshakes(rt: HostRuntime) -> Result<(), Fail> {
         ),
     ];
     for (piece, heard, told) in rows {
-        let mut session = Session::new(alloc, 2, 1, b"r")?;
+        let mut session = new_session(alloc, 2, 1, b"r")?;
         assert!(rt; put_out(alloc, &mut session)?.as_slice() == &GREETING[..12]);
         assert!(rt; feed(&mut session, piece) == heard && feed(&mut session, b"") == heard);
         for answer in [told, b""] {

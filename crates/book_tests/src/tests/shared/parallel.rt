@@ -414,16 +414,15 @@ fn work<D: Disk + Send, M: Mark + Send + Sync, R: Threads + Wait + Clock + Sync>
 // end. Where memory was ample, so many messages are committed, and handed to each viewer.
 fn settle<D: Disk + Drop, M: Mark, R: Wait + Abort>(
     rt: &R,
-    closed: Closed<D, M>,
-    told: Told<M>,
+    closed: &mut Closed<D, M>,
+    told: &mut Told<M>,
     due: Option<u64>,
 ) -> Result<(), Fail> {
-    let (mut closed, mut told) = (closed, told);
-    find(rt, &mut closed, &told.tickets)?;
-    confirm(rt, &mut closed, &told.committed)?;
+    find(rt, closed, &told.tickets)?;
+    confirm(rt, closed, &told.committed)?;
     assert!(rt; due.unwrap_or(closed.committed()) == closed.committed());
     for seen in &told.seen {
-        let handed = confirm(rt, &mut closed, &seen.receipts)?;
+        let handed = confirm(rt, closed, &seen.receipts)?;
         assert!(rt; due.unwrap_or(handed) == handed);
         match &seen.ending {
             Some(ending) => {
@@ -438,6 +437,37 @@ fn settle<D: Disk + Drop, M: Mark, R: Wait + Abort>(
         assert!(rt; one.number() != other.number());
     }
     Ok(())
+}
+
+// The workers, and without a flusher also viewers one behind the other, more than there are seats.
+fn work_in_order<D: Disk + Send, M: Mark + Send + Sync, R: Threads + Wait + Clock + Sync>(
+    rt: &R,
+    alloc: Global,
+    shared: &Shared<D, M>,
+    gates: &Gates<R>,
+    count: u64,
+    viewers: usize,
+) -> Result<Told<M>, NoMemory>
+    requires { (M.head.width ≡ 1) × (M.head.height ≡ 1) }
+{
+    let mut told = work(rt, alloc, shared, gates, count, viewers)?;
+    if gates.order == Order::NoFlusher {
+        for _ in 0..65 {
+            told.seen.push(view(rt, alloc, shared, gates))?;
+        }
+    }
+    Ok(told)
+}
+
+// How many messages are to be committed; none where memory was wanting.
+fn due_in<R: Clock>(gates: &Gates<R>, count: u64) -> Option<u64> {
+    match gates.order {
+        _ if gates.has_lacked() => None,
+        Order::NoFlusher => Some(0),
+        // A block is committed by four calls.
+        Order::FailsAfter(calls) => (calls < 4).then_some(0),
+        Order::Free | Order::Meeting | Order::HostFirst => Some(count),
+    }
 }
 
 // The workers share a desk. All receipts are then confirmed, and all tickets found; where memory is
@@ -458,23 +488,12 @@ fn share<D: Disk + Send + Drop, M: Mark + Send + Sync, R: Threads + Wait + Clock
     requires sized { (M.head.width ≡ 1) × (M.head.height ≡ 1) }
 {
     let shared = Shared::<D, M>::new(rt, token, desk);
-    let Ok(mut told) = work(rt, alloc, &shared, gates, count, viewers) else {
-        return Ok(());
-    };
-    if gates.order == Order::NoFlusher {
-        // One behind the other, more than there are seats.
-        for _ in 0..65 {
-            told.seen.push(view(rt, alloc, &shared, gates))?;
-        }
+    let told = work_in_order(rt, alloc, &shared, gates, count, viewers);
+    let mut closed = shared.finish();
+    match told {
+        Ok(mut told) => settle(rt, &mut closed, &mut told, due_in(gates, count)),
+        Err(NoMemory) => Ok(()),
     }
-    let due = match gates.order {
-        _ if gates.has_lacked() => None,
-        Order::NoFlusher => Some(0),
-        // A block is committed by four calls.
-        Order::FailsAfter(calls) => (calls < 4).then_some(0),
-        Order::Free | Order::Meeting | Order::HostFirst => Some(count),
-    };
-    settle(rt, shared.finish(), told, due)
 }
 
 // What workers begin with; none where memory was wanting.

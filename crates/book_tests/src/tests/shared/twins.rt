@@ -9,7 +9,7 @@ use broadcast::{Desk, Seat, Start};
 use disk::{Disk, FailingDisk, MemoryDisk, Switch};
 use replay::Slice;
 use rfb_wire::HostMessage;
-use shared_book::{Mark, Receipt, Shared, Ticket, Token};
+use shared_book::{Closed, Mark, Receipt, Shared, Ticket, Token};
 use std::alloc::Global;
 use std::marker::Brand;
 use std::process::Abort;
@@ -193,49 +193,77 @@ fn both<D: Disk, M: Mark, R: Wait>(
     }
 }
 
-// Each line is answered by both as by the other. All receipts are then confirmed, and all tickets
-// found that are below the closed count.
+// Each line is answered by both as by the other.
+fn run_lines<D: Disk, M: Mark, R: Wait + Abort>(
+    rt: &R,
+    alloc: Global,
+    desk: &mut Desk<D>,
+    shared: &Shared<D, M>,
+    kept: &mut Kept<M>,
+    lines: &[Line],
+) -> Result<(), Fail>
+    requires width { desk.old.head.width ≡ 1 }
+    requires height { desk.old.head.height ≡ 1 }
+    requires sized { (M.head.width ≡ 1) × (M.head.height ≡ 1) }
+{
+    for line in lines {
+        let are_same = both(rt, alloc, desk, shared, kept, *line)?;
+        assert!(rt; are_same);
+    }
+    Ok(())
+}
+
+// All receipts are confirmed, and all tickets found that are below the closed count.
+fn confirm_all<D: Disk, M: Mark, R: Wait + Abort>(
+    rt: &R,
+    closed: &mut Closed<D, M>,
+    kept: &Kept<M>,
+) -> Result<(), Fail> {
+    confirm(rt, closed, &kept.receipts)?;
+    find(rt, closed, &kept.tickets)?;
+    Ok(())
+}
+
+// Runs the lines at a desk, and at its twin through the lock.
 fn run_both<D: Disk + Drop, M: Mark, R: Wait + Abort>(
     rt: &R,
     alloc: Global,
     token: Token,
-    desk: Desk<D>,
+    desk: &mut Desk<D>,
     twin: Desk<D>,
     lines: &[Line],
 ) -> Result<(), Fail>
-    requires width { desk.head.width ≡ 1 }
-    requires height { desk.head.height ≡ 1 }
+    requires width { desk.old.head.width ≡ 1 }
+    requires height { desk.old.head.height ≡ 1 }
     requires head { twin.head ≡ M.head }
     requires modelled { (D.is_modelled → M.is_modelled) × (M.is_modelled → D.is_modelled) }
     requires first { accepted_count twin.state.book ≡ M.first }
     requires names { token ≡ M.names }
     requires sized { (M.head.width ≡ 1) × (M.head.height ≡ 1) }
 {
-    let mut desk = desk;
     let shared = Shared::<D, M>::new(rt, token, twin);
     let mut kept = Kept {
         seats: Vec::new(alloc),
         receipts: Vec::new(alloc),
         tickets: Vec::new(alloc),
     };
-    for line in lines {
-        let are_same = both(rt, alloc, &mut desk, &shared, &mut kept, *line)?;
-        assert!(rt; are_same);
-    }
+    let ran = run_lines(rt, alloc, desk, &shared, &mut kept, lines);
     let mut closed = shared.finish();
-    confirm(rt, &mut closed, &kept.receipts)?;
-    find(rt, &mut closed, &kept.tickets)?;
-    Ok(())
+    match ran {
+        Ok(()) => confirm_all(rt, &mut closed, &kept),
+        Err(error) => Err(error),
+    }
 }
 
-// A desk whose disk fails once, after so many calls.
-fn failing_desk(alloc: Global, calls: u64) -> Result<Desk<FailingDisk<MemoryDisk>>, Fail>
-    ensures width { IfOk result (λ desk. desk.head.width ≡ 1) }
-    ensures height { IfOk result (λ desk. desk.head.height ≡ 1) }
+// A desk whose disk fails once, after so many calls. It is boxed, so that who ends early doesn't take
+// it apart.
+fn failing_desk(alloc: Global, calls: u64) -> Result<Box<Desk<FailingDisk<MemoryDisk>>>, Fail>
+    ensures width { IfOk result (λ desk. desk.value.head.width ≡ 1) }
+    ensures height { IfOk result (λ desk. desk.value.head.height ≡ 1) }
 {
     let switch = Switch::new(alloc)?;
     let disk = FailingDisk::new(MemoryDisk::new(alloc), switch.clone()?);
-    let desk = new_desk(alloc, disk)?;
+    let desk = Box::new(alloc, new_desk(alloc, disk)?)?;
     switch.fail_after(calls);
     Ok(desk)
 }
@@ -247,10 +275,11 @@ fn run_twins<R: Wait + Abort>(
     lines: &[Line],
     calls: u64,
 ) -> Result<(), Fail> {
-    let desk = failing_desk(alloc, calls)?;
+    let mut desk = failing_desk(alloc, calls)?;
     let twin = failing_desk(alloc, calls)?;
     let token = Token::new(alloc)?;
-    run_both::<FailingDisk<MemoryDisk>, Brand, R>(rt, alloc, token, desk, twin, lines)
+    let twin = Box::into_inner(twin);
+    run_both::<FailingDisk<MemoryDisk>, Brand, R>(rt, alloc, token, &mut desk, twin, lines)
 }
 
 // One line so many times, and then these lines, with each device call failing in turn: no run makes

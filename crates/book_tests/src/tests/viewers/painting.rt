@@ -3,7 +3,7 @@
 
 ghost use Rattle.std.specs.Prelude.{◌≡◌, ◌<◌, IfOk, OnOk};
 
-use super::{HANDSHAKE, answered};
+use super::{HANDSHAKE, answered, new_session};
 use client_wire::{write_request, write_set_encodings, write_set_pixel_format};
 use key_index::Stamped;
 use painter::Screen;
@@ -368,11 +368,11 @@ fn look(
     }
 }
 
-fn begun(alloc: Global) -> Result<Session, Fail>
-    ensures width { IfOk result (λ s. s.view.screen.width ≡ WIDTH) }
-    ensures height { IfOk result (λ s. s.view.screen.height ≡ HEIGHT) }
+fn begun(alloc: Global) -> Result<Box<Session>, Fail>
+    ensures width { IfOk result (λ s. s.value.view.screen.width ≡ WIDTH) }
+    ensures height { IfOk result (λ s. s.value.view.screen.height ≡ HEIGHT) }
 {
-    let mut session = Session::new(alloc, WIDTH, HEIGHT, b"painted")?;
+    let mut session = new_session(alloc, WIDTH, HEIGHT, b"painted")?;
     answered(alloc, &mut session, &HANDSHAKE)?;
     Ok(session)
 }

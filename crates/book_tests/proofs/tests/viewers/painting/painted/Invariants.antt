@@ -4,8 +4,8 @@ use Rattle.book_tests.proofs.tests.viewers.painting.painted.Given as goal
 -- both keep their size
 abbrev pub invariant-loop : goal.invariant-loop
 invariant-loop g l = record {
-  width : l.session.view.screen.width ≡ 20;
-  height : l.session.view.screen.height ≡ 18;
+  width : l.session.value.view.screen.width ≡ 20;
+  height : l.session.value.view.screen.height ≡ 18;
   across : l.screen.width ≡ 20;
   down : l.screen.height ≡ 18;
 }

@@ -1,5 +1,5 @@
 use Rattle.std.proofs.Common.{◌≡◌}
-use Rattle.book_tests.proofs.tests.shared.twins.run_both.Given as goal
+use Rattle.book_tests.proofs.tests.shared.twins.run_lines.Given as goal
 
 abbrev pub invariant-loop-line : goal.invariant-loop-line
 invariant-loop-line g l = (l.desk.head.width ≡ 1) × (l.desk.head.height ≡ 1)
