@@ -230,88 +230,15 @@ impl<'a, M: Mark, R: Clock> ViewerSink<Receipt<M>, Ending<M>> for Viewer<'a, M, 
     }
 }
 
-fn host<D: Disk, M: Mark, R: Wait + Clock>(
-    rt: &R,
+/// What the workers of a test share: a host of so many updates, a flusher, and so many viewers.
+#[derive(Drop)]
+struct Workers<'a, D: Disk, M: Mark, R: Clock> {
+    rt: &'a R,
     alloc: Global,
-    shared: &Shared<D, M>,
-    gates: &Gates<R>,
+    shared: &'a Shared<D, M>,
+    gates: &'a Gates<'a, R>,
     count: u64,
-) -> Vec<Ticket<M>>
-    requires { (M.head.width ≡ 1) × (M.head.height ≡ 1) }
-{
-    let mut tickets = Vec::new(alloc);
-    let source = Updates {
-        alloc,
-        gates: &*gates,
-        given: 0,
-        count,
-        tickets: &mut tickets,
-    };
-    let end = run_host(rt, shared, source, gates);
-    match (end, gates.order) {
-        (Err(HostRefusal::NoMemory), _) => gates.lacks(),
-        (Err(HostRefusal::Broken), Order::FailsAfter(_)) => {
-            gates.failed.fetch_add(4, Ordering::SeqCst);
-        }
-        (Err(HostRefusal::Backlog), Order::NoFlusher) => {}
-        (Ok(()), order) if order != Order::NoFlusher => {}
-        _ => gates.misses(),
-    }
-    tickets
-}
-
-fn flush<D: Disk, M: Mark, R: Wait + Clock>(
-    rt: &R,
-    alloc: Global,
-    shared: &Shared<D, M>,
-    gates: &Gates<R>,
-) -> Vec<Receipt<M>> {
-    let mut receipts = Vec::new(alloc);
-    let kept = Kept {
-        gates: &*gates,
-        receipts: &mut receipts,
-    };
-    match (run_flusher(rt, shared, kept, gates), gates.order) {
-        (Err(FlusherEnd::Flush(FlushRefusal::Device)), Order::FailsAfter(_)) => {
-            gates.failed.fetch_add(2, Ordering::SeqCst);
-        }
-        (Ok(()), _) => {}
-        (Err(_), _) => gates.lacks(),
-    }
-    receipts
-}
-
-fn view<D: Disk, M: Mark, R: Wait + Clock>(
-    rt: &R,
-    alloc: Global,
-    shared: &Shared<D, M>,
-    gates: &Gates<R>,
-) -> Seen<M>
-    requires { (M.head.width ≡ 1) × (M.head.height ≡ 1) }
-{
-    let mut seen = Seen {
-        receipts: Vec::new(alloc),
-        ending: None,
-    };
-    let viewer = Viewer {
-        gates: &*gates,
-        position: 0,
-        is_fresh: true,
-        waits: false,
-        seen: &mut seen,
-    };
-    match (
-        run_viewer(rt, shared, Start::At(0), viewer, gates),
-        gates.order,
-    ) {
-        (Ok(()), _) => {}
-        (Err(ViewerEnd::Join(_)), _) => gates.misses(),
-        (Err(ViewerEnd::Next(NextRefusal::Device)), Order::FailsAfter(_)) => {
-            gates.failed.fetch_add(1, Ordering::SeqCst);
-        }
-        (Err(_), _) => gates.lacks(),
-    }
-    seen
+    viewers: usize,
 }
 
 /// What the workers were told.
@@ -322,92 +249,158 @@ struct Told<M: Mark> {
     seen: Vec<Seen<M>>,
 }
 
-fn view_all<D: Disk + Send, M: Mark + Send + Sync, R: Threads + Wait + Clock + Sync>(
-    rt: &R,
-    alloc: Global,
-    shared: &Shared<D, M>,
-    gates: &Gates<R>,
-    viewers: usize,
-) -> Result<Vec<Seen<M>>, NoMemory>
-    requires { (M.head.width ≡ 1) × (M.head.height ≡ 1) }
-{
-    let seen = map_indices(
-        rt,
-        alloc,
-        viewers,
-        &|_| -> Seen<M>
-            requires { (M.head.width ≡ 1) × (M.head.height ≡ 1) }
-        { view(rt, alloc, shared, gates) },
-    );
-    if seen.is_err() {
-        gates.lacks();
+impl<'a, D: Disk, M: Mark, R: Wait + Clock> Workers<'a, D, M, R> {
+    fn host(&self) -> Vec<Ticket<M>>
+        requires { (M.head.width ≡ 1) × (M.head.height ≡ 1) }
+    {
+        let gates = self.gates;
+        let mut tickets = Vec::new(self.alloc);
+        let source = Updates {
+            alloc: self.alloc,
+            gates,
+            given: 0,
+            count: self.count,
+            tickets: &mut tickets,
+        };
+        match (run_host(self.rt, self.shared, source, gates), gates.order) {
+            (Err(HostRefusal::NoMemory), _) => gates.lacks(),
+            (Err(HostRefusal::Broken), Order::FailsAfter(_)) => {
+                gates.failed.fetch_add(4, Ordering::SeqCst);
+            }
+            (Err(HostRefusal::Backlog), Order::NoFlusher) => {}
+            (Ok(()), order) if order != Order::NoFlusher => {}
+            _ => gates.misses(),
+        }
+        tickets
     }
-    seen
+
+    fn flush(&self) -> Vec<Receipt<M>> {
+        let gates = self.gates;
+        let mut receipts = Vec::new(self.alloc);
+        let kept = Kept {
+            gates,
+            receipts: &mut receipts,
+        };
+        match (run_flusher(self.rt, self.shared, kept, gates), gates.order) {
+            (Err(FlusherEnd::Flush(FlushRefusal::Device)), Order::FailsAfter(_)) => {
+                gates.failed.fetch_add(2, Ordering::SeqCst);
+            }
+            (Ok(()), _) => {}
+            (Err(_), _) => gates.lacks(),
+        }
+        receipts
+    }
+
+    fn view(&self) -> Seen<M>
+        requires { (M.head.width ≡ 1) × (M.head.height ≡ 1) }
+    {
+        let gates = self.gates;
+        let mut seen = Seen {
+            receipts: Vec::new(self.alloc),
+            ending: None,
+        };
+        let viewer = Viewer {
+            gates,
+            position: 0,
+            is_fresh: true,
+            waits: false,
+            seen: &mut seen,
+        };
+        let end = run_viewer(self.rt, self.shared, Start::At(0), viewer, gates);
+        match (end, gates.order) {
+            (Ok(()), _) => {}
+            (Err(ViewerEnd::Join(_)), _) => gates.misses(),
+            (Err(ViewerEnd::Next(NextRefusal::Device)), Order::FailsAfter(_)) => {
+                gates.failed.fetch_add(1, Ordering::SeqCst);
+            }
+            (Err(_), _) => gates.lacks(),
+        }
+        seen
+    }
 }
 
-// A host of so many updates and a flusher, each in a thread of its own where the order allows. Where
-// no thread can be made, `join` calls its second closure and then its first: the host comes first, as
-// the flusher waits for its end, and it waits for nobody while there is room.
-fn record<D: Disk + Send, M: Mark + Send + Sync, R: Threads + Wait + Clock + Sync>(
-    rt: &R,
-    alloc: Global,
-    shared: &Shared<D, M>,
-    gates: &Gates<R>,
-    count: u64,
-) -> (Vec<Ticket<M>>, Vec<Receipt<M>>)
-    requires { (M.head.width ≡ 1) × (M.head.height ≡ 1) }
-{
-    match gates.order {
-        Order::Free | Order::Meeting | Order::FailsAfter(_) => {
-            let (committed, tickets) = join(
-                rt,
-                move || flush(rt, alloc, shared, gates),
-                move || -> Vec<Ticket<M>>
-                    requires { (M.head.width ≡ 1) × (M.head.height ≡ 1) }
-                { host(rt, alloc, shared, gates, count) },
-            );
-            (tickets, committed)
+impl<'a, D: Disk + Send, M: Mark + Send + Sync, R: Threads + Wait + Clock + Sync> Workers<
+    'a,
+    D,
+    M,
+    R,
+> {
+    fn view_all(&self) -> Result<Vec<Seen<M>>, NoMemory>
+        requires { (M.head.width ≡ 1) × (M.head.height ≡ 1) }
+    {
+        let seen = map_indices(
+            self.rt,
+            self.alloc,
+            self.viewers,
+            &|_| -> Seen<M>
+                requires { (M.head.width ≡ 1) × (M.head.height ≡ 1) }
+            { self.view() },
+        );
+        if seen.is_err() {
+            self.gates.lacks();
         }
-        Order::HostFirst => {
-            let tickets = host(rt, alloc, shared, gates, count);
-            gates.waiting.store(0, Ordering::SeqCst);
-            shared.wake(rt);
-            gates.hold_until(Order::HostFirst, &gates.waiting, 1);
-            (tickets, flush(rt, alloc, shared, gates))
-        }
-        Order::NoFlusher => {
-            shared.end_flusher(rt);
-            (host(rt, alloc, shared, gates, count), Vec::new(alloc))
+        seen
+    }
+
+    // The host and the flusher, each in a thread of its own where the order allows. Where no thread
+    // can be made, `join` calls its second closure and then its first: the host comes first, as the
+    // flusher waits for its end, and it waits for nobody while there is room.
+    fn record(&self) -> (Vec<Ticket<M>>, Vec<Receipt<M>>)
+        requires { (M.head.width ≡ 1) × (M.head.height ≡ 1) }
+    {
+        match self.gates.order {
+            Order::Free | Order::Meeting | Order::FailsAfter(_) => {
+                let (committed, tickets) = join(
+                    self.rt,
+                    move || self.flush(),
+                    move || -> Vec<Ticket<M>>
+                        requires { (M.head.width ≡ 1) × (M.head.height ≡ 1) }
+                    { self.host() },
+                );
+                (tickets, committed)
+            }
+            Order::HostFirst => {
+                let tickets = self.host();
+                self.gates.waiting.store(0, Ordering::SeqCst);
+                self.shared.wake(self.rt);
+                let waiting = &self.gates.waiting;
+                self.gates.hold_until(Order::HostFirst, waiting, 1);
+                (tickets, self.flush())
+            }
+            Order::NoFlusher => {
+                self.shared.end_flusher(self.rt);
+                (self.host(), Vec::new(self.alloc))
+            }
         }
     }
-}
 
-// Both, and so many viewers, who wait for the end of both and so come last where no thread can be
-// made.
-fn work<D: Disk + Send, M: Mark + Send + Sync, R: Threads + Wait + Clock + Sync>(
-    rt: &R,
-    alloc: Global,
-    shared: &Shared<D, M>,
-    gates: &Gates<R>,
-    count: u64,
-    viewers: usize,
-) -> Result<Told<M>, NoMemory>
-    requires { (M.head.width ≡ 1) × (M.head.height ≡ 1) }
-{
-    let (seen, (tickets, committed)) = join(
-        rt,
-        move || -> Result<Vec<Seen<M>>, NoMemory>
-            requires { (M.head.width ≡ 1) × (M.head.height ≡ 1) }
-        { view_all(rt, alloc, shared, gates, viewers) },
-        move || -> (Vec<Ticket<M>>, Vec<Receipt<M>>)
-            requires { (M.head.width ≡ 1) × (M.head.height ≡ 1) }
-        { record(rt, alloc, shared, gates, count) },
-    );
-    Ok(Told {
-        tickets,
-        committed,
-        seen: seen?,
-    })
+    // All workers. The viewers wait for the end of both others, and so come last where no thread can
+    // be made.
+    fn work(&self) -> Result<Told<M>, NoMemory>
+        requires { (M.head.width ≡ 1) × (M.head.height ≡ 1) }
+    {
+        let (seen, (tickets, committed)) = join(
+            self.rt,
+            move || -> Result<Vec<Seen<M>>, NoMemory>
+                requires { (M.head.width ≡ 1) × (M.head.height ≡ 1) }
+            { self.view_all() },
+            move || -> (Vec<Ticket<M>>, Vec<Receipt<M>>)
+                requires { (M.head.width ≡ 1) × (M.head.height ≡ 1) }
+            { self.record() },
+        );
+        let mut seen = seen?;
+        if self.gates.order == Order::NoFlusher {
+            // One behind the other, more than there are seats.
+            for _ in 0..65 {
+                seen.push(self.view())?;
+            }
+        }
+        Ok(Told {
+            tickets,
+            committed,
+            seen,
+        })
+    }
 }
 
 // All receipts are confirmed, all tickets found, and the recording ended where viewers were told the
@@ -439,26 +432,6 @@ fn settle<D: Disk + Drop, M: Mark, R: Wait + Abort>(
     Ok(())
 }
 
-// The workers, and without a flusher also viewers one behind the other, more than there are seats.
-fn work_in_order<D: Disk + Send, M: Mark + Send + Sync, R: Threads + Wait + Clock + Sync>(
-    rt: &R,
-    alloc: Global,
-    shared: &Shared<D, M>,
-    gates: &Gates<R>,
-    count: u64,
-    viewers: usize,
-) -> Result<Told<M>, NoMemory>
-    requires { (M.head.width ≡ 1) × (M.head.height ≡ 1) }
-{
-    let mut told = work(rt, alloc, shared, gates, count, viewers)?;
-    if gates.order == Order::NoFlusher {
-        for _ in 0..65 {
-            told.seen.push(view(rt, alloc, shared, gates))?;
-        }
-    }
-    Ok(told)
-}
-
 // How many messages are to be committed; none where memory was wanting.
 fn due_in<R: Clock>(gates: &Gates<R>, count: u64) -> Option<u64> {
     match gates.order {
@@ -488,7 +461,16 @@ fn share<D: Disk + Send + Drop, M: Mark + Send + Sync, R: Threads + Wait + Clock
     requires sized { (M.head.width ≡ 1) × (M.head.height ≡ 1) }
 {
     let shared = Shared::<D, M>::new(rt, token, desk);
-    let told = work_in_order(rt, alloc, &shared, gates, count, viewers);
+    let workers = Workers {
+        rt,
+        alloc,
+        shared: &shared,
+        gates,
+        count,
+        viewers,
+    };
+    let told = workers.work();
+    drop(workers);
     let mut closed = shared.finish();
     match told {
         Ok(mut told) => settle(rt, &mut closed, &mut told, due_in(gates, count)),
