@@ -21,13 +21,13 @@
 
 mod calls;
 mod files;
-mod playing;
 mod streams;
+mod transcript;
 
 use calls::words_of;
-use playing::{play, run};
 use std::{env, io};
 use streams::Input;
+use transcript::{play, run};
 
 /// A drill that prints 25 bytes.
 const DRILL: &[u8] = b"new 1 1 4 x\nopen\n";
