@@ -24,7 +24,7 @@ pub struct Service<'a, D: Disk, M: Mark, R> {
     /// Where viewers come.
     pub listener: &'a TcpListener,
     /// The host's stream, if there is a host, to be shut.
-    pub stream: Option<&'a TcpStream>,
+    pub stream: &'a Option<TcpStream>,
 }
 
 /// How the host's worker and the host's stream ended.

@@ -62,16 +62,16 @@ fn serve_opened<
         shared: &shared,
         room: &room,
         listener: &listener,
-        stream: stream.as_ref(),
+        stream: &stream,
     };
     let outcome = run_threads(&service, host, plan.stop, err);
     drop(service);
     outcome.of(shared.finish().committed())
 }
 
-fn run<R, L, O, W>(
-    rt: &R,
-    plan: &Plan<'_>,
+fn run<'a, R, L, O, W>(
+    rt: &'a R,
+    plan: &'a Plan<'a>,
     listen: L,
     out: &mut O,
     err: &mut W,
@@ -87,8 +87,8 @@ where
     let telling = Telling::new(plan.is_verbose);
     let last_error = LastError::new(rt.alloc())?;
     let opening = Opening {
-        rt,
-        plan,
+        rt: &*rt,
+        plan: &*plan,
         telling: &telling,
         last_error: &last_error,
     };

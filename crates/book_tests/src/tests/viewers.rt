@@ -159,7 +159,7 @@ fn faults(rt: HostRuntime) -> Result<(), Fail> {
 // another. Then seventeen columns, which stand in two tiles: a rectangle for each.
 #[test]
 fn encodings_and_tiles(rt: HostRuntime) -> Result<(), Fail> {
-    let rows: [(u16, &[u8], usize, &[u8]); 11] = [
+    let rows: [(u8, &[u8], usize, &[u8]); 11] = [
         (16, b"", 12, b"\0\0\0\0"),
         (16, b"\x02\0\0\0", 12, b"\0\0\0\0"),
         (16, b"\x02\0\0\x02\0\0\0\0\0\0\0\x05", 12, b"\0\0\0\0"),
@@ -188,9 +188,9 @@ fn encodings_and_tiles(rt: HostRuntime) -> Result<(), Fail> {
         (17, b"", 80, b"\0\x10\0\0\0\x01\0\x01\0\0\0\0\0\0\0\0"),
     ];
     for (width, lists, place, told) in rows {
-        let mut session = started(rt.alloc(), width, &RED)?;
+        let mut session = started(rt.alloc(), u16::from(width), &RED)?;
         feed(&mut session, lists)?;
-        feed(&mut session, &[3, 0, 0, 0, 0, 0, 0, width as u8, 0, 1])?;
+        feed(&mut session, &[3, 0, 0, 0, 0, 0, 0, width, 0, 1])?;
         let answer = put_out(rt.alloc(), &mut session)?;
         let rest = answer.get(place..).unwrap_or_default();
         assert!(rt; rest.starts_with(told), "{lists:?}");

@@ -257,7 +257,7 @@ impl<'a, D: Disk, M: Mark, R: Wait + Clock> Workers<'a, D, M, R> {
         let mut tickets = Vec::new(self.alloc);
         let source = Updates {
             alloc: self.alloc,
-            gates,
+            gates: &*gates,
             given: 0,
             count: self.count,
             tickets: &mut tickets,
@@ -278,7 +278,7 @@ impl<'a, D: Disk, M: Mark, R: Wait + Clock> Workers<'a, D, M, R> {
         let gates = self.gates;
         let mut receipts = Vec::new(self.alloc);
         let kept = Kept {
-            gates,
+            gates: &*gates,
             receipts: &mut receipts,
         };
         match (run_flusher(self.rt, self.shared, kept, gates), gates.order) {
@@ -300,7 +300,7 @@ impl<'a, D: Disk, M: Mark, R: Wait + Clock> Workers<'a, D, M, R> {
             ending: None,
         };
         let viewer = Viewer {
-            gates,
+            gates: &*gates,
             position: 0,
             is_fresh: true,
             waits: false,
@@ -445,12 +445,17 @@ fn due_in<R: Clock>(gates: &Gates<R>, count: u64) -> Option<u64> {
 
 // The workers share a desk. All receipts are then confirmed, and all tickets found; where memory is
 // ample, each message is committed and handed to each viewer.
-fn share<D: Disk + Send + Drop, M: Mark + Send + Sync, R: Threads + Wait + Clock + Abort + Sync>(
-    rt: &R,
+fn share<
+    'a,
+    D: Disk + Send + Drop,
+    M: Mark + Send + Sync,
+    R: Threads + Wait + Clock + Abort + Sync,
+>(
+    rt: &'a R,
     alloc: Global,
     token: Token,
     desk: Desk<D>,
-    gates: &Gates<R>,
+    gates: &'a Gates<'a, R>,
     count: u64,
     viewers: usize,
 ) -> Result<(), Fail>
@@ -462,10 +467,10 @@ fn share<D: Disk + Send + Drop, M: Mark + Send + Sync, R: Threads + Wait + Clock
 {
     let shared = Shared::<D, M>::new(rt, token, desk);
     let workers = Workers {
-        rt,
+        rt: &*rt,
         alloc,
         shared: &shared,
-        gates,
+        gates: &*gates,
         count,
         viewers,
     };

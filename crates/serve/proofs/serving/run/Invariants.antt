@@ -1,5 +1,5 @@
 use Rattle.flusher_core.specs.State.{accepted_count}
 use Rattle.serve.proofs.serving.run.Given as goal
 
-abbrev pub ghosts-serve_book : goal.ghosts-serve_book
-ghosts-serve_book g a = record { head = a.book.head; is_modelled = ⊥; first = accepted_count a.book.state; names = a.token }
+abbrev pub ghosts-serve_opened : goal.ghosts-serve_opened
+ghosts-serve_opened g a = record { head = a.opened.book.value.head; is_modelled = ⊥; first = accepted_count a.opened.book.value.state; names = a.token }
