@@ -8,7 +8,6 @@ use disk::Disk;
 use file_disk::{FileDisk, LastError};
 use flusher_core::Book;
 use gated_journal::Header;
-use std::alloc::AllocError;
 use std::fs::File;
 use std::io;
 use std::net::{Net, TcpListener, TcpStream};
@@ -89,8 +88,10 @@ impl<
             _ => None,
         };
         let host = Host::connect(self.rt, address, expected, self.telling)?;
-        let host = Box::new(self.rt.alloc(), host).map_err(AllocError::from)?;
-        Ok(Some(host))
+        match Box::new(self.rt.alloc(), host) {
+            Ok(host) => Ok(Some(host)),
+            Err(_) => Err(Stopped::out_of_memory()),
+        }
     }
 
     // The recording that was found, or a new one for a host.
