@@ -2,7 +2,8 @@
 
 ghost use Rattle.std.specs.Prelude.{◌≡◌, ◌<◌, length};
 
-use crate::words::{Spelled, bad, tell};
+use crate::account::Account;
+use crate::words::{Spelled, bad};
 use pixel_format::{Color, PixelFormat};
 use std::io;
 
@@ -20,9 +21,9 @@ pub(crate) fn of_bits(bits: u16) -> io::Result<PixelFormat> {
 
 // Tells a pixel's colour, and the pixel that is put from it; then the screen colour (255, 128, 0) as
 // the format has it.
-fn tell_format(account: &mut String, format: &PixelFormat, pixel: &[u8]) -> io::Result<()> {
+fn tell_format(account: &mut Account, format: &PixelFormat, pixel: &[u8]) -> io::Result<()> {
     let size = format.bytes();
-    tell(account, format_args!("{size} bytes"))?;
+    account.tell(format_args!("{size} bytes"))?;
     if pixel.len() != size {
         return Ok(());
     }
@@ -35,17 +36,17 @@ fn tell_format(account: &mut String, format: &PixelFormat, pixel: &[u8]) -> io::
     let mut put = [0; 4];
     let put = &mut put[..size];
     format.put(orange, put);
-    tell(account, format_args!("{r} {g} {b}"))?;
-    tell(account, format_args!("orange {}", Spelled(put)))
+    account.tell(format_args!("{r} {g} {b}"))?;
+    account.tell(format_args!("orange {}", Spelled(put)))
 }
 
 /// Tells what a format of 16 bytes makes of the pixel behind it, or the number of its fault.
-pub(crate) fn run(account: &mut String, bytes: &[u8]) -> io::Result<()> {
+pub(crate) fn run(account: &mut Account, bytes: &[u8]) -> io::Result<()> {
     let Some((first, pixel)) = bytes.split_first_chunk::<16>() else {
         return Err(bad());
     };
     match PixelFormat::read(first) {
         Ok(format) => tell_format(account, &format, pixel),
-        Err(fault) => tell(account, format_args!("refused {}", fault.number())),
+        Err(fault) => account.tell(format_args!("refused {}", fault.number())),
     }
 }

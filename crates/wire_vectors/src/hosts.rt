@@ -2,11 +2,10 @@
 
 ghost use Rattle.std.specs.Prelude.{◌<◌};
 
+use crate::account::Account;
 use crate::readings::{Given, Message, Reader, finest, longest, read, read_cut};
-use crate::words::tell;
 use rfb_wire::{Front, HostMessage, Rectangle, ServerReader, read_message};
 use std::alloc::Global;
-use std::fmt::Write;
 use std::io;
 use terms::{Area, WireFault};
 
@@ -21,15 +20,11 @@ impl Message for HostMessage {
         self.same(other) && self.rectangles() == other.rectangles()
     }
 
-    fn describe(&self, account: &mut String, read: &[u8]) -> io::Result<()> {
-        write!(
-            account,
-            "{} of {}",
-            kind_of(self.bytes()),
-            self.bytes().len()
-        )?;
+    fn describe(&self, account: &mut Account, read: &[u8]) -> io::Result<()> {
+        let count = self.bytes().len();
+        account.add(format_args!("{} of {count}", kind_of(self.bytes())))?;
         if !read.ends_with(self.bytes()) {
-            account.push_str(" of other bytes")?;
+            account.add(" of other bytes")?;
         }
         for rectangle in self.rectangles() {
             describe_rectangle(account, rectangle)?;
@@ -49,11 +44,11 @@ fn kind_of(bytes: &[u8]) -> &'static str {
 }
 
 // Adds a rectangle: its area, its encoding's number, and where its data begin and end.
-fn describe_rectangle(account: &mut String, rectangle: &Rectangle) -> io::Result<()> {
+fn describe_rectangle(account: &mut Account, rectangle: &Rectangle) -> io::Result<()> {
     let Area { x, y, w, h } = rectangle.area;
-    write!(account, ", {x} {y} {w} {h}")?;
+    account.add(format_args!(", {x} {y} {w} {h}"))?;
     let (number, start, end) = (rectangle.encoding.number(), rectangle.start, rectangle.end);
-    Ok(write!(account, " in {number} at {start} to {end}")?)
+    account.add(format_args!(" in {number} at {start} to {end}"))
 }
 
 // What the plain function makes of the bytes, message by message.
@@ -94,34 +89,28 @@ fn in_pieces(
 
 // What is otherwise if the bytes come in longer pieces, or are read by the plain function.
 fn tell_difference(
-    alloc: Global,
-    account: &mut String,
+    account: &mut Account,
     size: (u16, u16),
     bytes: &[u8],
     given: &Given<HostMessage>,
 ) -> io::Result<()> {
     for length in 1..=longest(bytes) {
-        if !given.is_same(&in_pieces(alloc, size, bytes, length)?) {
-            return tell(account, format_args!("otherwise in pieces of {length}"));
+        if !given.is_same(&in_pieces(account.alloc, size, bytes, length)?) {
+            return account.tell(format_args!("otherwise in pieces of {length}"));
         }
     }
-    if !given.is_same(&plain(alloc, size, bytes)?) {
-        return tell(account, "otherwise by the plain function");
+    if !given.is_same(&plain(account.alloc, size, bytes)?) {
+        return account.tell("otherwise by the plain function");
     }
     Ok(())
 }
 
 /// Tells what comes of a host's stream for a screen of this size: each message and the fault, behind
 /// the number of bytes that had come by then.
-pub(crate) fn run(
-    alloc: Global,
-    account: &mut String,
-    size: (u16, u16),
-    bytes: &[u8],
-) -> io::Result<()> {
-    let given = in_pieces(alloc, size, bytes, finest(bytes))?;
+pub(crate) fn run(account: &mut Account, size: (u16, u16), bytes: &[u8]) -> io::Result<()> {
+    let given = in_pieces(account.alloc, size, bytes, finest(bytes))?;
     given.tell(account, bytes)?;
-    tell_difference(alloc, account, size, bytes, &given)
+    tell_difference(account, size, bytes, &given)
 }
 
 // Whether a stream gives the same however it is cut in two.
@@ -138,36 +127,26 @@ fn is_cut_alike(alloc: Global, size: (u16, u16), bytes: &[u8]) -> io::Result<boo
 
 /// Tells what comes of a host's stream of which one byte is another, each in turn, and each with
 /// five values: how many streams give the same however they are cut in two, up to one that doesn't.
-pub(crate) fn run_changed(
-    alloc: Global,
-    account: &mut String,
-    size: (u16, u16),
-    bytes: &[u8],
-) -> io::Result<()> {
-    let mut stream = bytes.to_vec(alloc)?;
+pub(crate) fn run_changed(account: &mut Account, size: (u16, u16), bytes: &[u8]) -> io::Result<()> {
+    let mut stream = bytes.to_vec(account.alloc)?;
     let mut alike = 0u64;
     for (place, byte) in bytes.iter().enumerate() {
         for value in [0, 1, 5, 0x80, 0xff] {
             stream[place] = value;
-            if !is_cut_alike(alloc, size, &stream)? {
-                return tell(account, format_args!("otherwise with {value} at {place}"));
+            if !is_cut_alike(account.alloc, size, &stream)? {
+                return account.tell(format_args!("otherwise with {value} at {place}"));
             }
             alike = alike.saturating_add(1);
         }
         stream[place] = *byte;
     }
-    tell(account, format_args!("{alike} alike"))
+    account.tell(format_args!("{alike} alike"))
 }
 
 /// Tells what all of the bytes are as one message, or the number of the refusal.
-pub(crate) fn run_message(
-    alloc: Global,
-    account: &mut String,
-    size: (u16, u16),
-    bytes: &[u8],
-) -> io::Result<()> {
-    match HostMessage::from_bytes(alloc, size.0, size.1, bytes) {
+pub(crate) fn run_message(account: &mut Account, size: (u16, u16), bytes: &[u8]) -> io::Result<()> {
+    match HostMessage::from_bytes(account.alloc, size.0, size.1, bytes) {
         Ok(message) => message.describe(account, bytes),
-        Err(fault) => tell(account, format_args!("refused {}", fault.number())),
+        Err(fault) => account.tell(format_args!("refused {}", fault.number())),
     }
 }

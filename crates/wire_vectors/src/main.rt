@@ -5,6 +5,7 @@
 //! printed that counts its vectors, and two for each whose outcome is another.
 #![tactic(auto)]
 
+mod account;
 mod formats;
 mod hosts;
 mod picture;
@@ -16,6 +17,7 @@ mod vector;
 mod viewers;
 mod words;
 
+use account::Account;
 use std::{env, fs, io};
 
 // Prints a vector whose outcome is another: whether there is one in this part of a file.
@@ -24,9 +26,10 @@ fn run_part(rt: &HostRuntime, name: &str, part: &str) -> io::Result<bool> {
     let Some((vector, expected)) = told.split_once("->") else {
         return Ok(false);
     };
-    let mut outcome = String::new(rt.alloc());
-    vector::run(rt.alloc(), &mut outcome, vector)?;
-    if !words::are_same(&outcome, expected) {
+    let mut account = Account::new(rt.alloc());
+    vector::run(&mut account, vector)?;
+    let outcome = &account.text;
+    if !words::are_same(outcome, expected) {
         println!(rt; "{name}: {vector}\n-> {outcome}")?;
     }
     Ok(true)

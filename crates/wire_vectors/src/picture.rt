@@ -1,7 +1,7 @@
 //! Pictures in letters.
 
+use crate::account::Account;
 use pixel_format::Color;
-use std::fmt::Write;
 use std::io;
 
 /// What has a colour at each place.
@@ -11,9 +11,9 @@ pub(crate) trait Places {
 }
 
 // Adds the letter of a colour, or its numbers.
-fn write_letter(account: &mut String, color: Option<Color>) -> io::Result<()> {
+fn write_letter(account: &mut Account, color: Option<Color>) -> io::Result<()> {
     let Some(Color { r, g, b }) = color else {
-        return Ok(account.push_str("?")?);
+        return account.add("?");
     };
     let letter = match (r, g, b) {
         (0, 0, 0) => ".",
@@ -21,9 +21,9 @@ fn write_letter(account: &mut String, color: Option<Color>) -> io::Result<()> {
         (0, 255, 0) => "g",
         (0, 0, 255) => "b",
         (255, 255, 255) => "w",
-        _ => return Ok(write!(account, "({r},{g},{b})")?),
+        _ => return account.add(format_args!("({r},{g},{b})")),
     };
-    Ok(account.push_str(letter)?)
+    account.add(letter)
 }
 
 // Whether a row is as the one before it.
@@ -33,15 +33,15 @@ fn is_repeated<P: Places>(places: &P, width: u16, y: u16) -> bool {
 
 /// Adds the rows of a picture, each behind a space; a row that is as the one before it is a dash.
 pub(crate) fn write_rows<P: Places>(
-    account: &mut String,
+    account: &mut Account,
     places: &P,
     size: (u16, u16),
 ) -> io::Result<()> {
     let (width, height) = size;
     for y in 0..height {
-        account.push_str(" ")?;
+        account.add(" ")?;
         if is_repeated(places, width, y) {
-            account.push_str("-")?;
+            account.add("-")?;
             continue;
         }
         for x in 0..width {

@@ -2,9 +2,8 @@
 
 ghost use Rattle.std.specs.Prelude.{◌<◌};
 
-use crate::words::tell;
+use crate::account::Account;
 use std::alloc::{AllocError, Global};
-use std::fmt::Write;
 use std::io;
 use terms::WireFault;
 
@@ -19,7 +18,7 @@ pub(crate) trait Message {
     fn is_same(&self, other: &Self) -> bool;
 
     /// Adds what it says. `read` are the bytes up to its last one.
-    fn describe(&self, account: &mut String, read: &[u8]) -> io::Result<()>;
+    fn describe(&self, account: &mut Account, read: &[u8]) -> io::Result<()>;
 }
 
 /// What a reader gave, and how many bytes had come by then.
@@ -92,30 +91,28 @@ impl<M: Message + Drop> Given<M> {
     }
 
     /// Tells what was given of the bytes, and at which of them.
-    pub(crate) fn tell(&self, account: &mut String, bytes: &[u8]) -> io::Result<()> {
+    pub(crate) fn tell(&self, account: &mut Account, bytes: &[u8]) -> io::Result<()> {
         for (message, end) in self.messages.iter().zip(&self.ends) {
-            tell(account, format_args!("{end} "))?;
+            account.tell(format_args!("{end} "))?;
             message.describe(account, bytes.get(..*end).unwrap_or(bytes))?;
         }
         if let Some(fault) = &self.fault {
-            tell(
-                account,
-                format_args!("{} fault {}", self.fault_end, fault.number()),
-            )?;
+            let (end, number) = (self.fault_end, fault.number());
+            account.tell(format_args!("{end} fault {number}"))?;
             tell_cause(account, fault)?;
         }
         if self.went_on {
-            tell(account, "and it goes on")?;
+            account.tell("and it goes on")?;
         }
         Ok(())
     }
 }
 
 // Adds which encoding, or what of a format, is refused.
-fn tell_cause(account: &mut String, fault: &WireFault) -> io::Result<()> {
+fn tell_cause(account: &mut Account, fault: &WireFault) -> io::Result<()> {
     match fault {
-        WireFault::Encoding(encoding) => Ok(write!(account, " {encoding}")?),
-        WireFault::BadFormat(format) => Ok(write!(account, " {}", format.number())?),
+        WireFault::Encoding(encoding) => account.add(format_args!(" {encoding}")),
+        WireFault::BadFormat(format) => account.add(format_args!(" {}", format.number())),
         _ => Ok(()),
     }
 }

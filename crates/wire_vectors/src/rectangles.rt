@@ -1,8 +1,9 @@
 //! Data of rectangles.
 
+use crate::account::Account;
 use crate::formats;
 use crate::picture::{Places, write_rows};
-use crate::words::{bad, tell};
+use crate::words::bad;
 use pixel_format::{Color, PixelFormat};
 use rect_data::{Encoding, Judging, measure};
 use std::io;
@@ -22,7 +23,7 @@ impl Places for TestCanvas {
 /// Tells at which byte data are whole, with one column and one row more than they paint, or refused.
 /// Of Hextile, also field by field.
 pub(crate) fn run_painted(
-    account: &mut String,
+    account: &mut Account,
     kind: &str,
     bits: u16,
     size: (u16, u16),
@@ -40,23 +41,23 @@ pub(crate) fn run_painted(
         let answer = kind.measure(&format, w, h, data);
         let pieces = hextile_in_pieces(&format, w, h, data).map_err(Short::from);
         if kind == Kind::Hextile && pieces != answer {
-            return tell(account, format_args!("{count} otherwise in pieces"));
+            return account.tell(format_args!("{count} otherwise in pieces"));
         }
         match answer {
             Err(Short::NeedMore) => {}
-            Err(Short::Bad) => return tell(account, format_args!("{count} bad")),
+            Err(Short::Bad) => return account.tell(format_args!("{count} bad")),
             Ok(length) => {
-                tell(account, format_args!("{count} whole {length}"))?;
+                account.tell(format_args!("{count} whole {length}"))?;
                 return write_picture(account, kind, &format, size, data);
             }
         }
     }
-    tell(account, "needs more")
+    account.tell("needs more")
 }
 
 // Adds the rows that whole data paint, where they have an area and fit on the canvas.
 fn write_picture(
-    account: &mut String,
+    account: &mut Account,
     kind: Kind,
     format: &PixelFormat,
     size: (u16, u16),
@@ -98,27 +99,27 @@ fn in_pieces(
 
 /// Tells at which byte the data of a rectangle of a screen of this size are whole or refused.
 pub(crate) fn run_measured(
-    account: &mut String,
+    account: &mut Account,
     number: u16,
     size: (u16, u16),
     area: Area,
     bytes: &[u8],
 ) -> io::Result<()> {
     let Some(encoding) = Encoding::from_number(u32::from(number)) else {
-        return tell(account, "no encoding");
+        return account.tell("no encoding");
     };
     let host = PixelFormat::host();
     for count in 0..=bytes.len() {
         let data = bytes.get(..count).unwrap_or(bytes);
         let answer = measure(&host, size.0, size.1, encoding, area, data);
         if in_pieces(size, encoding, area, data) != answer {
-            return tell(account, format_args!("{count} otherwise in pieces"));
+            return account.tell(format_args!("{count} otherwise in pieces"));
         }
         match answer {
             Ok(None) => {}
-            Ok(Some(length)) => return tell(account, format_args!("{count} whole {length}")),
-            Err(fault) => return tell(account, format_args!("{count} fault {}", fault.number())),
+            Ok(Some(length)) => return account.tell(format_args!("{count} whole {length}")),
+            Err(fault) => return account.tell(format_args!("{count} fault {}", fault.number())),
         }
     }
-    tell(account, "needs more")
+    account.tell("needs more")
 }

@@ -1,7 +1,8 @@
 //! Screens that updates paint.
 
+use crate::account::Account;
 use crate::picture::{Places, write_rows};
-use crate::words::{Spelled, bad, bytes, tell};
+use crate::words::{Spelled, bad, bytes};
 use painter::Screen;
 use pixel_format::Color;
 use rfb_wire::HostMessage;
@@ -45,14 +46,9 @@ fn paint_all(alloc: Global, screen: &mut Screen, text: &str) -> io::Result<()> {
 }
 
 /// Tells the rows of a screen of this size that updates paint, which commas part.
-pub(crate) fn run(
-    alloc: Global,
-    account: &mut String,
-    size: (u16, u16),
-    text: &str,
-) -> io::Result<()> {
-    let mut screen = Screen::black(alloc, size.0, size.1)?;
-    paint_all(alloc, &mut screen, text)?;
+pub(crate) fn run(account: &mut Account, size: (u16, u16), text: &str) -> io::Result<()> {
+    let mut screen = Screen::black(account.alloc, size.0, size.1)?;
+    paint_all(account.alloc, &mut screen, text)?;
     write_rows(account, &screen, size)
 }
 
@@ -64,19 +60,14 @@ fn painted(alloc: Global, size: (u16, u16), bytes: &[u8]) -> io::Result<Screen> 
 }
 
 /// Tells the key screen of a screen that an update paints, where it paints the same.
-pub(crate) fn run_key(
-    alloc: Global,
-    account: &mut String,
-    size: (u16, u16),
-    bytes: &[u8],
-) -> io::Result<()> {
-    let screen = painted(alloc, size, bytes)?;
+pub(crate) fn run_key(account: &mut Account, size: (u16, u16), bytes: &[u8]) -> io::Result<()> {
+    let screen = painted(account.alloc, size, bytes)?;
     if !is_size(screen.size().0, screen.size().1) {
         return Err(bad());
     }
-    let key = screen.key(alloc)?;
-    if !painted(alloc, size, key.bytes())?.same(&screen) {
-        return tell(account, "another screen");
+    let key = screen.key(account.alloc)?;
+    if !painted(account.alloc, size, key.bytes())?.same(&screen) {
+        return account.tell("another screen");
     }
-    tell(account, Spelled(key.bytes()))
+    account.tell(Spelled(key.bytes()))
 }

@@ -1,7 +1,8 @@
 //! A conversation with a host.
 
+use crate::account::Account;
 use crate::readings::Message;
-use crate::words::{Spelled, tell};
+use crate::words::Spelled;
 use host_session::{HostFault, HostSession};
 use rfb_wire::HostMessage;
 use std::alloc::Global;
@@ -58,35 +59,35 @@ impl Talk {
     }
 
     // Adds what the session knows in the end.
-    fn tell(&self, account: &mut String) -> io::Result<()> {
+    fn tell(&self, account: &mut Account) -> io::Result<()> {
         if let Some((w, h)) = self.session.size() {
             let name = Spelled(self.session.name());
-            tell(account, format_args!("size {w} {h}; name {name}"))?;
+            account.tell(format_args!("size {w} {h}; name {name}"))?;
         }
         if !self.session.reason().is_empty() {
             let reason = Spelled(self.session.reason());
-            tell(account, format_args!("reason {reason}"))?;
+            account.tell(format_args!("reason {reason}"))?;
         }
         if self.went_on {
-            tell(account, "and it goes on")?;
+            account.tell("and it goes on")?;
         }
         Ok(())
     }
 
     // Feeds one more byte, the one of this number, and adds what it brought.
-    fn tell_byte(&mut self, account: &mut String, number: usize, byte: u8) -> io::Result<()> {
+    fn tell_byte(&mut self, account: &mut Account, number: usize, byte: u8) -> io::Result<()> {
         let (count, length, fault) = (self.messages.len(), self.said.len(), self.fault);
         self.feed(&[byte])?;
         let said = self.said.get(length..).unwrap_or_default();
         if !said.is_empty() {
-            tell(account, format_args!("{number} says {}", Spelled(said)))?;
+            account.tell(format_args!("{number} says {}", Spelled(said)))?;
         }
         if self.messages.len() > count {
-            tell(account, format_args!("{number} message"))?;
+            account.tell(format_args!("{number} message"))?;
         }
         match self.fault {
             Some(new) if fault.is_none() => {
-                tell(account, format_args!("{number} fault {}", new.number()))
+                account.tell(format_args!("{number} fault {}", new.number()))
             }
             _ => Ok(()),
         }
@@ -108,8 +109,7 @@ fn is_cut_alike(
 
 // Tells what comes of the bytes, and what is otherwise where they are cut in two.
 fn tell_all(
-    alloc: Global,
-    account: &mut String,
+    account: &mut Account,
     expected: Option<(u16, u16)>,
     bytes: &[u8],
     talk: &mut Talk,
@@ -119,8 +119,8 @@ fn tell_all(
     }
     talk.tell(account)?;
     for cut in 0..=bytes.len().min(100) {
-        if !is_cut_alike(alloc, expected, bytes.split_at(cut), talk)? {
-            return tell(account, format_args!("otherwise if it is cut at {cut}"));
+        if !is_cut_alike(account.alloc, expected, bytes.split_at(cut), talk)? {
+            return account.tell(format_args!("otherwise if it is cut at {cut}"));
         }
     }
     Ok(())
@@ -129,11 +129,10 @@ fn tell_all(
 /// Tells what comes of what a host sends: what is said to it, its messages and the fault, behind the
 /// number of bytes that had come by then; and in the end the screen's size and name, or the reason.
 pub(crate) fn run(
-    alloc: Global,
-    account: &mut String,
+    account: &mut Account,
     expected: Option<(u16, u16)>,
     bytes: &[u8],
 ) -> io::Result<()> {
-    let mut talk = Talk::new(alloc, expected);
-    tell_all(alloc, account, expected, bytes, &mut talk)
+    let mut talk = Talk::new(account.alloc, expected);
+    tell_all(account, expected, bytes, &mut talk)
 }

@@ -1,39 +1,33 @@
 //! What comes of a vector, whatever its kind.
 
+use crate::account::Account;
 use crate::words::{bad, bytes, numbers};
 use crate::{formats, hosts, rectangles, screens, sessions, viewers};
-use std::alloc::Global;
 use std::io;
 use terms::Area;
 
 /// Tells what comes of a vector, which its kind and numbers, a colon and its bytes tell.
-pub(crate) fn run(alloc: Global, account: &mut String, vector: &str) -> io::Result<()> {
+pub(crate) fn run(account: &mut Account, vector: &str) -> io::Result<()> {
     let Some((head, text)) = vector.split_once(":") else {
         return Err(bad());
     };
     let kind = head.split_whitespace().next().unwrap_or("");
-    let numbers = numbers(alloc, head)?;
+    let numbers = numbers(account.alloc, head)?;
     if let ("screen", [w, h]) = (kind, numbers.as_slice()) {
-        return screens::run(alloc, account, (*w, *h), text);
+        return screens::run(account, (*w, *h), text);
     }
-    run_bytes(alloc, account, kind, &numbers, &bytes(alloc, text)?)
+    run_bytes(account, kind, &numbers, &bytes(account.alloc, text)?)
 }
 
-fn run_bytes(
-    alloc: Global,
-    account: &mut String,
-    kind: &str,
-    numbers: &[u16],
-    bytes: &[u8],
-) -> io::Result<()> {
+fn run_bytes(account: &mut Account, kind: &str, numbers: &[u16], bytes: &[u8]) -> io::Result<()> {
     match *numbers {
         [] => match kind {
-            "viewer" => viewers::run(alloc, account, bytes),
-            "session" => sessions::run(alloc, account, None, bytes),
+            "viewer" => viewers::run(account, bytes),
+            "session" => sessions::run(account, None, bytes),
             "format" => formats::run(account, bytes),
             _ => Err(bad()),
         },
-        [w, h] => run_of_size(alloc, account, kind, (w, h), bytes),
+        [w, h] => run_of_size(account, kind, (w, h), bytes),
         [bits, w, h] => rectangles::run_painted(account, kind, bits, (w, h), bytes),
         [number, width, height, x, y, w, h] => {
             let area = Area { x, y, w, h };
@@ -44,18 +38,17 @@ fn run_bytes(
 }
 
 fn run_of_size(
-    alloc: Global,
-    account: &mut String,
+    account: &mut Account,
     kind: &str,
     size: (u16, u16),
     bytes: &[u8],
 ) -> io::Result<()> {
     match kind {
-        "host" => hosts::run(alloc, account, size, bytes),
-        "changed" => hosts::run_changed(alloc, account, size, bytes),
-        "message" => hosts::run_message(alloc, account, size, bytes),
-        "session" => sessions::run(alloc, account, Some(size), bytes),
-        "key" => screens::run_key(alloc, account, size, bytes),
+        "host" => hosts::run(account, size, bytes),
+        "changed" => hosts::run_changed(account, size, bytes),
+        "message" => hosts::run_message(account, size, bytes),
+        "session" => sessions::run(account, Some(size), bytes),
+        "key" => screens::run_key(account, size, bytes),
         _ => Err(bad()),
     }
 }

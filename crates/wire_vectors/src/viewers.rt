@@ -2,11 +2,11 @@
 
 ghost use Rattle.std.specs.Prelude.{◌<◌};
 
+use crate::account::Account;
 use crate::readings::{Given, Message, Reader, finest, longest, read};
-use crate::words::{Spelled, tell};
+use crate::words::Spelled;
 use client_wire::{ClientMessage, ClientReader, read_client_message};
 use std::alloc::Global;
-use std::fmt::Write;
 use std::io;
 use terms::WireFault;
 
@@ -47,18 +47,18 @@ impl Message for ClientMessage {
         }
     }
 
-    fn describe(&self, account: &mut String, _read: &[u8]) -> io::Result<()> {
+    fn describe(&self, account: &mut Account, _read: &[u8]) -> io::Result<()> {
         match self {
             ClientMessage::SetPixelFormat(format) => {
-                write!(account, "format {}", Spelled(&format.write()))?;
+                account.add(format_args!("format {}", Spelled(&format.write())))?;
             }
             ClientMessage::SetEncodings(encodings) => {
-                account.push_str("encodings")?;
+                account.add("encodings")?;
                 for number in encodings.as_slice() {
-                    write!(account, " {number}")?;
+                    account.add(format_args!(" {number}"))?;
                 }
             }
-            ClientMessage::Input(kind) => write!(account, "input {kind}")?,
+            ClientMessage::Input(kind) => account.add(format_args!("input {kind}"))?,
             ClientMessage::Request {
                 incremental,
                 x,
@@ -67,7 +67,7 @@ impl Message for ClientMessage {
                 h,
             } => {
                 let kind = if *incremental { "changes" } else { "request" };
-                write!(account, "{kind} {x} {y} {w} {h}")?;
+                account.add(format_args!("{kind} {x} {y} {w} {h}"))?;
             }
         }
         Ok(())
@@ -104,26 +104,25 @@ fn in_pieces(alloc: Global, bytes: &[u8], length: usize) -> io::Result<Given<Cli
 
 // What is otherwise if the bytes come in longer pieces, or are read by the plain function.
 fn tell_difference(
-    alloc: Global,
-    account: &mut String,
+    account: &mut Account,
     bytes: &[u8],
     given: &Given<ClientMessage>,
 ) -> io::Result<()> {
     for length in 1..=longest(bytes) {
-        if !given.is_same(&in_pieces(alloc, bytes, length)?) {
-            return tell(account, format_args!("otherwise in pieces of {length}"));
+        if !given.is_same(&in_pieces(account.alloc, bytes, length)?) {
+            return account.tell(format_args!("otherwise in pieces of {length}"));
         }
     }
-    if !given.is_same(&plain(alloc, bytes)?) {
-        return tell(account, "otherwise by the plain function");
+    if !given.is_same(&plain(account.alloc, bytes)?) {
+        return account.tell("otherwise by the plain function");
     }
     Ok(())
 }
 
 /// Tells what comes of a viewer's stream: each message and the fault, behind the number of bytes
 /// that had come by then.
-pub(crate) fn run(alloc: Global, account: &mut String, bytes: &[u8]) -> io::Result<()> {
-    let given = in_pieces(alloc, bytes, finest(bytes))?;
+pub(crate) fn run(account: &mut Account, bytes: &[u8]) -> io::Result<()> {
+    let given = in_pieces(account.alloc, bytes, finest(bytes))?;
     given.tell(account, bytes)?;
-    tell_difference(alloc, account, bytes, &given)
+    tell_difference(account, bytes, &given)
 }

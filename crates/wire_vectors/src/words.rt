@@ -1,7 +1,6 @@
 //! The words of a vector.
 
 use std::alloc::Global;
-use std::fmt::{Display, Write};
 use std::{fmt, io};
 
 /// What is answered to words that are no vector.
@@ -88,11 +87,4 @@ impl fmt::Display for Spelled<'_> {
         }
         Ok(())
     }
-}
-
-/// Adds what happened to an account of it.
-pub(crate) fn tell<T: Display + Drop>(account: &mut String, told: T) -> io::Result<()> {
-    let comma = if account.is_empty() { "" } else { "; " };
-    write!(account, "{comma}{told}")?;
-    Ok(())
 }
