@@ -88,10 +88,15 @@ fn open_draft<R: Files<File = File>>(rt: &R, draft: &str, path: &str) -> io::Res
     Ok(file)
 }
 
-fn boxed(alloc: Global, book: Book<FileDisk>) -> Result<Box<Book<FileDisk>>, Refusal> {
+// A book in a box, or this refusal, which is of memory.
+fn boxed(
+    alloc: Global,
+    book: Book<FileDisk>,
+    refusal: Refusal,
+) -> Result<Box<Book<FileDisk>>, Refusal> {
     match Box::new(alloc, book) {
         Ok(book) => Ok(book),
-        Err(_) => Err(Refusal::Recording(IndexFault::NoMemory)),
+        Err(_) => Err(refusal),
     }
 }
 
@@ -145,7 +150,10 @@ impl<'a, R: AllocGlobal + Eprint + Files<File = File> + Wait> Opening<'a, R> {
             return Err(Refusal::Recording(IndexFault::NoMemory));
         };
         match Book::open(self.rt.alloc(), FileDisk::noting(file, noting)) {
-            Ok(book) => boxed(self.rt.alloc(), book),
+            Ok(book) => {
+                let no_memory = Refusal::Recording(IndexFault::NoMemory);
+                boxed(self.rt.alloc(), book, no_memory)
+            }
             Err(refused) => {
                 self.tell_last_error("read", self.plan.file);
                 Err(Refusal::Recording(refused.fault))
@@ -201,13 +209,16 @@ impl<'a, R: AllocGlobal + Eprint + Files<File = File> + Wait> Opening<'a, R> {
         });
         let (file, identity) = self.given(opened, "make", &draft, Refusal::File)?;
         let book = match Book::create(alloc, FileDisk::noting(file, noting), header) {
-            Ok(book) => boxed(alloc, book)?,
+            Ok(book) => boxed(alloc, book, Refusal::Create(CreateFault::NoMemory)),
             Err(refused) => {
                 self.tell_last_error("write", &draft);
-                let _removed = fs::remove_file(self.rt, &draft);
-                return Err(Refusal::Create(refused.fault));
+                Err(Refusal::Create(refused.fault))
             }
         };
+        if book.is_err() {
+            let _removed = fs::remove_file(self.rt, &draft);
+        }
+        let book = book?;
         self.publish(&draft)?;
         Ok((book, identity))
     }

@@ -45,8 +45,8 @@ pub struct Outcome {
 }
 
 impl Outcome {
-    /// How many messages are committed, where it is done.
-    pub fn of(self, committed: u64) -> Result<u64, Stopped> {
+    /// How many messages are committed, where all is done; else how it ended.
+    pub fn result(self, committed: u64) -> Result<u64, Stopped> {
         match (self.told, self.refusal) {
             (Err(error), _) => Err(Stopped::Failed(error)),
             (Ok(()), Some(_)) => Err(Stopped::Told),

@@ -66,7 +66,7 @@ fn serve_opened<
     };
     let outcome = run_threads(&service, host, plan.stop, err);
     drop(service);
-    outcome.of(shared.finish().committed())
+    outcome.result(shared.finish().committed())
 }
 
 fn run<'a, R, L, O, W>(
