@@ -10,7 +10,7 @@ use thiserror::Error;
 /// Why nobody is seated. The first that holds is answered: no seat, not committed.
 #[derive(Clone, Copy, Debug, PartialEq, Eq, Error)]
 pub enum JoinRefusal {
-    /// All 64 seats are taken.
+    /// All seats are taken.
     #[error("no seat is free")]
     NoSeat = 1,
     /// Fewer messages are committed.

@@ -17,6 +17,7 @@ use std::io;
 use std::io::Write;
 use std::sync::atomic::{AtomicU32, Ordering};
 use std::sync::{Mutex, Wait};
+use terms::ScreenSize;
 
 /// In how many stretches of time at most a page draws what came.
 const MOST_STRETCHES: u32 = 500;
@@ -58,7 +59,7 @@ impl<W: Write> StretchSink for Members<'_, W> {
 // What a page has to know of a recording, as JSON: its size, how many messages it has, its length
 // and how long a stretch is, both in milliseconds, and each stretch in which something came.
 fn write_times<W: Write>(index: &mut Indexed<FileDisk>, out: &mut W) -> Result<(), Ended> {
-    let (width, height) = index.header().size();
+    let ScreenSize { width, height } = index.header().size();
     let (messages, end) = (index.committed(), index.last_time());
     let every = end / MOST_STRETCHES + 1;
     write!(
@@ -78,7 +79,7 @@ fn write_times<W: Write>(index: &mut Indexed<FileDisk>, out: &mut W) -> Result<(
 
 // A picture of a screen.
 fn write_screen<W: Write>(alloc: Global, screen: &Screen, out: &mut W) -> io::Result<()> {
-    let (width, height) = screen.size();
+    let ScreenSize { width, height } = screen.size();
     let head = Head {
         status: "200 OK",
         media: "image/bmp",

@@ -60,7 +60,10 @@ fn format(word: Option<&str>) -> Option<Format> {
 fn audience(word: Option<&str>) -> Option<Audience> {
     match word {
         Some("any") => Some(Audience::Any),
-        _ => Some(Audience::Count(within(word, 1, 64, 1)? as u32)),
+        _ => {
+            let seats = Format::One.limits().seats as u64;
+            Some(Audience::Count(within(word, 1, seats, 1)? as u32))
+        }
     }
 }
 

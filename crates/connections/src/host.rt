@@ -17,6 +17,7 @@ use std::net::{Net, Shutdown, TcpStream};
 use std::sync::{Mutex, Wait};
 use std::time::{Clock, Instant};
 use std::{io, thread};
+use terms::ScreenSize;
 
 /// How many bytes are read at a time.
 const PIECE: usize = 1 << 16;
@@ -39,7 +40,7 @@ impl Host {
     pub fn connect<R: Net<Stream = TcpStream> + AllocGlobal + Clock + Eprint + Wait>(
         rt: &R,
         address: &str,
-        expected: Option<(u16, u16)>,
+        expected: Option<ScreenSize>,
         telling: &Telling,
     ) -> Result<Host, Refusal> {
         let stream = match TcpStream::connect(rt, address) {
@@ -64,7 +65,7 @@ impl Host {
         Ok(host)
     }
 
-    fn over(alloc: Global, stream: TcpStream, expected: Option<(u16, u16)>) -> io::Result<Host> {
+    fn over(alloc: Global, stream: TcpStream, expected: Option<ScreenSize>) -> io::Result<Host> {
         watch_over(&stream)?;
         let mut buffer = Vec::new(alloc);
         buffer.resize(PIECE, 0)?;
@@ -127,8 +128,8 @@ impl Host {
         }
     }
 
-    /// The width and height of the host's screen, and its name.
-    pub fn screen(&self) -> Option<((u16, u16), &[u8])> {
+    /// The size of the host's screen, and its name.
+    pub fn screen(&self) -> Option<(ScreenSize, &[u8])> {
         let size = self.session.size()?;
         Some((size, self.session.name()))
     }

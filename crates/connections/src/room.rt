@@ -16,6 +16,7 @@ use std::marker::PhantomData;
 use std::sync::atomic::{AtomicBool, AtomicU64, Ordering};
 use std::sync::{Condvar, Mutex, Wait};
 use std::time::{Clock, Duration};
+use terms::ScreenSize;
 
 /// Who watches, under a lock. Whoever waits here waits for the recorder to close or to be done, or
 /// for a viewer to have left, and is woken at each of them.
@@ -176,7 +177,7 @@ struct Recorded {
 #[derive(Drop)]
 pub struct Room<M: Mark> {
     pub alloc: Global,
-    pub size: (u16, u16),
+    pub size: ScreenSize,
     pub name: Vec<u8>,
     pub from: Start,
     /// How the recording is played, where it is in its own time.
@@ -192,7 +193,7 @@ pub struct Room<M: Mark> {
     recorded: Recorded,
     is_stopped: AtomicBool,
     of: PhantomData<M>,
-    ghost sized: { (size.0 ≡ M.head.width) × (size.1 ≡ M.head.height) },
+    ghost sized: { (size.width ≡ M.head.width) × (size.height ≡ M.head.height) },
     ghost named: { length name.items < 2 ^ 32 },
 }
 
@@ -200,7 +201,7 @@ impl<M: Mark> Room<M> {
     /// The room of a recording of this size and name, of which so much is committed.
     pub fn new(
         alloc: Global,
-        size: (u16, u16),
+        size: ScreenSize,
         name: Vec<u8>,
         plan: &Plan<'_>,
         beginning: Beginning,
@@ -209,7 +210,7 @@ impl<M: Mark> Room<M> {
         last_error: LastError,
         committed: u64,
     ) -> Room<M>
-        requires sized { (size.0 ≡ M.head.width) × (size.1 ≡ M.head.height) }
+        requires sized { (size.width ≡ M.head.width) × (size.height ≡ M.head.height) }
         requires named { length name.items < 2 ^ 32 }
     {
         Room {

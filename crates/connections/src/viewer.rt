@@ -15,6 +15,7 @@ use std::marker::PhantomData;
 use std::sync::atomic::{AtomicBool, Ordering};
 use std::sync::{Condvar, Mutex, Wait};
 use std::time::{Clock, Duration, Instant};
+use terms::ScreenSize;
 use viewer_session::Session;
 
 /// How many bytes are read at a time.
@@ -93,14 +94,14 @@ impl<M: Mark, C: Connection> Viewer<M, C> {
     pub fn new(
         alloc: Global,
         connection: C,
-        size: (u16, u16),
+        size: ScreenSize,
         name: &[u8],
     ) -> io::Result<Viewer<M, C>>
-        requires size { (size.0 ≡ M.head.width) × (size.1 ≡ M.head.height) }
+        requires size { (size.width ≡ M.head.width) × (size.height ≡ M.head.height) }
         requires name { length name.now < 2 ^ 32 }
     {
         connection.watch_over()?;
-        let session = Session::new(alloc, size.0, size.1, name)?;
+        let session = Session::new(alloc, size, name)?;
         Ok(Viewer {
             alloc,
             connection,

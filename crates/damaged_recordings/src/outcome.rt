@@ -40,9 +40,9 @@ fn read_blocks(
     journal: &mut Journal<MemoryDisk>,
     read: &mut Sha256,
 ) -> Result<(), ReadFault> {
-    let (width, height) = journal.header().size();
-    read.update(width.to_be_bytes());
-    read.update(height.to_be_bytes());
+    let size = journal.header().size();
+    read.update(size.width.to_be_bytes());
+    read.update(size.height.to_be_bytes());
     read.update(journal.header().key_interval().to_be_bytes());
     read.update(journal.header().name());
     let mut buffer = Vec::new(alloc);

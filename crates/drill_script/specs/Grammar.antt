@@ -1,5 +1,5 @@
 -- The lines of a drill script: what a text has to be to say one.
-use Rattle.std.specs.Prelude.{◌≡◌, ◌≢◌, ◌⊎◌, ℕ, ◌+◌, ◌-◌, ◌*◌, ◌^◌, ◌<◌, ◌==◌, List, [], ◌∷◌, length, codes, Ok}
+use Rattle.std.specs.Prelude.{◌≡◌, ◌≢◌, ◌⊎◌, ℕ, ◌^◌, ◌<◌, ◌==◌, List, [], ◌∷◌, codes, Ok}
 use Rattle.std.specs.List.{AllByRecursion, before_first, concat, join_with_byte}
 use Rattle.std.specs.Char.{IsAsciiDigit}
 use Rattle.hex.specs.Hex.{decode_of, decode_sized}
@@ -46,7 +46,7 @@ command_on_desk (desk.Seek seat count) = SeekCommand seat count
 command_on_desk (desk.Leave seat) = LeaveCommand seat
 
 abbrev pub command_of : Line → Command
-command_of (line.New format width height key_interval name) = NewCommand format width height key_interval name.items
+command_of (line.New format size key_interval name) = NewCommand format size.width size.height key_interval name.items
 command_of line.Open = OpenCommand
 command_of (line.OnDesk it) = command_on_desk it
 

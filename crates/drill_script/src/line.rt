@@ -1,6 +1,7 @@
 //! What a line says.
 
 use pixel_format::Format;
+use terms::ScreenSize;
 
 /// What a stop leaves of the bytes that were not synced.
 #[derive(Clone, Copy, Debug, PartialEq, Eq)]
@@ -29,8 +30,7 @@ pub enum Line {
     /// messages; `new2 W H K NAME`: one of format 2.
     New {
         format: Format,
-        width: u16,
-        height: u16,
+        size: ScreenSize,
         key_interval: u16,
         name: Vec<u8>,
     },

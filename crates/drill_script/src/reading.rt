@@ -11,7 +11,7 @@ use crate::line::{DeskLine, Fill, Line, Start};
 use crate::words::{Kind, Words, kind_of};
 use pixel_format::Format;
 use std::alloc::Global;
-use terms::decimal_number;
+use terms::{ScreenSize, decimal_number};
 
 #[tactic(auto, unfolding(crate::specs::Reading::read_at))]
 fn u64_word(words: &mut Words) -> Result<u64, LineFault>
@@ -84,8 +84,7 @@ fn new_line(alloc: Global, format: Format, words: &mut Words) -> Result<Line, Li
     let name = name_word(alloc, words)?;
     Ok(Line::New {
         format,
-        width,
-        height,
+        size: ScreenSize { width, height },
         key_interval,
         name,
     })

@@ -33,7 +33,7 @@ all_of s piece n = append_assoc s (take n piece) (drop n piece) ∙ ap (λ z. s 
 
 -- a name begins
 pub name_begins : (n : Name) (a : Announced) (s : List ℕ) → n.announced ≡ a → n.left ≡ a.count → n.kept.items ≡ []
-    → ((more : List ℕ) → opening_at (s ++ more) ≡ named a.width a.height a.count more) → IsInName n s
+    → ((more : List ℕ) → opening_at (s ++ more) ≡ named a.size.width a.size.height a.count more) → IsInName n s
 name_begins n a s is left none link = record {
   came = [];
   kept_is = none;

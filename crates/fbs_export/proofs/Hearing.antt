@@ -215,7 +215,7 @@ none_given w h lead rest (p ∷ new) waits all e =
     absurd (waits_begins_none (message_at message_limit w h) (message_local message_limit w h) lead waits p (flat_map bytes_of new ++ rest) all.0 (e ∙ append_assoc p.bytes (flat_map bytes_of new) rest))
 
 -- whole blocks end in a message that isn't whole
-pub told_by : {T : Type 0} (keeps : T → List Stamped → List Host → Type 0) (c : Stream T) (r : Reader) (told : Told T) (times s : List ℕ) → (a : Hears keeps c r times s) → length times ≡ length s → told.width ≡ r.width → told.height ≡ r.height
+pub told_by : {T : Type 0} (keeps : T → List Stamped → List Host → Type 0) (c : Stream T) (r : Reader) (told : Told T) (times s : List ℕ) → (a : Hears keeps c r times s) → length times ≡ length s → told.size.width ≡ r.width → told.size.height ≡ r.height
     → told.name.items ≡ name_in c.opening.name → told.tally ≡ c.tally → told.rest ≡ length r.kept + r.passed → IsTold keeps s times told
 told_by keeps c r told times s a whole wide high name_is tally_is rest_is =
     let size = ap (λ z. length z) a.body_is in

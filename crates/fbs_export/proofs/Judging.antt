@@ -41,6 +41,6 @@ judged_behind read next n reach all bytes (Ok None) link enough is judged =
     (here ∙ judged.0, omega (arith, judged.1, length-drop n bytes, is, enough))
 judged_behind read next n reach all bytes (Ok (Some a)) link enough is judged =
     let same : drop reach (drop n bytes) ≡ drop all bytes = drop-drop reach n bytes ∙ ap (λ z. drop z bytes) (omega (arith, is)) in
-    (omega (arith, judged.0, length-drop n bytes, is, enough), λ more. link more ∙ judged.1 more ∙ ap (λ z. named a.width a.height a.count (z ++ more)) same)
+    (omega (arith, judged.0, length-drop n bytes, is, enough), λ more. link more ∙ judged.1 more ∙ ap (λ z. named a.size.width a.size.height a.count (z ++ more)) same)
 judged_behind read next n reach all bytes (Err f) link enough is judged =
     of_opening_map f ((more : List ℕ) → next (drop n bytes ++ more) ≡ Bad f) ((more : List ℕ) → read (bytes ++ more) ≡ Bad f) (λ h more. link more ∙ h more) judged

@@ -46,11 +46,11 @@ name_waits old new s piece k same kept left fits is stands =
       kept_is = kept ∙ ap (λ z. z ++ take k piece) stands.kept_is ∙ kept_more stands.came piece (length piece) k (omega arith) is' ∙ ap (λ z. take 1024 (stands.came ++ z)) all;
       counted = rw same (omega (arith, left, fits, stands.counted, length-append stands.came piece));
       link = λ more. rw same (ap opening_at (append_assoc s piece more) ∙ stands.link (piece ++ more)
-          ∙ ap (named old.announced.width old.announced.height old.announced.count) (sym (append_assoc stands.came piece more)));
+          ∙ ap (named old.announced.size.width old.announced.size.height old.announced.count) (sym (append_assoc stands.came piece more)));
     }
 
 pub name_ends : (old new : Name) (s piece : List ℕ) (n k : ℕ) → new.kept.items ≡ old.kept.items ++ take k piece → n ≡ old.left → n ≤ length piece
-    → k ≡ min n (1024 - length old.kept.items) → IsInName old s → IsOpened old.announced.width old.announced.height new.kept.items (s ++ take n piece)
+    → k ≡ min n (1024 - length old.kept.items) → IsInName old s → IsOpened old.announced.size.width old.announced.size.height new.kept.items (s ++ take n piece)
 unfolding named
 name_ends old new s piece n k kept left fits is stands = λ more.
     let taken : List ℕ = take n piece in
@@ -59,5 +59,5 @@ name_ends old new s piece n k kept left fits is stands = λ more.
     let name : take 1024 (stands.came ++ taken) ≡ new.kept.items = sym (kept ∙ ap (λ z. z ++ take k piece) stands.kept_is ∙ kept_more stands.came piece n k fits is') in
     let whole : length (stands.came ++ taken) ≡ old.announced.count = omega (arith, left, long, stands.counted, length-append stands.came taken) in
     ap opening_at (append_assoc s taken more) ∙ stands.link (taken ++ more)
-    ∙ ap (named old.announced.width old.announced.height old.announced.count) (sym (append_assoc stands.came taken more))
+    ∙ ap (named old.announced.size.width old.announced.size.height old.announced.count) (sym (append_assoc stands.came taken more))
     ∙ rw (field-whole {E = FbsFault} old.announced.count (stands.came ++ taken) more whole, name) refl

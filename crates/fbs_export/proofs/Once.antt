@@ -5,7 +5,8 @@ use Rattle.std.proofs.lemmas.Bool.{cases_lt, le-ltb}
 use Rattle.std.proofs.lemmas.List.{drop-append-le}
 use Rattle.terms.specs.Reading.{Reading, Got, More, Bad, ◌>>=◌, field, guard, IsLocal}
 use Rattle.terms.specs.Number.{u16_at, u32_at}
-use Rattle.terms.specs.Size.{is_size}
+use Rattle.pixel_format.specs.declared.kind.Format.TheVariants.{One}
+use Rattle.pixel_format.specs.Limits.{limits, is_size}
 use Rattle.terms.proofs.Readings.{bind_got, bind_local, field-whole, field_got, field_local, guard_local}
 use Rattle.terms.specs.declared.wire_fault.WireFault.{WireFault}
 use Rattle.std.specs.Str.{bytes_eq}
@@ -56,9 +57,9 @@ format_local w h bytes more =
 size_local : IsLocal size_then
 unfolding size_then
 size_local bytes more =
-    let next : List ℕ → List ℕ → Reading Opening FbsFault = λ size rest. guard (is_size (u16_at size 0) (u16_at size 2)) faults.Size (format_then (u16_at size 0) (u16_at size 2) rest) in
+    let next : List ℕ → List ℕ → Reading Opening FbsFault = λ size rest. guard (is_size (limits One) (u16_at size 0) (u16_at size 2)) faults.Size (format_then (u16_at size 0) (u16_at size 2) rest) in
     bind_local (field 4 bytes) (field 4 (bytes ++ more)) more next next (field_local FbsFault 4 bytes more)
-    (λ size rest. guard_local (is_size (u16_at size 0) (u16_at size 2)) faults.Size (format_then (u16_at size 0) (u16_at size 2) rest) (format_then (u16_at size 0) (u16_at size 2) (rest ++ more)) more
+    (λ size rest. guard_local (is_size (limits One) (u16_at size 0) (u16_at size 2)) faults.Size (format_then (u16_at size 0) (u16_at size 2) rest) (format_then (u16_at size 0) (u16_at size 2) (rest ++ more)) more
     (format_local (u16_at size 0) (u16_at size 2) rest more))
 
 security_local : IsLocal security_then

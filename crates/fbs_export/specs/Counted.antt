@@ -7,7 +7,7 @@ use Rattle.fbs_export.specs.Summary.{Said, IsSummary}
 pub record IsCounted (file : List ℕ) (c : Counted) : Type 0 where
   pub said : Said
   pub is : IsSummary file said
-  pub width_is : c.width ≡ said.opening.width
-  pub height_is : c.height ≡ said.opening.height
+  pub width_is : c.size.width ≡ said.opening.width
+  pub height_is : c.size.height ≡ said.opening.height
   pub count : c.messages ≡ length said.messages
   pub rest_is : c.rest ≡ said.rest

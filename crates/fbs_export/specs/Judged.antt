@@ -23,5 +23,5 @@ OfOpening faults.Read P = ⊥
 abbrev pub IsJudged : (List ℕ → Reading Opening FbsFault) → ℕ → List ℕ → Result (Option Announced) FbsFault → Type 0
 IsJudged read reach bytes (Ok None) = (read bytes ≡ More) × (length bytes < reach)
 IsJudged read reach bytes (Ok (Some a)) =
-    (reach ≤ length bytes) × ((more : List ℕ) → read (bytes ++ more) ≡ named a.width a.height a.count (drop reach bytes ++ more))
+    (reach ≤ length bytes) × ((more : List ℕ) → read (bytes ++ more) ≡ named a.size.width a.size.height a.count (drop reach bytes ++ more))
 IsJudged read reach bytes (Err f) = OfOpening f ((more : List ℕ) → read (bytes ++ more) ≡ Bad f)

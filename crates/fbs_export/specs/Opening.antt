@@ -5,7 +5,8 @@ use Rattle.std.specs.Str.{bytes_eq}
 use Rattle.terms.specs.Reading.{Reading, Got, ◌>>=◌, field, guard}
 use Rattle.pixel_format.specs.Written.{is_flag}
 use Rattle.terms.specs.Number.{u16_at, u32_at}
-use Rattle.terms.specs.Size.{is_size}
+use Rattle.pixel_format.specs.Limits.{limits, is_size}
+use Rattle.pixel_format.specs.declared.kind.Format.TheVariants.{One}
 use Rattle.fbs_export.specs.declared.fault.FbsFault.{FbsFault}
 use Rattle.fbs_export.specs.declared.fault.FbsFault.TheVariants as faults
 
@@ -46,7 +47,7 @@ format_then w h bytes = field 16 bytes >>= λ format rest. guard (is_host format
 
 unfoldable pub size_then : List ℕ → Reading Opening FbsFault
 size_then bytes = field 4 bytes >>= λ size rest.
-    guard (is_size (u16_at size 0) (u16_at size 2)) faults.Size (format_then (u16_at size 0) (u16_at size 2) rest)
+    guard (is_size (limits One) (u16_at size 0) (u16_at size 2)) faults.Size (format_then (u16_at size 0) (u16_at size 2) rest)
 
 unfoldable pub security_then : List ℕ → Reading Opening FbsFault
 security_then bytes = field 4 bytes >>= λ security rest. guard (nat_eq (u32_at security 0) 1) faults.Security (size_then rest)

@@ -56,7 +56,7 @@ pub record IsInName (n : Name) (s : List ℕ) : Type 0 where
   pub came : List ℕ
   pub kept_is : n.kept.items ≡ take name_limit came
   pub counted : length came + n.left ≡ n.announced.count
-  pub link : (more : List ℕ) → opening_at (s ++ more) ≡ named n.announced.width n.announced.height n.announced.count (came ++ more)
+  pub link : (more : List ℕ) → opening_at (s ++ more) ≡ named n.announced.size.width n.announced.size.height n.announced.count (came ++ more)
 
 -- the opening isn't whole
 abbrev pub IsInOpening : OpeningReader → List ℕ → Type 0

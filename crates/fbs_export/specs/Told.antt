@@ -9,7 +9,7 @@ use Rattle.fbs_export.specs.Summary.{Said, Tells, IsSummary}
 -- what is told, with these messages in the tally's place
 abbrev pub said_of : {T : Type 0} → Told T → List Stamped → Said
 said_of told messages = record {
-  opening = record { width = told.width; height = told.height; name = told.name.items };
+  opening = record { width = told.size.width; height = told.size.height; name = told.name.items };
   messages = messages;
   rest = told.rest;
 }

@@ -197,8 +197,7 @@ pub fn check<R: Read>(alloc: Global, file: &mut R) -> Result<Summary, FbsFault>
 {
     let told = read_file(alloc, file, Kept::new(alloc))?;
     Ok(Summary {
-        width: told.width,
-        height: told.height,
+        size: told.size,
         name: told.name,
         messages: told.tally.into_messages(),
         rest: told.rest,
@@ -214,8 +213,7 @@ pub fn count<R: Read>(alloc: Global, file: &mut R) -> Result<Counted, FbsFault>
 {
     let told = read_file(alloc, file, Counter::new())?;
     Ok(Counted {
-        width: told.width,
-        height: told.height,
+        size: told.size,
         messages: told.tally.number(),
         rest: told.rest,
     })

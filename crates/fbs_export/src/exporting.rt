@@ -32,12 +32,12 @@ const START: [u8; 12] = *b"FBS 001.000\n";
 fn append_opening<D: Disk>(index: &Indexed<D>, out: &mut Vec<u8>) -> Result<(), NoMemory>
     ensures { OnOk result (out.new.items ≡ out.old.items ++ opening_text index.now.head) }
 {
-    let (width, height) = index.header().size();
+    let size = index.header().size();
     let name = index.header().name();
     out.extend_from_slice(&VERSION)?;
     out.extend_from_slice(&four_bytes(NONE))?;
-    out.extend_from_slice(&two_bytes(width))?;
-    out.extend_from_slice(&two_bytes(height))?;
+    out.extend_from_slice(&two_bytes(size.width))?;
+    out.extend_from_slice(&two_bytes(size.height))?;
     out.extend_from_slice(&PixelFormat::host().write())?;
     out.extend_from_slice(&four_bytes(name.len() as u32))?;
     out.extend_from_slice(name)?;
@@ -50,8 +50,7 @@ fn append_row(screen: &Screen, y: u16, out: &mut Vec<u8>) -> Result<(), NoMemory
     ensures { OnOk result (out.new.items
         ≡ out.old.items ++ row_text (color_at screen.now) y 0 screen.now.width) }
 {
-    let (width, _) = screen.size();
-    for x in 0..width {
+    for x in 0..screen.size().width {
         let color = screen.color(x, y);
         out.extend_from_slice(&[color.b as u8, color.g as u8, color.r as u8, 0])?;
     }
@@ -63,7 +62,7 @@ fn append_screen(screen: &Screen, out: &mut Vec<u8>) -> Result<(), NoMemory>
     ensures { OnOk result (out.new.items
         ≡ out.old.items ++ screen_text screen.now.width screen.now.height (color_at screen.now)) }
 {
-    let (width, height) = screen.size();
+    let size = screen.size();
     out.extend_from_slice(&[
         0,
         0,
@@ -73,16 +72,16 @@ fn append_screen(screen: &Screen, out: &mut Vec<u8>) -> Result<(), NoMemory>
         0,
         0,
         0,
-        (width / 256) as u8,
-        (width % 256) as u8,
-        (height / 256) as u8,
-        (height % 256) as u8,
+        (size.width / 256) as u8,
+        (size.width % 256) as u8,
+        (size.height / 256) as u8,
+        (size.height % 256) as u8,
         0,
         0,
         0,
         0,
     ])?;
-    for y in 0..height {
+    for y in 0..size.height {
         append_row(screen, y, out)?;
     }
     Ok(())

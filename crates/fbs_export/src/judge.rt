@@ -5,7 +5,8 @@ ghost use Rattle.fbs_export.specs.Judged.{IsJudged};
 ghost use Rattle.fbs_export.specs.Opening.{is_host, name_at, format_then, size_then, security_then, opening_at};
 
 use crate::fault::FbsFault;
-use terms::is_size;
+use pixel_format::Format;
+use terms::ScreenSize;
 
 /// The version of a file's stream.
 pub const VERSION: [u8; 12] = *b"RFB 003.003\n";
@@ -19,8 +20,7 @@ pub const NONE: u32 = 1;
 /// What stands in front of the name: the screen's size, and the length of the name in bytes.
 #[derive(Clone, Copy)]
 pub struct Announced {
-    pub width: u16,
-    pub height: u16,
+    pub size: ScreenSize,
     pub count: u32,
 }
 
@@ -41,23 +41,19 @@ fn is_host_format(format: &[u8]) -> bool
     &format[4..13] == MAXIMA_AND_SHIFTS.as_slice()
 }
 
-fn judge_name(width: u16, height: u16, bytes: &[u8]) -> Option<Announced>
-    ensures { IsJudged (name_at width height) 4 bytes.now (Ok result) }
+fn judge_name(size: ScreenSize, bytes: &[u8]) -> Option<Announced>
+    ensures { IsJudged (name_at size.width size.height) 4 bytes.now (Ok result) }
 {
     if bytes.len() < 4 {
         return None;
     }
     let (count, _) = bytes.split_at(4);
     let count = u32::from_be_bytes([count[0], count[1], count[2], count[3]]);
-    Some(Announced {
-        width,
-        height,
-        count,
-    })
+    Some(Announced { size, count })
 }
 
-fn judge_format(width: u16, height: u16, bytes: &[u8]) -> Result<Option<Announced>, FbsFault>
-    ensures { IsJudged (format_then width height) 20 bytes.now result }
+fn judge_format(size: ScreenSize, bytes: &[u8]) -> Result<Option<Announced>, FbsFault>
+    ensures { IsJudged (format_then size.width size.height) 20 bytes.now result }
 {
     if bytes.len() < 16 {
         return Ok(None);
@@ -66,7 +62,7 @@ fn judge_format(width: u16, height: u16, bytes: &[u8]) -> Result<Option<Announce
     if !is_host_format(format) {
         return Err(FbsFault::Format);
     }
-    Ok(judge_name(width, height, rest))
+    Ok(judge_name(size, rest))
 }
 
 fn judge_size(bytes: &[u8]) -> Result<Option<Announced>, FbsFault>
@@ -75,13 +71,15 @@ fn judge_size(bytes: &[u8]) -> Result<Option<Announced>, FbsFault>
     if bytes.len() < 4 {
         return Ok(None);
     }
-    let (size, rest) = bytes.split_at(4);
-    let width = u16::from_be_bytes([size[0], size[1]]);
-    let height = u16::from_be_bytes([size[2], size[3]]);
-    if !is_size(width, height) {
+    let (sides, rest) = bytes.split_at(4);
+    let size = ScreenSize {
+        width: u16::from_be_bytes([sides[0], sides[1]]),
+        height: u16::from_be_bytes([sides[2], sides[3]]),
+    };
+    if !Format::One.limits().allow(size) {
         return Err(FbsFault::Size);
     }
-    judge_format(width, height, rest)
+    judge_format(size, rest)
 }
 
 fn judge_security(bytes: &[u8]) -> Result<Option<Announced>, FbsFault>

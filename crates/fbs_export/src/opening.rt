@@ -8,7 +8,7 @@ ghost use Rattle.fbs_export.specs.Reader.{IsDataFault, IsInHead, IsInName, IsInO
 use crate::fault::FbsFault;
 use crate::judge::{Announced, judge};
 use std::alloc::Global;
-use terms::NoMemory;
+use terms::{NoMemory, ScreenSize};
 
 // Of a longer name the first bytes are kept.
 const NAME_LIMIT: usize = 1_024;
@@ -42,8 +42,7 @@ pub struct Begun {
 #[derive(Clone, Copy)]
 pub struct Whole {
     pub taken: usize,
-    pub width: u16,
-    pub height: u16,
+    pub size: ScreenSize,
 }
 
 impl Name {
@@ -63,7 +62,7 @@ impl Name {
     fn take(&mut self, piece: &[u8]) -> Result<Option<Whole>, NoMemory>
         ensures goes { IfOk result (λ o. (s : List ℕ) → IsInName self.old s → MatchOption o
             (IsInName self.new (s ++ piece.now) × (0 < self.new.left))
-            (λ w. IsOpened w.width w.height self.new.kept.items (s ++ take w.taken piece.now))) }
+            (λ w. IsOpened w.size.width w.size.height self.new.kept.items (s ++ take w.taken piece.now))) }
         ensures within { IfOk result (λ o. IfSome o (λ w. w.taken ≤ length piece.now)) }
     {
         let came = piece.len().min(self.left as usize);
@@ -75,8 +74,7 @@ impl Name {
         }
         Ok(Some(Whole {
             taken: came,
-            width: self.announced.width,
-            height: self.announced.height,
+            size: self.announced.size,
         }))
     }
 }
@@ -86,7 +84,7 @@ fn take_head(head: &mut Vec<u8>, piece: &[u8]) -> Result<Option<Begun>, FbsFault
     ensures goes { IfOk result (λ o. (s : List ℕ) → IsInHead head.old.items s → MatchOption o
         (IsInHead head.new.items (s ++ piece.now))
         (λ b. (more : List ℕ) → opening_at ((s ++ take b.taken piece.now) ++ more)
-        ≡ named b.announced.width b.announced.height b.announced.count more)) }
+        ≡ named b.announced.size.width b.announced.size.height b.announced.count more)) }
     ensures within { IfOk result (λ o. IfSome o (λ b. b.taken ≤ length piece.now)) }
     ensures fault { IfErr result (λ f. (s : List ℕ) → IsInHead head.old.items s → IsDataFault (s ++ piece.now) f) }
 {
@@ -119,7 +117,7 @@ impl OpeningReader {
     pub fn take(&mut self, piece: &[u8]) -> Result<Option<Whole>, FbsFault>
         ensures goes { IfOk result (λ o. (s : List ℕ) → IsInOpening self.old s → MatchOption o
             (IsInOpening self.new (s ++ piece.now))
-            (λ w. IsOpened w.width w.height (name_in self.new.name) (s ++ take w.taken piece.now))) }
+            (λ w. IsOpened w.size.width w.size.height (name_in self.new.name) (s ++ take w.taken piece.now))) }
         ensures within { IfOk result (λ o. IfSome o (λ w. w.taken ≤ length piece.now)) }
         ensures fault { IfErr result (λ f. (s : List ℕ) → IsInOpening self.old s → IsDataFault (s ++ piece.now) f) }
     {
@@ -138,8 +136,7 @@ impl OpeningReader {
         };
         Ok(Some(Whole {
             taken: begun.taken + whole.taken,
-            width: whole.width,
-            height: whole.height,
+            size: whole.size,
         }))
     }
 

@@ -16,7 +16,7 @@ use crate::opening::OpeningReader;
 use crate::tally::Tally;
 use rfb_wire::{HostMessage, ServerReader};
 use std::alloc::Global;
-use terms::{NoMemory, WireFault};
+use terms::{NoMemory, ScreenSize, WireFault};
 
 /// What is read of a stream: its opening, and once this is whole, the messages behind it, which a
 /// tally is told. Those of the block that comes wait for its time.
@@ -32,8 +32,7 @@ pub struct Stream<T> {
 /// bytes of an unfinished last one.
 #[derive(Drop)]
 pub struct Told<T> {
-    pub width: u16,
-    pub height: u16,
+    pub size: ScreenSize,
     pub name: Vec<u8>,
     pub tally: T,
     pub rest: u64,
@@ -96,7 +95,7 @@ impl<T: Tally> Stream<T> {
         let Some(whole) = self.opening.take(piece)? else {
             return Ok(());
         };
-        let mut reader = ServerReader::new(self.alloc, whole.width, whole.height);
+        let mut reader = ServerReader::new(self.alloc, whole.size);
         let mut hosts = Vec::new(self.alloc);
         hear(&mut reader, &piece[whole.taken..], &mut hosts)?;
         tell(hosts, &mut self.tally)?;
@@ -142,10 +141,8 @@ impl<T: Tally> Stream<T> {
         let Some(reader) = reader else {
             return Err(FbsFault::Truncated);
         };
-        let (width, height) = reader.size();
         Ok(Told {
-            width,
-            height,
+            size: reader.size(),
             name: opening.into_name(alloc),
             tally,
             rest: reader.unfinished(),

@@ -2,14 +2,14 @@
 
 use key_index::Stamped;
 use std::marker::Model;
+use terms::ScreenSize;
 
 /// What a file says: the size of the screen in places, the name, of a longer one its first 1,024
 /// bytes, the recorded messages with their times, and the number of bytes of an unfinished last
 /// message.
 #[derive(Drop)]
 pub struct Summary {
-    pub width: u16,
-    pub height: u16,
+    pub size: ScreenSize,
     pub name: Vec<u8>,
     pub messages: Vec<Stamped>,
     pub rest: u64,
@@ -21,7 +21,7 @@ impl Model for Summary {
     ghost Value = { Said };
 
     ghost view = { λ s. record {
-      opening = record { width = s.width; height = s.height; name = s.name.items };
+      opening = record { width = s.size.width; height = s.size.height; name = s.name.items };
       messages = s.messages.items;
       rest = s.rest;
     } };
@@ -31,8 +31,7 @@ impl Model for Summary {
 /// messages, and the number of bytes of an unfinished last message.
 #[derive(Clone, Copy, Debug, PartialEq, Eq)]
 pub struct Counted {
-    pub width: u16,
-    pub height: u16,
+    pub size: ScreenSize,
     pub messages: u64,
     pub rest: u64,
 }

@@ -8,10 +8,11 @@ use std::fs::File;
 use std::io;
 use std::io::{BufReader, Write};
 use std::rt::Files;
+use terms::ScreenSize;
 
 /// Writes a recording's size, and how many messages and blocks count.
 pub fn write_size<O: Write>(index: &Indexed<FileDisk>, out: &mut O) -> io::Result<()> {
-    let (width, height) = index.header().size();
+    let ScreenSize { width, height } = index.header().size();
     let messages = index.committed();
     let blocks = index.blocks();
     writeln!(
@@ -38,7 +39,7 @@ pub fn write_summary<R: Files<File = File> + AllocGlobal, O: Write>(
         Ok(told) => told,
         Err(fault) => return Err(Ended::Refused(Refusal::Fbs(fault))),
     };
-    let (width, height) = (told.width, told.height);
+    let ScreenSize { width, height } = told.size;
     let (messages, rest) = (told.messages, told.rest);
     Ok(writeln!(out, "fbs {width} {height} messages {messages} rest {rest}")?)
 }

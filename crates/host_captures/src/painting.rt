@@ -2,7 +2,7 @@
 
 ghost use Rattle.std.specs.Prelude.{◌≡◌};
 
-use crate::stream::{HEIGHT, WIDTH};
+use crate::stream::SIZE;
 use painter::Screen;
 use rfb_wire::HostMessage;
 use sha2::{Digest, Sha256};
@@ -59,8 +59,8 @@ fn digest_of(screen: &Screen) -> [u8; 32]
     requires height { screen.now.height ≡ 240 }
 {
     let mut hasher = Sha256::new();
-    for y in 0..HEIGHT {
-        for x in 0..WIDTH {
+    for y in 0..SIZE.height {
+        for x in 0..SIZE.width {
             let color = screen.color(x, y);
             hasher.update([color.r as u8, color.g as u8, color.b as u8]);
         }
@@ -74,7 +74,7 @@ fn print_after(rt: &HostRuntime, screen: &Screen, count: usize, last: bool) -> i
     requires height { screen.now.height ≡ 240 }
 {
     for sample in &SAMPLES {
-        if sample.after == count && sample.x < WIDTH && sample.y < HEIGHT {
+        if sample.after == count && sample.x < SIZE.width && sample.y < SIZE.height {
             let color = screen.color(sample.x, sample.y);
             println!(rt;
                 "after {count} at {} {}: {:02x}{:02x}{:02x}",
@@ -92,10 +92,9 @@ fn print_after(rt: &HostRuntime, screen: &Screen, count: usize, last: bool) -> i
 /// Paints the messages in their order, and prints their types and lengths and what is due after
 /// each.
 pub(crate) fn print_screens(rt: &HostRuntime, messages: &[HostMessage]) -> io::Result<()> {
-    let mut screen = Screen::black(rt.alloc(), WIDTH, HEIGHT)?;
+    let mut screen = Screen::black(rt.alloc(), SIZE)?;
     for (number, message) in messages.iter().enumerate() {
-        let (width, height) = message.size();
-        if width != WIDTH || height != HEIGHT {
+        if message.size() != SIZE {
             return println!(rt; "a message for another screen");
         }
         screen.paint(message);

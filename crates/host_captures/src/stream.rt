@@ -4,13 +4,13 @@ ghost use Rattle.std.specs.Prelude.{◌<◌};
 
 use rfb_wire::{HostMessage, ServerReader};
 use std::alloc::Global;
-use terms::WireFault;
+use terms::{ScreenSize, WireFault};
 
-/// The width of the screens.
-pub(crate) const WIDTH: u16 = 320;
-
-/// The height of the screens.
-pub(crate) const HEIGHT: u16 = 240;
+/// The size of the screens.
+pub(crate) const SIZE: ScreenSize = ScreenSize {
+    width: 320,
+    height: 240,
+};
 
 /// Why a stream is refused.
 #[derive(Drop)]
@@ -25,7 +25,7 @@ pub(crate) enum Refused {
 fn messages_of(alloc: Global, stream: &[u8], length: usize) -> Result<Vec<HostMessage>, WireFault>
     requires { 0 < length }
 {
-    let mut reader = ServerReader::new(alloc, WIDTH, HEIGHT);
+    let mut reader = ServerReader::new(alloc, SIZE);
     let mut messages = Vec::new(alloc);
     for piece in stream.chunks(length) {
         reader.feed(piece, &mut messages)?;

@@ -15,6 +15,7 @@ use Rattle.host_session.specs.declared.fault.HostFault.TheVariants as faults
 use Rattle.host_session.specs.Handshake.{Told, Refusal, handshake_at}
 use Rattle.host_session.specs.Session.{requests_after}
 use Rattle.host_session.specs.Conversation.{IsInMessages, IsConversation, IsRefusal}
+use Rattle.terms.specs.declared.screen_size.ScreenSize.{ScreenSize}
 
 -- what two readings of a stream behind its handshake share
 record Same (ms ns : List Host) (t k : Told) (a b tail other : List ℕ) : Type 0 where
@@ -23,7 +24,7 @@ record Same (ms ns : List Host) (t k : Told) (a b tail other : List ℕ) : Type 
   pub answers : a ≡ b
   pub tails : tail ≡ other
 
-same_behind : (limit : ℕ) (expected : Option (ℕ × ℕ)) (stream : List ℕ) (ms ns : List Host) (t k : Told) (a b tail other : List ℕ)
+same_behind : (limit : ℕ) (expected : Option ScreenSize) (stream : List ℕ) (ms ns : List Host) (t k : Told) (a b tail other : List ℕ)
     → IsInMessages limit expected stream ms t a tail → IsInMessages limit expected stream ns k b other
     → BeginsNone (message_at limit t.width t.height) tail → BeginsNone (message_at limit k.width k.height) other
     → Same ms ns t k a b tail other
@@ -63,7 +64,7 @@ waits_none limit t tail = waits_begins_none (message_at limit t.width t.height) 
 fault_none : (limit : ℕ) (t : Told) (tail : List ℕ) (w : WireFault) → message_at limit t.width t.height tail ≡ Bad w → BeginsNone (message_at limit t.width t.height) tail
 fault_none limit t tail w = fault_begins_none (message_at limit t.width t.height) (message_local limit t.width t.height) tail w
 
-pub one_conversation : (limit : ℕ) (expected : Option (ℕ × ℕ)) (stream said answered : List ℕ) (told known : Option Told) (messages others : List Host)
+pub one_conversation : (limit : ℕ) (expected : Option ScreenSize) (stream said answered : List ℕ) (told known : Option Told) (messages others : List Host)
     → IsConversation limit expected stream told messages said → IsConversation limit expected stream known others answered
     → (told ≡ known) × (messages ≡ others) × (said ≡ answered)
 one_conversation limit expected stream said answered None None messages others x y =
@@ -76,7 +77,7 @@ one_conversation limit expected stream said answered (Some t) (Some k) messages 
     let s = same_behind limit expected stream messages others t k x.answers y.answers x.tail y.tail x.behind y.behind (waits_none limit t x.tail x.waits) (waits_none limit k y.tail y.waits) in
     (ap (λ (z : Told). Some z) s.told, s.messages, same_said messages others t k x.answers y.answers x.tail y.tail said answered s x.said_is y.said_is)
 
-pub not_refused : (limit : ℕ) (expected : Option (ℕ × ℕ)) (stream said answered reason : List ℕ) (told known : Option Told) (messages others : List Host) (f : HostFault)
+pub not_refused : (limit : ℕ) (expected : Option ScreenSize) (stream said answered reason : List ℕ) (told known : Option Told) (messages others : List Host) (f : HostFault)
     → IsConversation limit expected stream told messages said → IsRefusal limit expected stream known others answered f reason → ⊥
 not_refused limit expected stream said answered reason None None messages others f x y =
     let e = ap (λ (z : Talk Told Refusal). z.heard) (sym x.reads ∙ y.reads) in absurd (cc)
@@ -95,7 +96,7 @@ same_fault f g w v a b e = a ∙ ap (λ (z : WireFault). faults.Wire z) e ∙ sy
 same_refusal : (heard : Reading Told Refusal) (r s : Refusal) → heard ≡ Bad r → heard ≡ Bad s → r ≡ s
 same_refusal heard r s e g = cc
 
-pub one_refusal : (limit : ℕ) (expected : Option (ℕ × ℕ)) (stream said answered reason text : List ℕ) (told known : Option Told) (messages others : List Host) (f g : HostFault)
+pub one_refusal : (limit : ℕ) (expected : Option ScreenSize) (stream said answered reason text : List ℕ) (told known : Option Told) (messages others : List Host) (f g : HostFault)
     → IsRefusal limit expected stream told messages said f reason → IsRefusal limit expected stream known others answered g text
     → (told ≡ known) × (messages ≡ others) × (said ≡ answered) × (f ≡ g) × (reason ≡ text)
 one_refusal limit expected stream said answered reason text None None messages others f g x y =
@@ -120,9 +121,9 @@ one_refusal limit expected stream said answered reason text (Some t) (Some k) me
     )
 
 -- two sessions that expect the same
-pub same_sessions : (limit : ℕ) (expected other : Option (ℕ × ℕ)) (stream said answered : List ℕ) (told known : Option Told) (messages others : List Host) → expected ≡ other
+pub same_sessions : (limit : ℕ) (expected other : Option ScreenSize) (stream said answered : List ℕ) (told known : Option Told) (messages others : List Host) → expected ≡ other
     → IsConversation limit expected stream told messages said → IsConversation limit other stream known others answered
     → (told ≡ known) × (messages ≡ others) × (said ≡ answered)
 same_sessions limit expected other stream said answered told known messages others e x y =
     one_conversation limit expected stream said answered told known messages others x
-    (subst (λ (z : Option (ℕ × ℕ)). IsConversation limit z stream known others answered) (sym e) y)
+    (subst (λ (z : Option ScreenSize). IsConversation limit z stream known others answered) (sym e) y)

@@ -29,9 +29,10 @@ use Rattle.host_session.specs.Listening.{Answers, Listens, StopsListening, Liste
 use Rattle.host_session.proofs.Goes.{resume-short, rest-short}
 use Rattle.host_session.proofs.Messages.{unless_memory_by}
 use Rattle.host_session.proofs.Turns.{leads_more, leads_end, leads_fail, unless_memory_map}
+use Rattle.terms.specs.declared.screen_size.ScreenSize.{ScreenSize}
 
 -- messages behind others
-gets_more : (limit : ℕ) (expected : Option (ℕ × ℕ)) (w h : ℕ) (name stream piece : List ℕ) (messages more : List Host) (tail rest : List ℕ)
+gets_more : (limit : ℕ) (expected : Option ScreenSize) (w h : ℕ) (name stream piece : List ℕ) (messages more : List Host) (tail rest : List ℕ)
     → (g : Gets limit expected w h name stream messages tail)
     → Gives (message_at limit w h) (given w h) [] more (tail ++ piece) rest
     → Gets limit expected w h name (stream ++ piece) (messages ++ more) rest
@@ -45,7 +46,7 @@ gets_more limit expected w h name stream piece messages more tail rest f g = rec
       (record { parts = g.parts; given = ap (λ z. messages ++ z) g.given; reads = g.reads });
 }
 
-follows_more : (limit : ℕ) (expected : Option (ℕ × ℕ)) (r : Reader) (name stream piece : List ℕ) (messages : List Host) (sent : List ℕ) (old new : List Host) (due later tail rest : List ℕ)
+follows_more : (limit : ℕ) (expected : Option ScreenSize) (r : Reader) (name stream piece : List ℕ) (messages : List Host) (sent : List ℕ) (old new : List Host) (due later tail rest : List ℕ)
     → Follows limit expected r.width r.height name stream messages (sent ++ due) tail
     → (a : Answers limit r tail piece old new due later rest)
     → Follows limit expected r.width r.height name (stream ++ piece) (messages ++ a.hears.more) (sent ++ later) rest
@@ -61,14 +62,14 @@ follows_more limit expected r name stream piece messages sent old new due later 
     }
 
 -- the same, for a reader of the same size
-sized : (limit : ℕ) (expected : Option (ℕ × ℕ)) (r after : Reader) (name stream : List ℕ) (messages : List Host) (said tail : List ℕ)
+sized : (limit : ℕ) (expected : Option ScreenSize) (r after : Reader) (name stream : List ℕ) (messages : List Host) (said tail : List ℕ)
     → (after.width ≡ r.width) × (after.height ≡ r.height)
     → Follows limit expected r.width r.height name stream messages said tail → Follows limit expected after.width after.height name stream messages said tail
 sized limit expected r after name stream messages said tail e x =
     subst (λ (z : ℕ). Follows limit expected after.width z name stream messages said tail) (sym e.1)
     (subst (λ (z : ℕ). Follows limit expected z r.height name stream messages said tail) (sym e.0) x)
 
-gets_sized : (limit : ℕ) (expected : Option (ℕ × ℕ)) (r after : Reader) (name stream : List ℕ) (messages : List Host) (tail : List ℕ)
+gets_sized : (limit : ℕ) (expected : Option ScreenSize) (r after : Reader) (name stream : List ℕ) (messages : List Host) (tail : List ℕ)
     → (after.width ≡ r.width) × (after.height ≡ r.height)
     → Gets limit expected r.width r.height name stream messages tail → Gets limit expected after.width after.height name stream messages tail
 gets_sized limit expected r after name stream messages tail e x =
@@ -80,7 +81,7 @@ read_sized : (limit : ℕ) (r after : Reader) (rest : List ℕ) → (after.width
 read_sized limit r after rest e = ap (λ z. message_at limit z after.height rest) e.0 ∙ ap (λ z. message_at limit r.width z rest) e.1
 
 -- a session that listens, and hears more
-pub listening_goes : (limit : ℕ) (expected : Option (ℕ × ℕ)) (position : Position) (name : List ℕ) (r after : Reader) (stream piece : List ℕ) (messages : List Host) (sent : List ℕ) (old new : List Host) (due later : List ℕ)
+pub listening_goes : (limit : ℕ) (expected : Option ScreenSize) (position : Position) (name : List ℕ) (r after : Reader) (stream piece : List ℕ) (messages : List Host) (sent : List ℕ) (old new : List Host) (due later : List ℕ)
     → (after.width ≡ r.width) × (after.height ≡ r.height)
     → Listens limit r after piece old new due later → IsListening limit expected name r stream messages (sent ++ due)
     → Advances limit expected position name (Some after) (stream ++ piece) messages (sent ++ later) old new
@@ -99,7 +100,7 @@ listening_goes limit expected position name r after stream piece messages sent o
       };
     }
 
-ends_wire : (limit : ℕ) (expected : Option (ℕ × ℕ)) (name : List ℕ) (r : Reader) (stream : List ℕ) (messages : List Host) (said : List ℕ) (f : HostFault) (w : WireFault)
+ends_wire : (limit : ℕ) (expected : Option ScreenSize) (name : List ℕ) (r : Reader) (stream : List ℕ) (messages : List Host) (said : List ℕ) (f : HostFault) (w : WireFault)
     → f ≡ faults.Wire w → EndsListening limit expected name r stream messages said w → EndsAfter limit expected name (Some r) stream messages said f
 ends_wire limit expected name r stream messages said f w is ends =
     subst (λ (z : HostFault). EndsAfter limit expected name (Some r) stream messages said z) (sym is) ends
@@ -109,7 +110,7 @@ more_is : (old new more other : List Host) → new ≡ old ++ more → new ≡ o
 more_is old new more other a b = append_cancel_left old more other (sym a ∙ b)
 
 -- a session that listens, and is stopped
-pub listening_stops : (limit : ℕ) (expected : Option (ℕ × ℕ)) (name : List ℕ) (r after : Reader) (f : HostFault) (stream piece : List ℕ) (messages : List Host) (sent : List ℕ) (old new : List Host) (due later : List ℕ)
+pub listening_stops : (limit : ℕ) (expected : Option ScreenSize) (name : List ℕ) (r after : Reader) (f : HostFault) (stream piece : List ℕ) (messages : List Host) (sent : List ℕ) (old new : List Host) (due later : List ℕ)
     → (after.width ≡ r.width) × (after.height ≡ r.height)
     → ListensToSome limit r piece old new
     → UnlessMemory f (StopsListening limit r f piece old new due later) → IsListening limit expected name r stream messages (sent ++ due)
@@ -143,7 +144,7 @@ unfolding message_at
 nothing_waits limit w h = rw (field-short {E = WireFault} 1 [] (omega arith)) refl
 
 -- what leads to the front of a stream, from its start
-from_start : (expected : Option (ℕ × ℕ)) (position : Position) (kept stream said : List ℕ) → Leads expected start [] stream said position kept
+from_start : (expected : Option ScreenSize) (position : Position) (kept stream said : List ℕ) → Leads expected start [] stream said position kept
     → Says (λ said. Leads expected start [] stream said position kept) [] said
 from_start expected position kept stream said leads = record { said = said; due = refl; is = leads }
 
@@ -156,7 +157,7 @@ sent_more P sent due later s = record {
 }
 
 -- the handshake is whole
-pub listening_begins : (limit : ℕ) (expected : Option (ℕ × ℕ)) (old new : Exchange) (n : ℕ) (stream piece : List ℕ) (messages : List Host) (sent due later : List ℕ)
+pub listening_begins : (limit : ℕ) (expected : Option ScreenSize) (old new : Exchange) (n : ℕ) (stream piece : List ℕ) (messages : List Host) (sent due later : List ℕ)
     → (w : IsWhole expected old new n piece due later) → IsHandshake expected old.handshake.position old.handshake.kept.items stream messages (sent ++ due)
     → IsListening limit expected new.handshake.kept.items w.reader (stream ++ take n piece) messages (sent ++ later)
 listening_begins limit expected old new n stream piece messages sent due later w is =
@@ -192,11 +193,11 @@ listening_begins limit expected old new n stream piece messages sent due later w
     }
 
 -- a field that isn't whole says nothing
-unfinished_waits : (expected : Option (ℕ × ℕ)) (position : Position) (kept : List ℕ) → IsUnfinished position kept → position_at expected position kept [] ≡ silent More
+unfinished_waits : (expected : Option ScreenSize) (position : Position) (kept : List ℕ) → IsUnfinished position kept → position_at expected position kept [] ≡ silent More
 unfinished_waits expected (positions.Field stage) kept short = resume-short expected stage (kept ++ []) (omega (arith, length-append kept []))
-unfinished_waits expected (positions.Rest width height left) kept some = rest-short width height left kept [] some
+unfinished_waits expected (positions.Rest size left) kept some = rest-short size.width size.height left kept [] some
 
-pub handshake_is : (expected : Option (ℕ × ℕ)) (bytes : List ℕ) → resume expected stages.Version bytes ≡ handshake_at expected bytes
+pub handshake_is : (expected : Option ScreenSize) (bytes : List ℕ) → resume expected stages.Version bytes ≡ handshake_at expected bytes
 unfolding resume
 handshake_is expected bytes = refl
 
@@ -204,14 +205,14 @@ handshake_is expected bytes = refl
 pub say_last : (said : List ℕ) (heard : Reading Told Refusal) → say said (silent heard) ≡ record { said = said; heard = heard }
 say_last said heard = rw (append-nil said) refl
 
-leads_waits : (expected : Option (ℕ × ℕ)) (stream said : List ℕ) (position : Position) (kept : List ℕ) → Leads expected start [] stream said position kept → IsUnfinished position kept
+leads_waits : (expected : Option ScreenSize) (stream said : List ℕ) (position : Position) (kept : List ℕ) → Leads expected start [] stream said position kept → IsUnfinished position kept
     → handshake_at expected stream ≡ record { said = said; heard = More }
 leads_waits expected stream said position kept leads short =
     ap (handshake_at expected) (sym (append-nil stream)) ∙ sym (handshake_is expected (stream ++ [])) ∙ leads.link [] ∙ ap (say said) (unfinished_waits expected position kept short)
     ∙ say_last said More
 
 -- a session in the handshake, which goes on
-handshake_goes : (expected : Option (ℕ × ℕ)) (old new : Exchange) (stream piece : List ℕ) (messages : List Host) (sent due later : List ℕ)
+handshake_goes : (expected : Option ScreenSize) (old new : Exchange) (stream piece : List ℕ) (messages : List Host) (sent due later : List ℕ)
     → GoesOn expected old new piece due later → IsHandshake expected old.handshake.position old.handshake.kept.items stream messages (sent ++ due)
     → IsHandshake expected new.handshake.position new.handshake.kept.items (stream ++ piece) messages (sent ++ later)
 handshake_goes expected old new stream piece messages sent due later g is =
@@ -230,7 +231,7 @@ handshake_goes expected old new stream piece messages sent due later g is =
       none = is.none;
     }
 
-pub handshake_fails : (expected : Option (ℕ × ℕ)) (old : Exchange) (kept : List ℕ) (stream piece : List ℕ) (messages : List Host) (sent due later : List ℕ) (f : HostFault)
+pub handshake_fails : (expected : Option ScreenSize) (old : Exchange) (kept : List ℕ) (stream piece : List ℕ) (messages : List Host) (sent due later : List ℕ) (f : HostFault)
     → Says (λ said. Fails expected old.handshake.position old.handshake.kept.items piece said f kept) due later
     → IsHandshake expected old.handshake.position old.handshake.kept.items stream messages (sent ++ due)
     → EndsInHandshake expected kept (stream ++ piece) messages (sent ++ later) f
@@ -246,18 +247,18 @@ handshake_fails expected old kept stream piece messages sent due later f g is =
     }
 
 -- the session by its reader
-pub stands_listening : (limit : ℕ) (expected : Option (ℕ × ℕ)) (position : Position) (kept : List ℕ) (reader : Option Reader) (r : Reader) (stream : List ℕ) (messages : List Host) (said : List ℕ)
+pub stands_listening : (limit : ℕ) (expected : Option ScreenSize) (position : Position) (kept : List ℕ) (reader : Option Reader) (r : Reader) (stream : List ℕ) (messages : List Host) (said : List ℕ)
     → reader ≡ Some r → Stands limit expected position kept reader stream messages said → IsListening limit expected kept r stream messages said
 stands_listening limit expected position kept reader r stream messages said is x =
     subst (λ (z : Option Reader). Stands limit expected position kept z stream messages said) is x
 
-pub stands_handshake : (limit : ℕ) (expected : Option (ℕ × ℕ)) (position : Position) (kept : List ℕ) (reader : Option Reader) (stream : List ℕ) (messages : List Host) (said : List ℕ)
+pub stands_handshake : (limit : ℕ) (expected : Option ScreenSize) (position : Position) (kept : List ℕ) (reader : Option Reader) (stream : List ℕ) (messages : List Host) (said : List ℕ)
     → reader ≡ None → Stands limit expected position kept reader stream messages said → IsHandshake expected position kept stream messages said
 stands_handshake limit expected position kept reader stream messages said is x =
     subst (λ (z : Option Reader). Stands limit expected position kept z stream messages said) is x
 
 -- a session that is stopped in the handshake
-pub handshake_stops : (limit : ℕ) (expected : Option (ℕ × ℕ)) (old new : Exchange) (f : HostFault) (stream piece : List ℕ) (messages : List Host) (sent due later : List ℕ) (out : List Host)
+pub handshake_stops : (limit : ℕ) (expected : Option ScreenSize) (old new : Exchange) (f : HostFault) (stream piece : List ℕ) (messages : List Host) (sent due later : List ℕ) (out : List Host)
     → IsHandshakeRefused expected old new piece due later f
     → IsHandshake expected old.handshake.position old.handshake.kept.items stream messages (sent ++ due)
     → Halts limit expected new.handshake.kept.items new.reader (stream ++ piece) messages (sent ++ later) f out out
@@ -280,7 +281,7 @@ whole_piece stream piece behind n is =
     append_assoc stream (take n piece) behind ∙ ap (λ z. stream ++ (take n piece ++ z)) is ∙ ap (λ z. stream ++ z) (take-append-drop n piece)
 
 -- the session that listens behind the handshake, by the reader that there is
-begun : (limit : ℕ) (expected : Option (ℕ × ℕ)) (old mid : Exchange) (r : Reader) (n : ℕ) (stream piece : List ℕ) (messages : List Host) (sent due later : List ℕ)
+begun : (limit : ℕ) (expected : Option ScreenSize) (old mid : Exchange) (r : Reader) (n : ℕ) (stream piece : List ℕ) (messages : List Host) (sent due later : List ℕ)
     → IsWhole expected old mid n piece due later → mid.reader ≡ Some r
     → IsHandshake expected old.handshake.position old.handshake.kept.items stream messages (sent ++ due)
     → IsListening limit expected mid.handshake.kept.items r (stream ++ take n piece) messages (sent ++ later)
@@ -291,7 +292,7 @@ begun limit expected old mid r n stream piece messages sent due later w is hands
     (listening_begins limit expected old mid n stream piece messages sent due later w handshake)
 
 -- the rest of the piece in which the handshake ends
-pub rest_goes : (limit : ℕ) (expected : Option (ℕ × ℕ)) (position : Position) (old mid : Exchange) (r after : Reader) (n : ℕ) (stream piece behind : List ℕ) (messages : List Host) (sent : List ℕ) (out new : List Host) (due then later : List ℕ)
+pub rest_goes : (limit : ℕ) (expected : Option ScreenSize) (position : Position) (old mid : Exchange) (r after : Reader) (n : ℕ) (stream piece behind : List ℕ) (messages : List Host) (sent : List ℕ) (out new : List Host) (due then later : List ℕ)
     → IsWhole expected old mid n piece due then → mid.reader ≡ Some r → behind ≡ drop n piece
     → (after.width ≡ r.width) × (after.height ≡ r.height)
     → Listens limit r after behind out new then later
@@ -302,7 +303,7 @@ rest_goes limit expected position old mid r after n stream piece behind messages
     (listening_goes limit expected position mid.handshake.kept.items r after (stream ++ take n piece) behind messages sent out new then later size goes
     (begun limit expected old mid r n stream piece messages sent due then w is handshake))
 
-pub rest_stops : (limit : ℕ) (expected : Option (ℕ × ℕ)) (old mid : Exchange) (r after : Reader) (f : HostFault) (n : ℕ) (stream piece behind : List ℕ) (messages : List Host) (sent : List ℕ) (out new : List Host) (due then later : List ℕ)
+pub rest_stops : (limit : ℕ) (expected : Option ScreenSize) (old mid : Exchange) (r after : Reader) (f : HostFault) (n : ℕ) (stream piece behind : List ℕ) (messages : List Host) (sent : List ℕ) (out new : List Host) (due then later : List ℕ)
     → IsWhole expected old mid n piece due then → mid.reader ≡ Some r → behind ≡ drop n piece
     → (after.width ≡ r.width) × (after.height ≡ r.height)
     → ListensToSome limit r behind out new
@@ -315,7 +316,7 @@ rest_stops limit expected old mid r after f n stream piece behind messages sent 
     (begun limit expected old mid r n stream piece messages sent due then w is handshake))
 
 -- the handshake goes on
-pub handshake_fed : (limit : ℕ) (expected : Option (ℕ × ℕ)) (old new : Exchange) (stream piece : List ℕ) (messages : List Host) (sent due later : List ℕ) (out : List Host)
+pub handshake_fed : (limit : ℕ) (expected : Option ScreenSize) (old new : Exchange) (stream piece : List ℕ) (messages : List Host) (sent due later : List ℕ) (out : List Host)
     → GoesOn expected old new piece due later → IsHandshake expected old.handshake.position old.handshake.kept.items stream messages (sent ++ due)
     → Advances limit expected new.handshake.position new.handshake.kept.items new.reader (stream ++ piece) messages (sent ++ later) out out
 handshake_fed limit expected old new stream piece messages sent due later out g is =
@@ -331,12 +332,12 @@ handshake_fed limit expected old new stream piece messages sent due later out g 
     }
 
 -- the start of a stream
-at_start : (expected : Option (ℕ × ℕ)) → IsHandshake expected start [] [] [] []
+at_start : (expected : Option ScreenSize) → IsHandshake expected start [] [] [] []
 at_start expected =
     let leads : Leads expected start [] [] [] start [] = record { link = λ more. refl } in
     record { leads = leads; reads = leads_waits expected [] [] start [] leads (omega arith); none = refl }
 
-pub new_stands : (expected : Option (ℕ × ℕ)) (position : Position) (kept : List ℕ) → position ≡ start → kept ≡ [] → IsHandshake expected position kept [] [] []
+pub new_stands : (expected : Option ScreenSize) (position : Position) (kept : List ℕ) → position ≡ start → kept ≡ [] → IsHandshake expected position kept [] [] []
 new_stands expected position kept a b =
     subst (λ (z : Position). IsHandshake expected z kept [] [] []) (sym a)
     (subst (λ (z : List ℕ). IsHandshake expected start z [] [] []) (sym b) (at_start expected))
@@ -363,7 +364,7 @@ fed limit s stream messages sent due said old new is a =
     }
 
 -- of a session that goes on, the messages are given
-are_given : (limit : ℕ) (expected : Option (ℕ × ℕ)) (position : Position) (kept : List ℕ) (reader : Option Reader) (stream : List ℕ) (messages : List Host) (said : List ℕ)
+are_given : (limit : ℕ) (expected : Option ScreenSize) (position : Position) (kept : List ℕ) (reader : Option Reader) (stream : List ℕ) (messages : List Host) (said : List ℕ)
     → Stands limit expected position kept reader stream messages said → AreGiven limit expected kept reader stream messages
 are_given limit expected position kept None stream messages said is = is.none
 are_given limit expected position kept (Some r) stream messages said is = record { tail = is.tail; gets = is.follows.gets }
@@ -399,7 +400,7 @@ stopped {U} limit s stream messages sent due said old new (Err g) f fault goes s
     }
 
 -- nothing is said before a piece comes
-pub nothing_said : (limit : ℕ) (expected : Option (ℕ × ℕ)) (position : Position) (kept : List ℕ) (reader : Option Reader) (stream : List ℕ) (messages : List Host) (sent due none : List ℕ)
+pub nothing_said : (limit : ℕ) (expected : Option ScreenSize) (position : Position) (kept : List ℕ) (reader : Option Reader) (stream : List ℕ) (messages : List Host) (sent due none : List ℕ)
     → none ≡ [] → Stands limit expected position kept reader stream messages (sent ++ due)
     → Stands limit expected position kept reader stream messages ((sent ++ due) ++ none)
 nothing_said limit expected position kept reader stream messages sent due none is x =

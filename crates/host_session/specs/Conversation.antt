@@ -10,15 +10,16 @@ use Rattle.host_session.specs.declared.fault.HostFault.{HostFault}
 use Rattle.host_session.specs.declared.fault.HostFault.TheVariants as faults
 use Rattle.host_session.specs.Handshake.{Told, handshake_at}
 use Rattle.host_session.specs.Session.{requests_after}
+use Rattle.terms.specs.declared.screen_size.ScreenSize.{ScreenSize}
 
 -- The handshake isn't whole, and nothing in it is refused: what was said is all that is due so far.
-pub record IsInHandshake (expected : Option (ℕ × ℕ)) (stream : List ℕ) (messages : List Host) (said : List ℕ) : Type 0 where
+pub record IsInHandshake (expected : Option ScreenSize) (stream : List ℕ) (messages : List Host) (said : List ℕ) : Type 0 where
   pub reads : handshake_at expected stream ≡ record { said = said; heard = More }
   pub none : messages ≡ []
 
 -- The handshake is whole: it was answered with these bytes, and this is told. Messages follow, and
 -- a tail; those that are recorded are given.
-pub record IsInMessages (limit : ℕ) (expected : Option (ℕ × ℕ)) (stream : List ℕ) (messages : List Host) (told : Told) (answers tail : List ℕ) : Type 0 where
+pub record IsInMessages (limit : ℕ) (expected : Option ScreenSize) (stream : List ℕ) (messages : List Host) (told : Told) (answers tail : List ℕ) : Type 0 where
   pub rest : List ℕ
   pub handshake : handshake_at expected stream ≡ record { said = answers; heard = Got told rest }
   pub parts : List (Part Message)
@@ -27,7 +28,7 @@ pub record IsInMessages (limit : ℕ) (expected : Option (ℕ × ℕ)) (stream :
 
 -- The tail is an unfinished message. What was said is the handshake's answers and a request for
 -- each update.
-pub record WaitsForMore (limit : ℕ) (expected : Option (ℕ × ℕ)) (stream : List ℕ) (messages : List Host) (said : List ℕ) (told : Told) : Type 0 where
+pub record WaitsForMore (limit : ℕ) (expected : Option ScreenSize) (stream : List ℕ) (messages : List Host) (said : List ℕ) (told : Told) : Type 0 where
   pub answers : List ℕ
   pub tail : List ℕ
   pub behind : IsInMessages limit expected stream messages told answers tail
@@ -36,17 +37,17 @@ pub record WaitsForMore (limit : ℕ) (expected : Option (ℕ × ℕ)) (stream :
 
 -- A stream that isn't refused: what is told, once the handshake is whole, the messages that are
 -- given, and what is said.
-abbrev pub IsConversation : ℕ → Option (ℕ × ℕ) → List ℕ → Option Told → List Host → List ℕ → Type 0
+abbrev pub IsConversation : ℕ → Option ScreenSize → List ℕ → Option Told → List Host → List ℕ → Type 0
 IsConversation limit expected stream None messages said = IsInHandshake expected stream messages said
 IsConversation limit expected stream (Some told) messages said = WaitsForMore limit expected stream messages said told
 
 -- A stream that is refused in the handshake, with the host's reason where it gives one,
-pub record IsRefusedInHandshake (expected : Option (ℕ × ℕ)) (stream : List ℕ) (messages : List Host) (said : List ℕ) (f : HostFault) (reason : List ℕ) : Type 0 where
+pub record IsRefusedInHandshake (expected : Option ScreenSize) (stream : List ℕ) (messages : List Host) (said : List ℕ) (f : HostFault) (reason : List ℕ) : Type 0 where
   pub reads : handshake_at expected stream ≡ record { said = said; heard = Bad (record { fault = f; reason = reason }) }
   pub none : messages ≡ []
 
 -- or at a message: the tail begins with a fault.
-pub record IsRefusedInMessages (limit : ℕ) (expected : Option (ℕ × ℕ)) (stream : List ℕ) (messages : List Host) (said : List ℕ) (told : Told) (f : HostFault) (reason : List ℕ) : Type 0 where
+pub record IsRefusedInMessages (limit : ℕ) (expected : Option ScreenSize) (stream : List ℕ) (messages : List Host) (said : List ℕ) (told : Told) (f : HostFault) (reason : List ℕ) : Type 0 where
   pub answers : List ℕ
   pub tail : List ℕ
   pub behind : IsInMessages limit expected stream messages told answers tail
@@ -58,16 +59,16 @@ pub record IsRefusedInMessages (limit : ℕ) (expected : Option (ℕ × ℕ)) (s
 
 -- What is told of a stream that is refused, the messages that are given, what is said, and the
 -- fault.
-abbrev pub IsRefusal : ℕ → Option (ℕ × ℕ) → List ℕ → Option Told → List Host → List ℕ → HostFault → List ℕ → Type 0
+abbrev pub IsRefusal : ℕ → Option ScreenSize → List ℕ → Option Told → List Host → List ℕ → HostFault → List ℕ → Type 0
 IsRefusal limit expected stream None messages said f reason = IsRefusedInHandshake expected stream messages said f reason
 IsRefusal limit expected stream (Some told) messages said f reason = IsRefusedInMessages limit expected stream messages said told f reason
 
 -- the messages are those of the stream, as far as they go
-pub record AreMessages (limit : ℕ) (expected : Option (ℕ × ℕ)) (stream : List ℕ) (messages : List Host) (told : Told) : Type 0 where
+pub record AreMessages (limit : ℕ) (expected : Option ScreenSize) (stream : List ℕ) (messages : List Host) (told : Told) : Type 0 where
   pub answers : List ℕ
   pub tail : List ℕ
   pub behind : IsInMessages limit expected stream messages told answers tail
 
-abbrev pub AreOfStream : ℕ → Option (ℕ × ℕ) → List ℕ → Option Told → List Host → Type 0
+abbrev pub AreOfStream : ℕ → Option ScreenSize → List ℕ → Option Told → List Host → Type 0
 AreOfStream limit expected stream None messages = messages ≡ []
 AreOfStream limit expected stream (Some told) messages = AreMessages limit expected stream messages told

@@ -19,6 +19,7 @@ use Rattle.host_session.specs.Fault.{UnlessMemory}
 use Rattle.host_session.specs.Handshake.{Told, whole, handshake_at}
 use Rattle.host_session.specs.Stage.{IsUnfinished, Leads, Ends, Fails, reason_of}
 use Rattle.host_session.specs.Take.{told_at}
+use Rattle.terms.specs.declared.screen_size.ScreenSize.{ScreenSize}
 
 -- an update is answered with a request for what has changed on the whole screen
 abbrev pub request_after : ℕ → ℕ → Host → List ℕ
@@ -32,7 +33,7 @@ requests_after width height messages = flat_map (request_after width height) mes
 -- the reader of its messages; the bytes that are due to the host; and the fault that was met, if
 -- one was.
 pub record Session : Type 0 where
-  pub expected : Option (ℕ × ℕ)
+  pub expected : Option ScreenSize
   pub position : Position
   pub kept : List ℕ
   pub reader : Option Reader
@@ -45,14 +46,14 @@ start = positions.Field stages.Version
 
 -- The handshake isn't whole: the stream so far, answered with this, leads to where the session
 -- stands.
-pub record IsHandshake (expected : Option (ℕ × ℕ)) (position : Position) (kept stream : List ℕ) (messages : List Host) (said : List ℕ) : Type 0 where
+pub record IsHandshake (expected : Option ScreenSize) (position : Position) (kept stream : List ℕ) (messages : List Host) (said : List ℕ) : Type 0 where
   pub leads : Leads expected start [] stream said position kept
   -- nothing is refused so far, and all that is due was said
   pub reads : handshake_at expected stream ≡ record { said = said; heard = More }
   pub none : messages ≡ []
 
 -- The handshake is whole, and the messages are given of those that follow it, before the tail.
-pub record Gets (limit : ℕ) (expected : Option (ℕ × ℕ)) (width height : ℕ) (name stream : List ℕ) (messages : List Host) (tail : List ℕ) : Type 0 where
+pub record Gets (limit : ℕ) (expected : Option ScreenSize) (width height : ℕ) (name stream : List ℕ) (messages : List Host) (tail : List ℕ) : Type 0 where
   pub front : List ℕ
   pub rest : List ℕ
   pub stream_is : stream ≡ front ++ rest
@@ -61,18 +62,18 @@ pub record Gets (limit : ℕ) (expected : Option (ℕ × ℕ)) (width height : �
   pub gives : Gives (message_at limit width height) (given width height) [] messages rest tail
 
 -- What was said is the handshake's answers and a request for each update.
-pub record Follows (limit : ℕ) (expected : Option (ℕ × ℕ)) (width height : ℕ) (name stream : List ℕ) (messages : List Host) (said tail : List ℕ) : Type 0 where
+pub record Follows (limit : ℕ) (expected : Option ScreenSize) (width height : ℕ) (name stream : List ℕ) (messages : List Host) (said tail : List ℕ) : Type 0 where
   pub gets : Gets limit expected width height name stream messages tail
   pub said_is : said ≡ gets.answers ++ requests_after width height messages
 
 -- the reader stands for the tail, an unfinished message
-pub record IsListening (limit : ℕ) (expected : Option (ℕ × ℕ)) (name : List ℕ) (r : Reader) (stream : List ℕ) (messages : List Host) (said : List ℕ) : Type 0 where
+pub record IsListening (limit : ℕ) (expected : Option ScreenSize) (name : List ℕ) (r : Reader) (stream : List ℕ) (messages : List Host) (said : List ℕ) : Type 0 where
   pub tail : List ℕ
   pub follows : Follows limit expected r.width r.height name stream messages said tail
   pub stands : StandsFor r.kept r.passed tail
   pub waits : message_at limit r.width r.height tail ≡ More
 
-abbrev pub Stands : ℕ → Option (ℕ × ℕ) → Position → List ℕ → Option Reader → List ℕ → List Host → List ℕ → Type 0
+abbrev pub Stands : ℕ → Option ScreenSize → Position → List ℕ → Option Reader → List ℕ → List Host → List ℕ → Type 0
 Stands limit expected position kept None stream messages said = IsHandshake expected position kept stream messages said
 Stands limit expected position kept (Some r) stream messages said = IsListening limit expected kept r stream messages said
 
@@ -82,18 +83,18 @@ abbrev pub IsAfter : ℕ → Session → List ℕ → List Host → List ℕ →
 IsAfter limit s stream messages sent = Stands limit s.expected s.position s.kept s.reader stream messages (sent ++ s.due)
 
 -- The stream ends at a fault in the handshake,
-pub record EndsInHandshake (expected : Option (ℕ × ℕ)) (kept stream : List ℕ) (messages : List Host) (said : List ℕ) (f : HostFault) : Type 0 where
+pub record EndsInHandshake (expected : Option ScreenSize) (kept stream : List ℕ) (messages : List Host) (said : List ℕ) (f : HostFault) : Type 0 where
   pub fails : Fails expected start [] stream said f kept
   pub none : messages ≡ []
 
 -- or at a fault in the messages.
-pub record EndsListening (limit : ℕ) (expected : Option (ℕ × ℕ)) (name : List ℕ) (r : Reader) (stream : List ℕ) (messages : List Host) (said : List ℕ) (f : WireFault) : Type 0 where
+pub record EndsListening (limit : ℕ) (expected : Option ScreenSize) (name : List ℕ) (r : Reader) (stream : List ℕ) (messages : List Host) (said : List ℕ) (f : WireFault) : Type 0 where
   pub tail : List ℕ
   pub follows : Follows limit expected r.width r.height name stream messages said tail
   pub fault : message_at limit r.width r.height tail ≡ Bad f
 
 -- Behind the handshake no fault is met but those of the wire.
-abbrev pub EndsAfter : ℕ → Option (ℕ × ℕ) → List ℕ → Option Reader → List ℕ → List Host → List ℕ → HostFault → Type 0
+abbrev pub EndsAfter : ℕ → Option ScreenSize → List ℕ → Option Reader → List ℕ → List Host → List ℕ → HostFault → Type 0
 EndsAfter limit expected kept None stream messages said f = EndsInHandshake expected kept stream messages said f
 EndsAfter limit expected kept (Some r) stream messages said (faults.Wire f) = EndsListening limit expected kept r stream messages said f
 EndsAfter limit expected kept (Some r) stream messages said faults.Version = ⊥
@@ -103,11 +104,11 @@ EndsAfter limit expected kept (Some r) stream messages said faults.SizeDiffers =
 EndsAfter limit expected kept (Some r) stream messages said faults.TooLarge = ⊥
 
 -- The messages are given of the stream, whatever stands behind them.
-pub record GetsSome (limit : ℕ) (expected : Option (ℕ × ℕ)) (name : List ℕ) (r : Reader) (stream : List ℕ) (messages : List Host) : Type 0 where
+pub record GetsSome (limit : ℕ) (expected : Option ScreenSize) (name : List ℕ) (r : Reader) (stream : List ℕ) (messages : List Host) : Type 0 where
   pub tail : List ℕ
   pub gets : Gets limit expected r.width r.height name stream messages tail
 
-abbrev pub AreGiven : ℕ → Option (ℕ × ℕ) → List ℕ → Option Reader → List ℕ → List Host → Type 0
+abbrev pub AreGiven : ℕ → Option ScreenSize → List ℕ → Option Reader → List ℕ → List Host → Type 0
 AreGiven limit expected kept None stream messages = messages ≡ []
 AreGiven limit expected kept (Some r) stream messages = GetsSome limit expected kept r stream messages
 
@@ -140,9 +141,9 @@ told_by None kept = None
 told_by (Some r) kept = Some (told_at r.width r.height kept)
 
 -- the screen's size, and its name, if they are told
-abbrev pub size_of : Option Told → Option (ℕ × ℕ)
+abbrev pub size_of : Option Told → Option ScreenSize
 size_of None = None
-size_of (Some told) = Some (told.width, told.height)
+size_of (Some told) = Some (record { width = told.width; height = told.height })
 
 abbrev pub name_of : Option Told → List ℕ
 name_of None = []

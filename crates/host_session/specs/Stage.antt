@@ -12,6 +12,7 @@ use Rattle.host_session.specs.declared.stage.AfterField.{AfterField}
 use Rattle.host_session.specs.declared.stage.Answer.TheVariants as answers
 use Rattle.terms.specs.Talk.{Talk, silent, say}
 use Rattle.host_session.specs.Handshake.{Told, Refusal, text_limit, version, handshake_at, count_at, types_at, outcome_at, failure_at, reason_at, size_at, head_at, name_at, rest_of_name}
+use Rattle.terms.specs.declared.screen_size.ScreenSize.{ScreenSize}
 
 -- how many bytes of the field are kept
 abbrev pub wants_of : Stage → ℕ
@@ -22,15 +23,15 @@ wants_of stages.Outcome = 4
 wants_of stages.ReasonLength = 4
 wants_of (stages.Reason n) = min n text_limit
 wants_of stages.Size = 4
-wants_of (stages.Head width height) = 20
-wants_of (stages.Name width height n) = min n text_limit
+wants_of (stages.Head size) = 20
+wants_of (stages.Name size n) = min n text_limit
 
 -- no more than so many fields follow
 abbrev pub rank_of : Stage → ℕ
 rank_of (stages.Reason n) = 1
 rank_of stages.ReasonLength = 2
-rank_of (stages.Name width height n) = 3
-rank_of (stages.Head width height) = 4
+rank_of (stages.Name size n) = 3
+rank_of (stages.Head size) = 4
 rank_of stages.Size = 5
 rank_of stages.Outcome = 6
 rank_of (stages.Types n) = 7
@@ -39,15 +40,15 @@ rank_of stages.Version = 9
 
 abbrev pub rank_at : Position → ℕ
 rank_at (positions.Field stage) = rank_of stage
-rank_at (positions.Rest width height left) = 0
+rank_at (positions.Rest size left) = 0
 
 -- fewer fields follow than this, and none is more than whole at its start
 abbrev pub IsFurther : ℕ → Position → Type 0
 IsFurther rank (positions.Field stage) = rank_of stage < rank
-IsFurther rank (positions.Rest width height left) = left < 2 ^ 32
+IsFurther rank (positions.Rest size left) = left < 2 ^ 32
 
 -- what the bytes say from the stage's field on
-unfoldable pub resume : Option (ℕ × ℕ) → Stage → List ℕ → Talk Told Refusal
+unfoldable pub resume : Option ScreenSize → Stage → List ℕ → Talk Told Refusal
 resume expected stages.Version bytes = handshake_at expected bytes
 resume expected stages.Count bytes = count_at expected bytes
 resume expected (stages.Types n) bytes = types_at expected n bytes
@@ -55,18 +56,18 @@ resume expected stages.Outcome bytes = outcome_at expected bytes
 resume expected stages.ReasonLength bytes = failure_at bytes
 resume expected (stages.Reason n) bytes = reason_at (min n text_limit) bytes
 resume expected stages.Size bytes = size_at expected bytes
-resume expected (stages.Head width height) bytes = head_at width height bytes
-resume expected (stages.Name width height n) bytes = name_at width height n bytes
+resume expected (stages.Head size) bytes = head_at size.width size.height bytes
+resume expected (stages.Name size n) bytes = name_at size.width size.height n bytes
 
 -- what the bytes that come next say, behind those that are kept
-abbrev pub position_at : Option (ℕ × ℕ) → Position → List ℕ → List ℕ → Talk Told Refusal
+abbrev pub position_at : Option ScreenSize → Position → List ℕ → List ℕ → Talk Told Refusal
 position_at expected (positions.Field stage) kept more = resume expected stage (kept ++ more)
-position_at expected (positions.Rest width height left) kept more = rest_of_name width height kept left more
+position_at expected (positions.Rest size left) kept more = rest_of_name size.width size.height kept left more
 
 -- of a whole field, what is kept behind it
 abbrev pub kept_behind : Position → List ℕ → List ℕ
 kept_behind (positions.Field stage) field = []
-kept_behind (positions.Rest width height left) field = field
+kept_behind (positions.Rest size left) field = field
 
 -- what a whole field is answered with
 abbrev pub answer_bytes : Answer → List ℕ
@@ -88,33 +89,33 @@ abbrev pub failed : HostFault → List ℕ → Talk Told Refusal
 failed f field = silent (Bad (record { fault = f; reason = reason_of f field }))
 
 -- this follows from the whole field of a stage, whatever comes
-abbrev pub IsStep : Option (ℕ × ℕ) → Stage → List ℕ → AfterField → Type 0
+abbrev pub IsStep : Option ScreenSize → Stage → List ℕ → AfterField → Type 0
 IsStep expected stage field step = (more : List ℕ)
     → resume expected stage (field ++ more) ≡ say (answer_bytes step.answer) (position_at expected step.position (kept_behind step.position field) more)
 
 -- or this fault
-abbrev pub IsFault : Option (ℕ × ℕ) → Stage → List ℕ → HostFault → Type 0
+abbrev pub IsFault : Option ScreenSize → Stage → List ℕ → HostFault → Type 0
 IsFault expected stage field f = (more : List ℕ) → resume expected stage (field ++ more) ≡ failed f field
 
 -- From a position on, these bytes are answered with these and lead to another position, whatever
 -- comes.
-pub record Leads (expected : Option (ℕ × ℕ)) (old : Position) (before bytes said : List ℕ) (new : Position) (after : List ℕ) : Type 0 where
+pub record Leads (expected : Option ScreenSize) (old : Position) (before bytes said : List ℕ) (new : Position) (after : List ℕ) : Type 0 where
   pub link : (more : List ℕ) → position_at expected old before (bytes ++ more) ≡ say said (position_at expected new after more)
 
 -- They lead to the handshake's end, where this is told.
-pub record Ends (expected : Option (ℕ × ℕ)) (old : Position) (before bytes said : List ℕ) (told : Told) : Type 0 where
+pub record Ends (expected : Option ScreenSize) (old : Position) (before bytes said : List ℕ) (told : Told) : Type 0 where
   pub link : (more : List ℕ) → position_at expected old before (bytes ++ more) ≡ say said (silent (Got told more))
 
 -- They lead to a fault.
-pub record Fails (expected : Option (ℕ × ℕ)) (old : Position) (before bytes said : List ℕ) (f : HostFault) (field : List ℕ) : Type 0 where
+pub record Fails (expected : Option ScreenSize) (old : Position) (before bytes said : List ℕ) (f : HostFault) (field : List ℕ) : Type 0 where
   pub link : (more : List ℕ) → position_at expected old before (bytes ++ more) ≡ say said (failed f field)
 
 -- the field isn't more than whole
 abbrev pub IsWithin : Position → List ℕ → Type 0
 IsWithin (positions.Field stage) kept = length kept ≤ wants_of stage
-IsWithin (positions.Rest width height left) kept = Unit {0}
+IsWithin (positions.Rest size left) kept = Unit {0}
 
 -- the field isn't whole
 abbrev pub IsUnfinished : Position → List ℕ → Type 0
 IsUnfinished (positions.Field stage) kept = length kept < wants_of stage
-IsUnfinished (positions.Rest width height left) kept = 0 < left
+IsUnfinished (positions.Rest size left) kept = 0 < left

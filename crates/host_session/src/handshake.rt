@@ -3,10 +3,12 @@
 ghost use Rattle.std.specs.Prelude.{◌≡◌, ℕ, ◌≤◌, List, [], length, IfOk, IfErr, Option};
 ghost use Rattle.host_session.specs.Stage.{wants_of, IsWithin};
 ghost use Rattle.host_session.specs.Take.{IsTaking, IsTaken, IsRefused};
+ghost use Rattle.terms.specs.declared.screen_size.ScreenSize.{ScreenSize};
 
 use crate::fault::HostFault;
 use crate::stage::{Position, Stage, behind};
 use std::alloc::Global;
+use terms::ScreenSize;
 
 /// Where in the handshake the session stands: what comes next, and the bytes that are kept of it.
 #[derive(Drop)]
@@ -23,19 +25,14 @@ pub enum Taking {
     /// So many bytes are taken.
     Goes(usize),
     /// The handshake is whole behind so many bytes, for a screen of this size.
-    Whole {
-        taken: usize,
-        width: u16,
-        height: u16,
-    },
+    Whole { taken: usize, size: ScreenSize },
 }
 
 /// A handshake that is whole behind so many bytes of a piece, for a screen of this size.
 #[derive(Clone, Copy)]
 pub struct Whole {
     pub taken: usize,
-    pub width: u16,
-    pub height: u16,
+    pub size: ScreenSize,
 }
 
 impl Handshake {
@@ -53,7 +50,7 @@ impl Handshake {
     // Takes bytes of a piece up to the end of a field.
     fn take_in_field(
         &mut self,
-        expected: Option<(u16, u16)>,
+        expected: Option<ScreenSize>,
         stage: Stage,
         piece: &[u8],
         due: &mut Vec<u8>,
@@ -80,30 +77,28 @@ impl Handshake {
     }
 
     // Takes bytes of a piece up to the name's end.
-    fn take_in_rest(&mut self, width: u16, height: u16, left: u32, piece: &[u8]) -> Taking
-        requires position { self.old.position ≡ Position.Rest width height left }
-        ensures taking { (expected : Option (ℕ × ℕ)) → (due : List ℕ)
+    fn take_in_rest(&mut self, size: ScreenSize, left: u32, piece: &[u8]) -> Taking
+        requires position { self.old.position ≡ Position.Rest size left }
+        ensures taking { (expected : Option ScreenSize) → (due : List ℕ)
             → IsTaking expected self.old self.new piece.now due due result }
     {
         if piece.len() < left as usize {
             self.position = Position::Rest {
-                width,
-                height,
+                size,
                 left: left - piece.len() as u32,
             };
             return Taking::Waits;
         }
         Taking::Whole {
             taken: left as usize,
-            width,
-            height,
+            size,
         }
     }
 
     // Takes bytes of a piece up to the end of what comes next.
     fn take_some(
         &mut self,
-        expected: Option<(u16, u16)>,
+        expected: Option<ScreenSize>,
         piece: &[u8],
         due: &mut Vec<u8>,
     ) -> Result<Taking, HostFault>
@@ -115,18 +110,14 @@ impl Handshake {
     {
         match self.position {
             Position::Field(stage) => self.take_in_field(expected, stage, piece, due),
-            Position::Rest {
-                width,
-                height,
-                left,
-            } => Ok(self.take_in_rest(width, height, left, piece)),
+            Position::Rest { size, left } => Ok(self.take_in_rest(size, left, piece)),
         }
     }
 
     /// Takes a piece, up to the handshake's end.
     pub fn take(
         &mut self,
-        expected: Option<(u16, u16)>,
+        expected: Option<ScreenSize>,
         piece: &[u8],
         due: &mut Vec<u8>,
     ) -> Result<Option<Whole>, HostFault>
@@ -141,15 +132,10 @@ impl Handshake {
             match self.take_some(expected, rest, due)? {
                 Taking::Waits => return Ok(None),
                 Taking::Goes(taken) => rest = &rest[taken..],
-                Taking::Whole {
-                    taken,
-                    width,
-                    height,
-                } => {
+                Taking::Whole { taken, size } => {
                     return Ok(Some(Whole {
                         taken: piece.len() - rest.len() + taken,
-                        width,
-                        height,
+                        size,
                     }));
                 }
             }

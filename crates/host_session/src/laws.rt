@@ -6,6 +6,7 @@ ghost use Rattle.host_session.specs.declared.fault.HostFault.{HostFault};
 ghost use Rattle.host_session.specs.Handshake.{Told};
 ghost use Rattle.host_session.specs.Session.{Session, IsAfter, EndsAfter, AreGiven, told_by, reason_in};
 ghost use Rattle.host_session.specs.Conversation.{IsConversation, IsRefusal, AreOfStream};
+ghost use Rattle.terms.specs.declared.screen_size.ScreenSize.{ScreenSize};
 
 /// What a session has given and said is what its stream says, and no more. The size and the name
 /// are told as soon as the handshake is whole.
@@ -32,17 +33,17 @@ pub fn a_stopped_session_follows_its_stream()
 /// A stream is one conversation at most, and none that is refused is one. A stream that is refused
 /// is refused with one fault and one reason.
 pub fn one_conversation()
-    ensures same { (limit : ℕ) → (expected : Option (ℕ × ℕ)) → (stream said answered : List ℕ)
+    ensures same { (limit : ℕ) → (expected : Option ScreenSize) → (stream said answered : List ℕ)
         → (told known : Option Told) → (messages others : List Host)
         → IsConversation limit expected stream told messages said
         → IsConversation limit expected stream known others answered
         → (told ≡ known) × (messages ≡ others) × (said ≡ answered) }
-    ensures not_refused { (limit : ℕ) → (expected : Option (ℕ × ℕ))
+    ensures not_refused { (limit : ℕ) → (expected : Option ScreenSize)
         → (stream said answered reason : List ℕ) → (told known : Option Told)
         → (messages others : List Host) → (f : HostFault)
         → IsConversation limit expected stream told messages said
         → IsRefusal limit expected stream known others answered f reason → ⊥ }
-    ensures one_refusal { (limit : ℕ) → (expected : Option (ℕ × ℕ))
+    ensures one_refusal { (limit : ℕ) → (expected : Option ScreenSize)
         → (stream said answered reason text : List ℕ) → (told known : Option Told)
         → (messages others : List Host) → (f g : HostFault)
         → IsRefusal limit expected stream told messages said f reason

@@ -27,10 +27,9 @@ pub fn listen(
         out.old.items out.new.items due.old.items due.new.items)) }
     ensures some { ListensToSome message_limit reader.old piece.now out.old.items out.new.items }
 {
-    let (width, height) = reader.size();
     let start = out.len();
     let heard = reader.feed(piece, out);
-    write_requests(width, height, &out[start..], due)?;
+    write_requests(reader.size(), &out[start..], due)?;
     if let Err(fault) = heard {
         return Err(HostFault::Wire(fault));
     }

@@ -3,6 +3,7 @@
 ghost use Rattle.std.specs.Prelude.{◌≡◌, ℕ, List, ◌++◌, [], None, IfOk, IfErr, OnOk, Option};
 ghost use Rattle.rfb_wire.specs.Grammar.{message_limit};
 ghost use Rattle.rfb_wire.specs.Host.{Host};
+ghost use Rattle.terms.specs.declared.screen_size.ScreenSize.{ScreenSize};
 
 use crate::fault::HostFault;
 use crate::handshake::Handshake;
@@ -10,6 +11,7 @@ use crate::listening::listen;
 use crate::request::write_first_requests;
 use rfb_wire::{HostMessage, ServerReader};
 use std::alloc::Global;
+use terms::ScreenSize;
 
 /// Where a session stands in the stream: in the handshake, or behind it.
 #[derive(Drop)]
@@ -25,7 +27,7 @@ impl Exchange {
     /// The start of a stream.
     pub fn new(alloc: Global) -> Exchange
         ensures going { IsGoingAt result }
-        ensures stands { (expected : Option (ℕ × ℕ))
+        ensures stands { (expected : Option ScreenSize)
             → StandsAt message_limit expected result [] [] [] }
     {
         Exchange {
@@ -39,7 +41,7 @@ impl Exchange {
     fn take_handshake(
         &mut self,
         alloc: Global,
-        expected: Option<(u16, u16)>,
+        expected: Option<ScreenSize>,
         piece: &[u8],
         due: &mut Vec<u8>,
     ) -> Result<Option<usize>, HostFault>
@@ -53,8 +55,8 @@ impl Exchange {
         let Some(whole) = self.handshake.take(expected, piece, due)? else {
             return Ok(None);
         };
-        write_first_requests(whole.width, whole.height, due)?;
-        self.reader = Some(ServerReader::new(alloc, whole.width, whole.height));
+        write_first_requests(whole.size, due)?;
+        self.reader = Some(ServerReader::new(alloc, whole.size));
         Ok(Some(whole.taken))
     }
 
@@ -63,7 +65,7 @@ impl Exchange {
     pub fn feed(
         &mut self,
         alloc: Global,
-        expected: Option<(u16, u16)>,
+        expected: Option<ScreenSize>,
         piece: &[u8],
         due: &mut Vec<u8>,
         out: &mut Vec<HostMessage>,

@@ -7,36 +7,35 @@ ghost use Rattle.host_session.specs.Session.{requests_after};
 use client_wire::{write_request, write_set_encodings, write_set_pixel_format};
 use pixel_format::PixelFormat;
 use rfb_wire::HostMessage;
-use terms::{Area, NoMemory};
+use terms::{Area, NoMemory, ScreenSize};
 
 // CopyRect, Hextile, RRE and Raw, by their numbers; the host takes the first that it knows.
 const ENCODINGS: [i32; 4] = [1, 5, 2, 0];
 
 // The whole screen.
-fn whole(width: u16, height: u16) -> Area
-    ensures { result ≡ whole_area width height }
+fn whole(size: ScreenSize) -> Area
+    ensures { result ≡ whole_area size.width size.height }
 {
     Area {
         x: 0,
         y: 0,
-        w: width,
-        h: height,
+        w: size.width,
+        h: size.height,
     }
 }
 
 /// Appends a request for what has changed on the whole screen, for each update among messages.
 pub fn write_requests(
-    width: u16,
-    height: u16,
+    size: ScreenSize,
     messages: &[HostMessage],
     out: &mut Vec<u8>,
 ) -> Result<(), NoMemory>
     ensures { OnOk result (out.new.items
-        ≡ out.old.items ++ requests_after width height messages.now) }
+        ≡ out.old.items ++ requests_after size.width size.height messages.now) }
 {
     for message in messages {
         if message.is_update() {
-            write_request(true, whole(width, height), out)?;
+            write_request(true, whole(size), out)?;
         }
     }
     Ok(())
@@ -44,11 +43,11 @@ pub fn write_requests(
 
 /// Appends what is sent once ServerInit is whole: the host format, the encodings, and a request for
 /// the whole screen.
-pub fn write_first_requests(width: u16, height: u16, out: &mut Vec<u8>) -> Result<(), NoMemory>
-    ensures { OnOk result (out.new.items ≡ out.old.items ++ first_requests width height) }
+pub fn write_first_requests(size: ScreenSize, out: &mut Vec<u8>) -> Result<(), NoMemory>
+    ensures { OnOk result (out.new.items ≡ out.old.items ++ first_requests size.width size.height) }
 {
     write_set_pixel_format(&PixelFormat::host(), out)?;
     write_set_encodings(&ENCODINGS, out)?;
-    write_request(false, whole(width, height), out)?;
+    write_request(false, whole(size), out)?;
     Ok(())
 }

@@ -12,7 +12,7 @@ use crate::progress::Exchange;
 use rfb_wire::HostMessage;
 use std::alloc::Global;
 use std::marker::Model;
-use terms::{NoMemory, WireFault};
+use terms::{NoMemory, ScreenSize, WireFault};
 
 // Makes due what was said in a piece, of which this came; nothing of it where memory ran out.
 fn make_due(heard: Result<(), HostFault>, said: &[u8], due: &mut Vec<u8>) -> Result<(), HostFault>
@@ -37,7 +37,7 @@ fn make_due(heard: Result<(), HostFault>, said: &[u8], due: &mut Vec<u8>) -> Res
 #[derive(Drop)]
 pub struct HostSession {
     alloc: Global,
-    expected: Option<(u16, u16)>,
+    expected: Option<ScreenSize>,
     progress: Exchange,
     due: Vec<u8>,
     fault: Option<HostFault>,
@@ -64,7 +64,7 @@ impl Model for HostSession {
 impl HostSession {
     /// A session at the start of a host's stream. Where a size is expected, in places, a host of
     /// another size is refused.
-    pub fn new(alloc: Global, expected: Option<(u16, u16)>) -> HostSession
+    pub fn new(alloc: Global, expected: Option<ScreenSize>) -> HostSession
         ensures after { IsAfter message_limit result [] [] [] }
         ensures due { result.due ≡ [] }
         ensures expected { result.expected ≡ expected }
@@ -134,8 +134,8 @@ impl HostSession {
         Ok(())
     }
 
-    /// The width and height of the host's screen, in places, once its ServerInit is whole.
-    pub fn size(&self) -> Option<(u16, u16)>
+    /// The size of the host's screen, once its ServerInit is whole.
+    pub fn size(&self) -> Option<ScreenSize>
         ensures { result ≡ size_of (told_by self.now.reader self.now.kept) }
     {
         let reader = self.progress.reader.as_ref()?;

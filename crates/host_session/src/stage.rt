@@ -4,9 +4,11 @@ ghost use Rattle.std.specs.Prelude.{◌≡◌, ℕ, ◌+◌, ◌<◌, ◌≤◌,
 ghost use Rattle.host_session.specs.Handshake.{is_expected, offers_security_none, text_limit};
 ghost use Rattle.host_session.specs.Stage.{wants_of, rank_of, answer_bytes, IsStep, IsFault, IsFurther};
 ghost use Rattle.terms.specs.Number.{u32_at};
+ghost use Rattle.terms.specs.declared.screen_size.ScreenSize.{ScreenSize};
 
 use crate::fault::HostFault;
-use terms::{NoMemory, is_size};
+use pixel_format::Format;
+use terms::{NoMemory, ScreenSize};
 
 /// A field of the handshake.
 #[derive(Clone, Copy)]
@@ -23,12 +25,12 @@ pub enum Stage {
     ReasonLength,
     /// A reason of so many bytes, of which the first 1,024 are kept.
     Reason { count: u32 },
-    /// The screen's width and height.
+    /// The screen's size.
     Size,
     /// Of a screen of this size: the host's format, and the name's length.
-    Head { width: u16, height: u16 },
+    Head { size: ScreenSize },
     /// A name of so many bytes, of which the first 1,024 are kept.
-    Name { width: u16, height: u16, count: u32 },
+    Name { size: ScreenSize, count: u32 },
 }
 
 /// What a whole field is answered with.
@@ -48,7 +50,7 @@ pub enum Position {
     /// This field.
     Field(Stage),
     /// Of a screen of this size, so many bytes of the name that aren't kept.
-    Rest { width: u16, height: u16, left: u32 },
+    Rest { size: ScreenSize, left: u32 },
 }
 
 /// What follows from a whole field.
@@ -85,12 +87,12 @@ impl Stage {
 }
 
 // Whether this is the size that is expected, if one is.
-fn expects(expected: Option<(u16, u16)>, width: u16, height: u16) -> bool
-    ensures { result ≡ is_expected expected width height }
+fn expects(expected: Option<ScreenSize>, size: ScreenSize) -> bool
+    ensures { result ≡ is_expected expected size.width size.height }
 {
     match expected {
         None => true,
-        Some((w, h)) => w == width && h == height,
+        Some(wanted) => wanted == size,
     }
 }
 
@@ -134,10 +136,10 @@ fn number_at(field: &[u8], at: usize) -> u32
 // Another version than 003.008 is refused (RFC 6143, section 7.1.1).
 fn behind_version(field: &[u8]) -> Result<AfterField, HostFault>
     requires { length field.now ≡ 12 }
-    ensures goes { IfOk result (λ s. (expected : Option (ℕ × ℕ))
+    ensures goes { IfOk result (λ s. (expected : Option ScreenSize)
         → IsStep expected Stage.Version field.now s) }
     ensures falls { IfOk result (λ s. IsFurther 9 s.position) }
-    ensures faults { IfErr result (λ f. (expected : Option (ℕ × ℕ))
+    ensures faults { IfErr result (λ f. (expected : Option ScreenSize)
         → IsFault expected Stage.Version field.now f) }
 {
     if field != VERSION.as_slice() {
@@ -149,7 +151,7 @@ fn behind_version(field: &[u8]) -> Result<AfterField, HostFault>
 // No security types are followed by a reason (RFC 6143, section 7.1.2).
 fn behind_count(field: &[u8]) -> AfterField
     requires { length field.now ≡ 1 }
-    ensures goes { (expected : Option (ℕ × ℕ)) → IsStep expected Stage.Count field.now result }
+    ensures goes { (expected : Option ScreenSize) → IsStep expected Stage.Count field.now result }
     ensures falls { IsFurther 8 result.position }
 {
     if field[0] == 0 {
@@ -161,10 +163,10 @@ fn behind_count(field: &[u8]) -> AfterField
 // Of the types None is chosen, and the others aren't looked at.
 fn behind_types(count: u8, field: &[u8]) -> Result<AfterField, HostFault>
     requires { length field.now ≡ count }
-    ensures goes { IfOk result (λ s. (expected : Option (ℕ × ℕ))
+    ensures goes { IfOk result (λ s. (expected : Option ScreenSize)
         → IsStep expected (Stage.Types count) field.now s) }
     ensures falls { IfOk result (λ s. IsFurther 7 s.position) }
-    ensures faults { IfErr result (λ f. (expected : Option (ℕ × ℕ))
+    ensures faults { IfErr result (λ f. (expected : Option ScreenSize)
         → IsFault expected (Stage.Types count) field.now f) }
 {
     if !offers(field) {
@@ -176,7 +178,7 @@ fn behind_types(count: u8, field: &[u8]) -> Result<AfterField, HostFault>
 // A failure is followed by a reason (RFC 6143, section 7.1.3), and else ClientInit answers.
 fn behind_outcome(field: &[u8]) -> AfterField
     requires { length field.now ≡ 4 }
-    ensures goes { (expected : Option (ℕ × ℕ))
+    ensures goes { (expected : Option ScreenSize)
         → IsStep expected Stage.Outcome field.now result }
     ensures falls { IsFurther 6 result.position }
 {
@@ -187,35 +189,36 @@ fn behind_outcome(field: &[u8]) -> AfterField
 }
 
 // The limits are judged first, and then the size that is expected.
-fn behind_size(expected: Option<(u16, u16)>, field: &[u8]) -> Result<AfterField, HostFault>
+fn behind_size(expected: Option<ScreenSize>, field: &[u8]) -> Result<AfterField, HostFault>
     requires { length field.now ≡ 4 }
     ensures goes { IfOk result (λ s. IsStep expected Stage.Size field.now s) }
     ensures falls { IfOk result (λ s. IsFurther 5 s.position) }
     ensures faults { IfErr result (λ f. IsFault expected Stage.Size field.now f) }
 {
-    let width = u16::from_be_bytes([field[0], field[1]]);
-    let height = u16::from_be_bytes([field[2], field[3]]);
-    if !is_size(width, height) {
+    let size = ScreenSize {
+        width: u16::from_be_bytes([field[0], field[1]]),
+        height: u16::from_be_bytes([field[2], field[3]]),
+    };
+    if !Format::One.limits().allow(size) {
         return Err(HostFault::TooLarge);
     }
-    if !expects(expected, width, height) {
+    if !expects(expected, size) {
         return Err(HostFault::SizeDiffers);
     }
-    Ok(next(Stage::Head { width, height }))
+    Ok(next(Stage::Head { size }))
 }
 
 // What is beyond the name's first bytes is read over.
-fn behind_name(width: u16, height: u16, count: u32, field: &[u8]) -> AfterField
+fn behind_name(size: ScreenSize, count: u32, field: &[u8]) -> AfterField
     requires { length field.now ≡ min count text_limit }
-    ensures goes { (expected : Option (ℕ × ℕ))
-        → IsStep expected (Stage.Name width height count) field.now result }
+    ensures goes { (expected : Option ScreenSize)
+        → IsStep expected (Stage.Name size count) field.now result }
     ensures falls { IsFurther 3 result.position }
 {
     AfterField {
         answer: Answer::Nothing,
         position: Position::Rest {
-            width,
-            height,
+            size,
             left: count - count.min(TEXT_LIMIT),
         },
     }
@@ -223,7 +226,7 @@ fn behind_name(width: u16, height: u16, count: u32, field: &[u8]) -> AfterField
 
 /// What follows from the whole field of a stage.
 pub fn behind(
-    expected: Option<(u16, u16)>,
+    expected: Option<ScreenSize>,
     stage: Stage,
     field: &[u8],
 ) -> Result<AfterField, HostFault>
@@ -243,16 +246,11 @@ pub fn behind(
         Stage::Reason { .. } => Err(HostFault::Failed),
         Stage::Size => behind_size(expected, field),
         // The host's own format is read over (RFC 6143, section 7.3.2).
-        Stage::Head { width, height } => Ok(next(Stage::Name {
-            width,
-            height,
+        Stage::Head { size } => Ok(next(Stage::Name {
+            size,
             count: number_at(field, 16),
         })),
-        Stage::Name {
-            width,
-            height,
-            count,
-        } => Ok(behind_name(width, height, count, field)),
+        Stage::Name { size, count } => Ok(behind_name(size, count, field)),
     }
 }
 

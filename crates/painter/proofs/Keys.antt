@@ -4,8 +4,11 @@ use Rattle.std.proofs.lemmas.List.{append-nil}
 use Rattle.pixel_format.specs.declared.Color.{Color}
 use Rattle.pixel_format.specs.Format.{Format, host_format, pixel_bytes}
 use Rattle.pixel_format.specs.Pixel.{converted}
+use Rattle.pixel_format.specs.Limits.{limits}
+use Rattle.pixel_format.specs.declared.kind.Format.TheVariants.{One}
 use Rattle.terms.specs.Appending.{Appends}
 use Rattle.terms.specs.declared.area.Area.{Area}
+use Rattle.terms.specs.declared.screen_size.ScreenSize.{ScreenSize}
 use Rattle.pixel_format.specs.Canvas.{Picture, rows_of}
 use Rattle.rect_data.specs.Data.{LiesWithin}
 use Rattle.rect_data.specs.declared.encoding.Encoding.{Encoding}
@@ -75,25 +78,25 @@ no_longer f area colors asked bytes u =
     omega (arith, whole, u.is.short)
 
 -- the whole screen as one message
-abbrev pub whole_update : Framebuffer → ℕ × ℕ → List ℕ → Type 0
-whole_update screen size bytes = AreParts host_format (parts_of host_format screen (screen_parts.Places (whole_area size.0 size.1) encodings.Hextile ∷ [])) bytes
+abbrev pub whole_update : Framebuffer → ScreenSize → List ℕ → Type 0
+whole_update screen size bytes = AreParts host_format (parts_of host_format screen (screen_parts.Places (whole_area size.width size.height) encodings.Hextile ∷ [])) bytes
 
 -- what is appended to nothing stands alone
 alone : (P : List ℕ → Type 0) (empty bytes : List ℕ) → empty ≡ [] → Appends P empty bytes → P bytes
 alone P empty bytes first a = subst P (sym (a.is ∙ ap (λ l. l ++ a.bytes) first)) a.are
 
 -- the same, in the words of the calls that make it
-pub key_made : (screen : Framebuffer) (size : ℕ × ℕ) → size ≡ (screen.width, screen.height) → screen.width * screen.height ≤ 8388608
+pub key_made : (screen : Framebuffer) (size : ScreenSize) → size ≡ record { width = screen.width; height = screen.height } → screen.width * screen.height ≤ (limits One).area
     → AreColorsOf screen (whole_area screen.width screen.height) (area_colors screen (whole_area screen.width screen.height))
     → (empty bytes told : List ℕ) → empty ≡ [] → Appends (whole_update screen size) empty bytes → told ≡ bytes
-    → (m : Host) → ((n : Host) → IsFor message_limit size.0 size.1 n → n.bytes ≡ told → m ≡ n) → IsKey screen.width screen.height (color_at screen) m
+    → (m : Host) → ((n : Host) → IsFor message_limit size.width size.height n → n.bytes ≡ told → m ≡ n) → IsKey screen.width screen.height (color_at screen) m
 key_made screen size is few are empty bytes told first updated are_told m one =
     let area = whole_area screen.width screen.height in
-    let Q : ℕ × ℕ → Type 0 = λ s. whole_update screen s bytes in
+    let Q : ScreenSize → Type 0 = λ s. whole_update screen s bytes in
     let sent = single host_format screen area encodings.Hextile bytes (subst Q is (alone (whole_update screen size) empty bytes first updated)) in
     let update : IsUpdateFor host_format area (area_colors screen area) encodings.Hextile bytes =
     subst (λ l. IsUpdateFor host_format area l encodings.Hextile bytes) (same_colors (area_colors screen area)) sent in
     let short : length bytes ≤ message_limit = omega (arith, no_longer host_format area (area_colors screen area) encodings.Hextile bytes update, few) in
-    let S : ℕ × ℕ → Type 0 = λ s. (n : Host) → IsFor message_limit s.0 s.1 n → n.bytes ≡ told → m ≡ n in
+    let S : ScreenSize → Type 0 = λ s. (n : Host) → IsFor message_limit s.width s.height n → n.bytes ≡ told → m ≡ n in
     let only = subst S is one in
     key_of screen (area_colors screen area) update.is.encoding bytes update.rectangle m are (kind_of update.is.encoding update.is.encoding_is) update.bytes_are update.is.is short (λ n for equal. only n for (equal ∙ sym are_told))

@@ -31,7 +31,7 @@ pub record ReadsRow (pixels : List Pixel) (colors line : List Color) (width w le
 pub row_read : (pixels : List Pixel) (colors line : List Color) (width w left top row h : ℕ) → length colors ≡ h * w → row < h
     → length line ≡ length (take (row * w + w - row * w) (drop (row * w) colors))
     → ((k : ℕ) → k < length (take (row * w + w - row * w) (drop (row * w) colors))
-    → nth line k ≡ pixel_color_at (take ((top + row) * width + left + w - ((top + row) * width + left)) (drop ((top + row) * width + left) pixels)) k)
+    → nth line k ≡ pixel_color_at (take w (drop ((top + row) * width + left) pixels)) k)
     → ((k : ℕ) → k < length (take (row * w + w - row * w) (drop (row * w) colors)) → IsScreenColor (nth line k))
     → ReadsRow pixels colors line width w left top row
 row_read pixels colors line width w left top row h size lt len value screen =

@@ -1,5 +1,5 @@
 -- Rectangles of a screen's colours.
-use Rattle.std.proofs.Common.{zero, suc, ◌≡◌, ℕ, ◌+◌, ◌*◌, ◌/◌, ◌%◌, ◌<◌, List, length, sym, ap, ◌∙◌, arith}
+use Rattle.std.proofs.Common.{zero, suc, ◌≡◌, ℕ, ◌+◌, ◌*◌, ◌/◌, ◌%◌, ◌<◌, List, sym, ap, ◌∙◌, arith}
 use Rattle.std.proofs.Math.Nat.{div-add-mod, mul_comm, mod-lt, div-lt_iff_lt-mul}
 use Rattle.std.proofs.lemmas.List.{ext_get_or}
 use Rattle.pixel_format.specs.declared.Color.{Color}

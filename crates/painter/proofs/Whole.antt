@@ -4,6 +4,7 @@ use Rattle.std.specs.Prelude.{◌↔◌, slice_range}
 use Rattle.pixel_format.specs.Format.{host_format}
 use Rattle.pixel_format.specs.Canvas.{Picture, Agree}
 use Rattle.terms.specs.declared.area.Area.{Area}
+use Rattle.terms.specs.declared.screen_size.ScreenSize.{ScreenSize}
 use Rattle.rect_data.specs.declared.encoding.Encoding.{Encoding}
 use Rattle.rect_data.specs.declared.encoding.Encoding.TheVariants.{Raw, Hextile}
 use Rattle.rect_codec.specs.Picture.{is_in, picture_of, painted_data}
@@ -71,5 +72,5 @@ only_head rectangles [] d is one = absurd (omega arith)
 only_head rectangles (r ∷ []) d is one = sym is
 only_head rectangles (r ∷ (s ∷ read)) d is one = absurd (omega arith)
 
-pub sized : (width height : ℕ) (size : ℕ × ℕ) (r : Rectangle) → size ≡ (width, height) → IsWhole size.0 size.1 r → IsWhole width height r
-sized width height size r is whole = let P : ℕ × ℕ → Type 0 = λ s. IsWhole s.0 s.1 r in subst P is whole
+pub sized : (width height : ℕ) (size : ScreenSize) (r : Rectangle) → size ≡ record { width = width; height = height } → IsWhole size.width size.height r → IsWhole width height r
+sized width height size r is whole = let P : ScreenSize → Type 0 = λ s. IsWhole s.width s.height r in subst P is whole

@@ -6,7 +6,7 @@ ghost use Rattle.pixel_format.specs.Canvas.{nth};
 ghost use Rattle.painter.specs.Pixels.{color_in, pixel_color_at};
 
 use crate::pixel::Pixel;
-use crate::row::color_of_pixel;
+use crate::row::{area_row, color_of_pixel};
 use pixel_format::Color;
 use terms::Area;
 
@@ -30,11 +30,10 @@ pub(crate) fn read_area(pixels: &[Pixel], width: u16, area: Area, colors: &mut [
         ≡ color_in pixels.now width (area.x + x) (area.y + y) }
     ensures screen { (k : ℕ) → k < length colors.old → IsScreenColor (nth colors.new k) }
 {
-    let (width, w) = (usize::from(width), usize::from(area.w));
-    let (left, top) = (usize::from(area.x), usize::from(area.y));
+    let w = usize::from(area.w);
     for row in 0..usize::from(area.h) {
-        let start = (top + row) * width + left;
         let from = row * w;
-        read_row(&pixels[start..start + w], &mut colors[from..from + w]);
+        let places = area_row(pixels, width, area, row);
+        read_row(places, &mut colors[from..from + w]);
     }
 }

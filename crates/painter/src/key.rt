@@ -1,6 +1,8 @@
 //! Key screens: a screen as one message.
 
-ghost use Rattle.std.specs.Prelude.{◌≡◌, ◌↔◌, ◌+◌, ◌*◌, ◌≤◌, ◌^◌, length, IfOk, IsTrue};
+ghost use Rattle.std.specs.Prelude.{◌≡◌, ◌↔◌, ◌+◌, ◌*◌, ◌≤◌, length, IfOk, IsTrue};
+ghost use Rattle.pixel_format.specs.Limits.{limits};
+ghost use Rattle.pixel_format.specs.declared.kind.Format.TheVariants.{One};
 ghost use Rattle.painter.specs.Framebuffer.{SameSize, color_at};
 ghost use Rattle.painter.specs.Key.{IsKey, IsWhole};
 
@@ -9,33 +11,33 @@ use crate::update::ScreenPart;
 use pixel_format::PixelFormat;
 use rfb_wire::{Encoding, HostMessage, Rectangle};
 use std::alloc::{AllocError, Global};
-use terms::{Area, NoMemory};
+use terms::{Area, NoMemory, ScreenSize};
 
 // Whether the rectangle is one of all places of a screen of this size, in an encoding that doesn't
 // look at what stood there.
-fn is_whole(width: u16, height: u16, rectangle: Rectangle) -> bool
-    ensures { IsTrue result ↔ IsWhole width height rectangle }
+fn is_whole(size: ScreenSize, rectangle: Rectangle) -> bool
+    ensures { IsTrue result ↔ IsWhole size.width size.height rectangle }
 {
     let area = rectangle.area;
-    let of_all_places = area.x == 0 && area.y == 0 && area.w == width && area.h == height;
+    let of_all_places = area.x == 0 && area.y == 0 && area.w == size.width && area.h == size.height;
     of_all_places && matches!(rectangle.encoding, Encoding::Raw | Encoding::Hextile)
 }
 
 impl Screen {
     /// An update that paints the screen over whatever stood there (RFC 6143, section 7.6.1): one
     /// rectangle over the whole screen, in Hextile where that is shorter than Raw and else in Raw. It
-    /// has at most 16 bytes and 4 more for each place. It is for a screen of at most 2^23 places.
+    /// has at most 16 bytes and 4 more for each place. It is for a screen within the limits.
     pub fn key(&self, alloc: Global) -> Result<HostMessage, NoMemory>
-        requires { self.now.width * self.now.height ≤ 2 ^ 23 }
+        requires { self.now.width * self.now.height ≤ (limits One).area }
         ensures key { IfOk result (IsKey self.now.width self.now.height (color_at self.now)) }
         ensures short { IfOk result (λ m. length m.bytes ≤ 16 + 4 * (self.now.width * self.now.height)) }
     {
-        let (width, height) = self.size();
+        let size = self.size();
         let area = Area {
             x: 0,
             y: 0,
-            w: width,
-            h: height,
+            w: size.width,
+            h: size.height,
         };
         self.known_colors();
         let places = ScreenPart::Places {
@@ -45,7 +47,7 @@ impl Screen {
         let host = PixelFormat::host();
         let mut bytes = Vec::new(alloc);
         self.append_update(alloc, &host, &[places], &mut bytes)?;
-        match HostMessage::from_bytes(alloc, width, height, &bytes) {
+        match HostMessage::from_bytes(alloc, size, &bytes) {
             Ok(message) => Ok(message),
             Err(_) => Err(AllocError),
         }
@@ -61,9 +63,9 @@ impl Screen {
         ensures size { SameSize self.now other.new }
         ensures is_key { IsTrue result ↔ IsKey self.now.width self.now.height (color_at self.now) message.now }
     {
-        let (width, height) = self.size();
+        let size = self.size();
         let rectangles = message.rectangles();
-        if rectangles.len() != 1 || !is_whole(width, height, rectangles[0]) {
+        if rectangles.len() != 1 || !is_whole(size, rectangles[0]) {
             return false;
         }
         other.paint(message);

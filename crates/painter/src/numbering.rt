@@ -10,7 +10,7 @@ ghost use Rattle.painter.specs.Sent.{seen_colors, seen_area};
 ghost use Rattle.painter.specs.Numbered.{AreNumbersOf, HasNumber};
 
 use crate::pixel::Pixel;
-use crate::row::color_of_pixel;
+use crate::row::{area_row, color_of_pixel};
 use pixel_format::PixelFormat;
 use terms::{Area, NoMemory};
 
@@ -109,13 +109,11 @@ pub(crate) fn number_area(
     requires rows { (area.y + area.h) * width ≤ length pixels.now }
     ensures { OnOk result (Appends (AreNumbersOf format.now (seen_area format.now pixels.now width area area.h)) out.old.items out.new.items) }
 {
-    let (line, w) = (usize::from(width), usize::from(area.w));
-    let (left, top) = (usize::from(area.x), usize::from(area.y));
-    out.reserve(usize::from(area.h) * w)?;
+    out.reserve(usize::from(area.h) * usize::from(area.w))?;
     let mut block = [0; AT_ONCE];
     for row in 0..usize::from(area.h) {
-        let start = (top + row) * line + left;
-        append_row(format, &pixels[start..start + w], &mut block, out)?;
+        let places = area_row(pixels, width, area, row);
+        append_row(format, places, &mut block, out)?;
     }
     Ok(())
 }

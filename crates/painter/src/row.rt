@@ -1,17 +1,30 @@
 //! Pixels of places, one by one and in rows.
 
-ghost use Rattle.std.specs.Prelude.{◌≡◌, ◌<◌, ◌*◌, ℕ, length};
+ghost use Rattle.std.specs.Prelude.{◌≡◌, ◌<◌, ◌≤◌, ◌+◌, ◌*◌, ℕ, length, take, drop};
 ghost use Rattle.pixel_format.specs.Pixel.{host_color, IsScreenColor};
 ghost use Rattle.painter.specs.Pixels.{color_of, pixel_color_at, pixel_at};
 
 use crate::pixel::Pixel;
 use pixel_format::Color;
+use terms::Area;
 
 // How many places of a long row are filled at once.
 const AT_ONCE: usize = 32;
 
 /// How many places a row of a whole Hextile tile has.
 pub(crate) const TILE: usize = 16;
+
+/// The places of a row of an area, counted from its top, among pixels that are kept by rows.
+#[inline(always)]
+pub(crate) fn area_row(pixels: &[Pixel], width: u16, area: Area, row: usize) -> &[Pixel]
+    requires columns { area.x + area.w ≤ width }
+    requires rows { (area.y + area.h) * width ≤ length pixels.now }
+    requires row { row < area.h }
+    ensures { result.now ≡ take area.w (drop ((area.y + row) * width + area.x) pixels.now) }
+{
+    let start = (usize::from(area.y) + row) * usize::from(width) + usize::from(area.x);
+    &pixels[start..start + usize::from(area.w)]
+}
 
 /// The colour of a pixel.
 pub(crate) fn color_of_pixel(pixel: Pixel) -> Color

@@ -26,13 +26,12 @@ use rect_data::source_at;
 use rfb_wire::{Encoding, HostMessage};
 use std::alloc::Global;
 use std::marker::Model;
-use terms::{Area, NoMemory, whole_or_none};
+use terms::{Area, NoMemory, ScreenSize, whole_or_none};
 
 /// A screen: a colour for each of its places. It takes four bytes a place.
 #[derive(Drop)]
 pub struct Screen {
-    width: u16,
-    height: u16,
+    size: ScreenSize,
     // By rows, from the top and the left.
     pixels: Vec<Pixel>,
 }
@@ -44,33 +43,29 @@ impl Model for Screen {
 
     ghost Value = { Framebuffer };
 
-    ghost view = { λ s. record { width = s.width; height = s.height; places = map color_of s.pixels.items } };
+    ghost view = { λ s. record { width = s.size.width; height = s.size.height; places = map color_of s.pixels.items } };
 
-    ghost invariant = { λ s. vec_len s.pixels ≡ s.height * s.width };
+    ghost invariant = { λ s. vec_len s.pixels ≡ s.size.height * s.size.width };
 }
 
 impl Screen {
     /// A screen of this size, black everywhere.
-    pub fn black(alloc: Global, width: u16, height: u16) -> Result<Screen, NoMemory>
-        ensures width { IfOk result (λ screen. screen.width ≡ width) }
-        ensures height { IfOk result (λ screen. screen.height ≡ height) }
+    pub fn black(alloc: Global, size: ScreenSize) -> Result<Screen, NoMemory>
+        ensures width { IfOk result (λ screen. screen.width ≡ size.width) }
+        ensures height { IfOk result (λ screen. screen.height ≡ size.height) }
         ensures black { IfOk result (λ screen. Has screen black) }
         ensures shows { IfOk result (λ screen. Shows screen []) }
     {
-        let places = usize::from(width) * usize::from(height);
+        let places = usize::from(size.width) * usize::from(size.height);
         let pixels = vec![in alloc; BLACK; places]?;
-        Ok(Screen {
-            width,
-            height,
-            pixels,
-        })
+        Ok(Screen { size, pixels })
     }
 
-    /// Its width and height.
-    pub fn size(&self) -> (u16, u16)
-        ensures { result ≡ (self.now.width, self.now.height) }
+    /// Its size.
+    pub fn size(&self) -> ScreenSize
+        ensures { result ≡ record { width = self.now.width; height = self.now.height } }
     {
-        (self.width, self.height)
+        self.size
     }
 
     /// The colour at a place: column x of row y, counted from 0 at the left and the top. Its
@@ -81,7 +76,7 @@ impl Screen {
         ensures value { result ≡ color_at self.now x y }
         ensures screen { IsScreenColor result }
     {
-        let place = usize::from(y) * usize::from(self.width) + usize::from(x);
+        let place = usize::from(y) * usize::from(self.size.width) + usize::from(x);
         color_of_pixel(self.pixels[place])
     }
 
@@ -96,7 +91,7 @@ impl Screen {
         let start = out.len();
         let places = usize::from(area.h) * usize::from(area.w);
         out.resize(start + places, color_of_pixel(BLACK))?;
-        read_area(&self.pixels, self.width, area, &mut out[start..]);
+        read_area(&self.pixels, self.size.width, area, &mut out[start..]);
         Ok(())
     }
 
@@ -105,7 +100,7 @@ impl Screen {
         ensures { (area : Area) → area.x + area.w ≤ self.now.width → area.y + area.h ≤ self.now.height
             → AreColorsOf self.now area (area_colors self.now area) }
     {
-        let _ = &self.width;
+        let _ = &self.size;
     }
 
     /// Appends the pixels of the places of an area, by rows from the top and each from the left (RFC
@@ -123,7 +118,7 @@ impl Screen {
         ensures err { OnErr result (out.new.items ≡ out.old.items) }
     {
         let start = out.len();
-        let appended = append_area(format, &self.pixels, self.width, area, out);
+        let appended = append_area(format, &self.pixels, self.size.width, area, out);
         whole_or_none(appended, start, out)
     }
 
@@ -139,7 +134,7 @@ impl Screen {
         ensures { IfOk result (λ numbers. AreNumbersOf format.now (sent_colors format.now self.now area) numbers.items) }
     {
         let mut numbers = Vec::new(alloc);
-        number_area(format, &self.pixels, self.width, area, &mut numbers)?;
+        number_area(format, &self.pixels, self.size.width, area, &mut numbers)?;
         Ok(numbers)
     }
 
@@ -147,7 +142,7 @@ impl Screen {
     pub fn same(&self, other: &Screen) -> bool
         ensures { IsTrue result ↔ IsSame self.now other.now }
     {
-        self.width == other.width && self.height == other.height && self.pixels == other.pixels
+        self.size == other.size && self.pixels == other.pixels
     }
 
     /// The same screen again.
@@ -156,8 +151,7 @@ impl Screen {
     {
         let pixels = Vec::from_slice(alloc, &self.pixels)?;
         Ok(Screen {
-            width: self.width,
-            height: self.height,
+            size: self.size,
             pixels,
         })
     }
@@ -180,7 +174,7 @@ impl Screen {
         ensures painted { Has self.new (painted_data host_format encoding area bytes.now (color_at self.old)) }
     {
         let host = PixelFormat::host();
-        let width = self.width;
+        let width = self.size.width;
         match encoding {
             Encoding::Raw => paint_raw(&mut self.pixels, width, area, bytes),
             Encoding::CopyRect => {
@@ -237,13 +231,14 @@ impl Canvas for Screen {
     fn fill(&mut self, x: u16, y: u16, w: u16, h: u16, color: Color) {
         fill_area(
             &mut self.pixels,
-            self.width,
+            self.size.width,
             Area { x, y, w, h },
             pixel_of_color(color),
         );
     }
 
     fn host_pixels(&mut self, x: u16, y: u16, w: u16, h: u16, bytes: &[u8]) {
-        paint_raw(&mut self.pixels, self.width, Area { x, y, w, h }, bytes);
+        let area = Area { x, y, w, h };
+        paint_raw(&mut self.pixels, self.size.width, area, bytes);
     }
 }

@@ -11,7 +11,7 @@ ghost use Rattle.rect_codec.specs.Written.{IsPixelOf, ArePixels};
 ghost use Rattle.painter.specs.Sent.{seen_colors, seen_area};
 
 use crate::pixel::Pixel;
-use crate::row::color_of_pixel;
+use crate::row::{area_row, color_of_pixel};
 use pixel_format::{Color, PixelFormat};
 use terms::{Area, NoMemory};
 
@@ -143,13 +143,11 @@ pub(crate) fn append_area(
     ensures ok { OnOk result (Appends (ArePixels format.now (seen_area format.now pixels.now width area area.h)) out.old.items out.new.items) }
     ensures grows { Grows out.old.items out.new.items }
 {
-    let (line, w) = (usize::from(width), usize::from(area.w));
-    let (left, top) = (usize::from(area.x), usize::from(area.y));
-    out.reserve(usize::from(area.h) * w * format.bytes())?;
+    out.reserve(usize::from(area.h) * usize::from(area.w) * format.bytes())?;
     let mut block = [0; 4 * AT_ONCE];
     for row in 0..usize::from(area.h) {
-        let start = (top + row) * line + left;
-        append_row(format, &pixels[start..start + w], &mut block, out)?;
+        let places = area_row(pixels, width, area, row);
+        append_row(format, places, &mut block, out)?;
     }
     Ok(())
 }

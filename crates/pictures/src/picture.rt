@@ -10,7 +10,7 @@ use pixel_format::Color;
 use std::alloc::Global;
 use std::io;
 use std::io::Write;
-use terms::NoMemory;
+use terms::{NoMemory, ScreenSize};
 
 /// The format of a picture file.
 #[derive(Clone, Copy, Debug, PartialEq, Eq)]
@@ -44,11 +44,11 @@ fn four_bytes(n: u32) -> [u8; 4]
 }
 
 // Appends what stands before the pixels of a PPM file.
-fn append_ppm_head(alloc: Global, width: u16, height: u16, out: &mut Vec<u8>) -> io::Result<()>
-    ensures { OnOk result (out.new.items ≡ out.old.items ++ ppm_head width height) }
+fn append_ppm_head(alloc: Global, size: ScreenSize, out: &mut Vec<u8>) -> io::Result<()>
+    ensures { OnOk result (out.new.items ≡ out.old.items ++ ppm_head size.width size.height) }
 {
-    let across = width.to_string(alloc)?;
-    let down = height.to_string(alloc)?;
+    let across = size.width.to_string(alloc)?;
+    let down = size.height.to_string(alloc)?;
     out.extend_from_slice(b"P6\n")?;
     out.extend_from_slice(across.as_bytes())?;
     out.extend_from_slice(b" ")?;
@@ -59,10 +59,10 @@ fn append_ppm_head(alloc: Global, width: u16, height: u16, out: &mut Vec<u8>) ->
 
 // Appends what stands before the pixels of a BMP file: the file's header and BITMAPINFOHEADER.
 // A picture that is longer than its four bytes say is refused.
-fn append_bmp_head(width: u16, height: u16, out: &mut Vec<u8>) -> io::Result<()>
-    ensures { OnOk result (out.new.items ≡ out.old.items ++ bmp_head width height) }
+fn append_bmp_head(size: ScreenSize, out: &mut Vec<u8>) -> io::Result<()>
+    ensures { OnOk result (out.new.items ≡ out.old.items ++ bmp_head size.width size.height) }
 {
-    let pixels = 4 * u64::from(width) * u64::from(height);
+    let pixels = 4 * u64::from(size.width) * u64::from(size.height);
     let Ok(length) = u32::try_from(BMP_HEAD + pixels) else {
         return Err(io::ErrorKind::InvalidInput.into());
     };
@@ -71,8 +71,8 @@ fn append_bmp_head(width: u16, height: u16, out: &mut Vec<u8>) -> io::Result<()>
     out.extend_from_slice(&four_bytes(0))?;
     out.extend_from_slice(&four_bytes(BMP_HEAD as u32))?;
     out.extend_from_slice(&four_bytes(40))?;
-    out.extend_from_slice(&four_bytes(u32::from(width)))?;
-    out.extend_from_slice(&four_bytes(u32::from(height)))?;
+    out.extend_from_slice(&four_bytes(u32::from(size.width)))?;
+    out.extend_from_slice(&four_bytes(u32::from(size.height)))?;
     out.extend_from_slice(&two_bytes(1))?;
     out.extend_from_slice(&two_bytes(32))?;
     out.extend_from_slice(&four_bytes(0))?;
@@ -85,15 +85,14 @@ fn append_bmp_head(width: u16, height: u16, out: &mut Vec<u8>) -> io::Result<()>
 fn append_head(
     alloc: Global,
     format: PictureFormat,
-    width: u16,
-    height: u16,
+    size: ScreenSize,
     out: &mut Vec<u8>,
 ) -> io::Result<()>
-    ensures { OnOk result (out.new.items ≡ out.old.items ++ head_text format width height) }
+    ensures { OnOk result (out.new.items ≡ out.old.items ++ head_text format size.width size.height) }
 {
     match format {
-        PictureFormat::Ppm => append_ppm_head(alloc, width, height, out),
-        PictureFormat::Bmp => append_bmp_head(width, height, out),
+        PictureFormat::Ppm => append_ppm_head(alloc, size, out),
+        PictureFormat::Bmp => append_bmp_head(size, out),
     }
 }
 
@@ -122,8 +121,8 @@ fn append_row(
     requires { y < screen.now.height }
     ensures { OnOk result (out.new.items ≡ out.old.items ++ row_text format (color_at screen.now) y 0 screen.now.width) }
 {
-    let (width, _) = screen.size();
-    for x in 0..width {
+    let size = screen.size();
+    for x in 0..size.width {
         append_pixel(format, screen.color(x, y), out)?;
     }
     Ok(())
@@ -153,13 +152,13 @@ pub fn write_picture<W: Write>(
     ensures { OnOk result (Appends (W.contents out.old) (W.contents out.new)
         (picture_text format screen.now.width screen.now.height (color_at screen.now))) }
 {
-    let (width, height) = screen.size();
+    let size = screen.size();
     let mut row = Vec::new(alloc);
-    append_head(alloc, format, width, height, &mut row)?;
+    append_head(alloc, format, size, &mut row)?;
     out.write_all(&row)?;
-    for place in 0..height {
+    for place in 0..size.height {
         row.clear();
-        append_row(format, screen, row_of(format, height, place), &mut row)?;
+        append_row(format, screen, row_of(format, size.height, place), &mut row)?;
         out.write_all(&row)?;
     }
     Ok(())

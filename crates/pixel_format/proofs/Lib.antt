@@ -4,3 +4,5 @@ pub mod Covering
 pub mod PixelsLaid
 pub mod Eights
 pub mod Numbers
+pub mod Sizes
+pub mod Voting

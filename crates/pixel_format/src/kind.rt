@@ -1,11 +1,63 @@
-//! The formats of a recording.
+//! The formats of a recording, and the limits of what each records.
+
+ghost use Rattle.std.specs.Prelude.{◌≡◌, ◌↔◌, ◌<◌, IsTrue};
+ghost use Rattle.pixel_format.specs.Limits.{limits, IsSize, is_size};
+
+use terms::ScreenSize;
 
 /// The format of a recording, which its header names. It stands down here because the limits of
-/// messages are to go by it too.
+/// screens and messages go by it.
 #[derive(Clone, Copy, Debug, PartialEq, Eq)]
 pub enum Format {
     /// Blocks of numbers and a body.
     One,
-    /// Nothing is written in it so far, and a file of it isn't opened.
+    /// The same, each with a digest that continues the one before it.
     Two,
+}
+
+/// The limits of what a format records.
+#[derive(Clone, Copy, Debug, PartialEq, Eq)]
+pub struct Limits {
+    /// The most places in a row or a column of a screen.
+    pub side: u16,
+    /// The most places of a screen.
+    pub area: u32,
+    /// The most bytes of a host's message.
+    pub message: usize,
+    /// The most bytes of a block's body.
+    pub body: usize,
+    /// How many viewers may watch at a time.
+    pub seats: usize,
+}
+
+impl Format {
+    /// Its limits. Both formats have the same so far: sides to 8,192, an area to 2^23, messages to
+    /// 2^26 bytes, bodies to 2^27 bytes, 64 seats.
+    pub const fn limits(self) -> Limits
+        ensures { result ≡ limits self }
+    {
+        let _ = self;
+        Limits {
+            side: 8192,
+            area: 1 << 23,
+            message: 1 << 26,
+            body: 1 << 27,
+            seats: 64,
+        }
+    }
+}
+
+impl Limits {
+    /// Whether a screen may have this size: at least one place, and its sides and its area within
+    /// the limits.
+    pub fn allow(self, size: ScreenSize) -> bool
+        ensures is { IsTrue result ↔ IsSize self size.width size.height }
+        ensures tested { result ≡ is_size self size.width size.height }
+    {
+        1 <= size.width
+            && size.width <= self.side
+            && 1 <= size.height
+            && size.height <= self.side
+            && u32::from(size.width) * u32::from(size.height) <= self.area
+    }
 }

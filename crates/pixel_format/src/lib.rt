@@ -8,14 +8,18 @@ mod colors;
 mod format;
 mod kind;
 mod laws;
+mod pixels;
 mod runs;
+mod votes;
 
 pub use canvas::Canvas;
 pub use colors::same;
 pub use format::{PixelFormat, host_pixel};
-pub use kind::Format;
+pub use kind::{Format, Limits};
 pub use laws::{valid_formats, written_as_read};
+pub use pixels::Pixels;
 pub use runs::end_of_number;
+pub use votes::most_voted;
 
 /// A colour: how much of red, green and blue, each from 0 to its channel's maximum. A colour of a
 /// screen has channels of at most 255.

@@ -5,6 +5,7 @@ use Rattle.std.proofs.lemmas.Bool.{cases_lt, cases_order, and_parts, ltb-true, l
 use Rattle.std.proofs.Math.Nat.{mul-le-mul_left}
 use Rattle.terms.specs.declared.area.Area.{Area}
 use Rattle.terms.specs.Area.{is_in, HasPlaces, IsSmallest}
+use Rattle.rect_data.specs.Data.{LiesWithin}
 use Rattle.terms.proofs.Areas.{in_is, same_test, or_left, or_right, or_parts, both_true, same_smallest}
 use Rattle.place_sets.specs.Bits.{is_set, is_between, IsFirst}
 use Rattle.place_sets.specs.declared.places.TilePart.{TilePart}
@@ -164,13 +165,14 @@ smallest_around p q a b c is of round =
       ];
     }
 
--- the area round two has places
-pub around_places : (a b c : Area) → HasPlaces a → HasPlaces b → IsSmallest (λ x y. is_in a x y || is_in b x y) c → HasPlaces c
-around_places a b c p q round =
-    let l = in_is c c.x round.left.0 (round.holds_each c.x round.left.0 round.left.1) in
+-- the area round two that lie within these bounds lies within them
+pub around_within : (width height : ℕ) (a b c : Area) → LiesWithin width height a → LiesWithin width height b → IsSmallest (λ x y. is_in a x y || is_in b x y) c → LiesWithin width height c
+around_within width height a b c p q round =
+    let pc = p.columns in
+    let pr = p.rows in
+    let qc = q.columns in
+    let qr = q.rows in
     record {
-      across = omega arith;
-      down = omega arith;
       columns = elim (or_parts (is_in a (c.x + c.w - 1) round.right.0) (is_in b (c.x + c.w - 1) round.right.0) round.right.1) [
         | inl one ↦ (let high = (in_is a (c.x + c.w - 1) round.right.0 one).right in omega arith)
         | inr other ↦ (let high = (in_is b (c.x + c.w - 1) round.right.0 other).right in omega arith)
@@ -180,6 +182,13 @@ around_places a b c p q round =
         | inr other ↦ (let high = (in_is b round.bottom.0 (c.y + c.h - 1) other).bottom in omega arith)
       ];
     }
+
+-- the area round two has places
+pub around_places : (a b c : Area) → HasPlaces a → HasPlaces b → IsSmallest (λ x y. is_in a x y || is_in b x y) c → HasPlaces c
+around_places a b c p q round =
+    let l = in_is c c.x round.left.0 (round.holds_each c.x round.left.0 round.left.1) in
+    let on = around_within 65535 65535 a b c (record { columns = omega (arith, p.columns); rows = omega (arith, p.rows) }) (record { columns = omega (arith, q.columns); rows = omega (arith, q.rows) }) round in
+    record { across = omega arith; down = omega arith; columns = omega (arith, on.columns); rows = omega (arith, on.rows) }
 
 -- the places of the set in the tiles before one
 abbrev pub is_looked_at : PlaceSet → Area → ℕ → ℕ → ℕ → Bool

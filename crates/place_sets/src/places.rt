@@ -8,7 +8,7 @@ use crate::bits::{are_full, first};
 use crate::tiles::{SIDE, fill_area, smallest_in, tile_area, tile_at, tiles_of};
 use std::alloc::Global;
 use std::marker::Model;
-use terms::{Area, NoMemory};
+use terms::{Area, NoMemory, ScreenSize};
 
 const MOST_AREAS: usize = 4096;
 
@@ -23,8 +23,7 @@ pub struct TilePart {
 /// A set of places of a screen. It takes a bit a place, and one a tile of 16 by 16.
 #[derive(Drop)]
 pub struct Places {
-    width: u16,
-    height: u16,
+    size: ScreenSize,
     // Four words a tile: its 16 rows of 16 bits. Tiles by rows from the top, each from the left.
     words: Vec<u64>,
     // A bit a tile: 1 where it may have a place of the set.
@@ -36,26 +35,25 @@ impl Model for Places {
 
     ghost Value = { PlaceSet };
 
-    ghost view = { λ s. places_of s.width s.height s.words.items };
+    ghost view = { λ s. places_of s.size.width s.size.height s.words.items };
 
-    ghost invariant = { λ s. AreTiles s.width s.height s.words.items s.summary.items };
+    ghost invariant = { λ s. AreTiles s.size.width s.size.height s.words.items s.summary.items };
 }
 
 impl Places {
     ghost use Rattle.place_sets.specs.Places.{holds, AreJust, SameSize, tile_count, is_in_tile, is_in_some, IsFirstTile, HasNoTile, HasNone, IsAlone, AreSent};
 
     /// All places of a screen of this size.
-    pub fn all(alloc: Global, width: u16, height: u16) -> Result<Places, NoMemory>
-        ensures width { IfOk result (λ set. set.width ≡ width) }
-        ensures height { IfOk result (λ set. set.height ≡ height) }
+    pub fn all(alloc: Global, size: ScreenSize) -> Result<Places, NoMemory>
+        ensures width { IfOk result (λ set. set.width ≡ size.width) }
+        ensures height { IfOk result (λ set. set.height ≡ size.height) }
         ensures all { IfOk result (λ set. AreJust set (λ x y. true)) }
     {
-        let tiles = tiles_of(height) * tiles_of(width);
+        let tiles = tiles_of(size.height) * tiles_of(size.width);
         let words = vec![in alloc; 0; 4 * tiles]?;
         let summary = vec![in alloc; 0; tiles.div_ceil(64)]?;
         let mut places = Places {
-            width,
-            height,
+            size,
             words,
             summary,
         };
@@ -70,7 +68,7 @@ impl Places {
         ensures just { AreJust self.new
             (λ x y. if is_in area x y then value else holds self.old x y) }
     {
-        let columns = tiles_of(self.width);
+        let columns = tiles_of(self.size.width);
         fill_area(&mut self.words, &mut self.summary, columns, area, value);
     }
 
@@ -91,8 +89,8 @@ impl Places {
         self.insert(Area {
             x: 0,
             y: 0,
-            w: self.width,
-            h: self.height,
+            w: self.size.width,
+            h: self.size.height,
         });
     }
 
@@ -111,7 +109,7 @@ impl Places {
         requires tile { tile < tile_count self.now }
         ensures { IsSmallestOf (is_in_tile self.now tile area) result }
     {
-        let columns = tiles_of(self.width);
+        let columns = tiles_of(self.size.width);
         let Some(part) = area.common(tile_area(tile % columns, tile / columns)) else {
             return None;
         };
@@ -131,7 +129,7 @@ impl Places {
         if area.w == 0 || area.h == 0 {
             return None;
         }
-        let columns = tiles_of(self.width);
+        let columns = tiles_of(self.size.width);
         let end = tile_at(columns, area.x + area.w - 1, area.y + area.h - 1) + 1;
         let mut next = tile_at(columns, area.x, area.y).max(from);
         while next < end {
@@ -151,7 +149,7 @@ impl Places {
         requires { LiesWithin self.now.width self.now.height area }
         ensures { IsTrue result ↔ HasNone self.now area }
     {
-        let w = self.width;
+        let w = self.size.width;
         for row in usize::from(area.y / SIDE)..tiles_of(area.y + area.h) {
             let tiles = Area {
                 w,
@@ -170,7 +168,7 @@ impl Places {
     pub fn known(&self)
         ensures { length self.now.places ≡ self.now.height * self.now.width }
     {
-        let _ = &self.width;
+        let _ = &self.size;
     }
 
     // Whether a place of the set stands on each edge of an area. It looks no further than that.
@@ -178,7 +176,7 @@ impl Places {
         requires { LiesWithin self.now.width self.now.height area }
         ensures { result ≡ true → IsSmallest (λ x y. is_in area x y && holds self.now x y) area }
     {
-        if self.width == 0 || area.w == 0 || area.h == 0 {
+        if self.size.width == 0 || area.w == 0 || area.h == 0 {
             return false;
         }
         let row = Area { h: 1, ..area };

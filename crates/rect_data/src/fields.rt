@@ -3,14 +3,15 @@
 ghost use Rattle.std.specs.Prelude.{◌≡◌, length};
 ghost use Rattle.rect_data.specs.Grammar.{source_of, is_inside};
 
-use terms::Area;
+use terms::{Area, ScreenSize};
 
 /// Whether the area lies within a screen of this size.
 #[tactic(auto, unfolding(crate::specs::Grammar::is_inside))]
-pub fn lies_inside(area: Area, width: u16, height: u16) -> bool
-    ensures { result ≡ is_inside width height area }
+pub fn lies_inside(area: Area, size: ScreenSize) -> bool
+    ensures { result ≡ is_inside size.width size.height area }
 {
-    area.x as u32 + area.w as u32 <= width as u32 && area.y as u32 + area.h as u32 <= height as u32
+    area.x as u32 + area.w as u32 <= size.width as u32
+        && area.y as u32 + area.h as u32 <= size.height as u32
 }
 
 /// The area that is copied to a rectangle of this area: x and y stand in four bytes, the higher

@@ -8,7 +8,7 @@ ghost use Rattle.rect_data.specs.Judging.{wants_of, resume, go_on, HasBytes};
 use crate::encoding::Encoding;
 use crate::fields::{lies_inside, source_at};
 use pixel_format::PixelFormat;
-use terms::{Area, WireFault};
+use terms::{Area, ScreenSize, WireFault};
 
 /// Which field of a rectangle's data comes next: what stands for the part that is judged. Data that
 /// come in pieces are judged by taking [`wants`](Judging::wants) bytes for each
@@ -164,21 +164,20 @@ impl Judging {
     pub fn step(
         self,
         format: &PixelFormat,
-        width: u16,
-        height: u16,
+        size: ScreenSize,
         field: &[u8],
     ) -> Result<Option<Judging>, WireFault>
         requires { length field.now ≡ wants_of format.now self }
         ensures goes { IfOk result (λ next. (more : List ℕ)
-            → resume format.now width height self (field.now ++ more) ≡ go_on format.now width height next more) }
+            → resume format.now size.width size.height self (field.now ++ more) ≡ go_on format.now size.width size.height next more) }
         ensures some { IfOk result (HasBytes format.now) }
         ensures refused { IfErr result (λ fault. (more : List ℕ)
-            → resume format.now width height self (field.now ++ more) ≡ Bad fault) }
+            → resume format.now size.width size.height self (field.now ++ more) ≡ Bad fault) }
     {
         match self {
             Judging::Pixels(_) => Ok(None),
             Judging::Source(area) => {
-                if !lies_inside(source_at(area, field), width, height) {
+                if !lies_inside(source_at(area, field), size) {
                     return Err(WireFault::SourceOutside);
                 }
                 Ok(None)
@@ -194,16 +193,15 @@ impl Judging {
     pub fn run(
         self,
         format: &PixelFormat,
-        width: u16,
-        height: u16,
+        size: ScreenSize,
         bytes: &[u8],
     ) -> Result<(usize, Option<Judging>), WireFault>
         ensures taken { IfOk result (λ x. x.0 ≤ length bytes.now) }
         ensures goes { IfOk result (λ x. (more : List ℕ)
-            → resume format.now width height self (take x.0 bytes.now ++ more) ≡ go_on format.now width height x.1 more) }
+            → resume format.now size.width size.height self (take x.0 bytes.now ++ more) ≡ go_on format.now size.width size.height x.1 more) }
         ensures waits { IfOk result (λ x. IfSome x.1 (λ next. length bytes.now < x.0 + wants_of format.now next)) }
         ensures refused { IfErr result (λ fault. (more : List ℕ)
-            → resume format.now width height self (bytes.now ++ more) ≡ Bad fault) }
+            → resume format.now size.width size.height self (bytes.now ++ more) ≡ Bad fault) }
     {
         match self {
             Judging::Pixels(_) => {
@@ -218,7 +216,7 @@ impl Judging {
                     return Ok((0, Some(self)));
                 }
                 let (place, _) = bytes.split_at(4);
-                if !lies_inside(source_at(area, place), width, height) {
+                if !lies_inside(source_at(area, place), size) {
                     return Err(WireFault::SourceOutside);
                 }
                 Ok((4, None))

@@ -9,7 +9,7 @@ ghost use Rattle.rect_data.specs.Data.{AreData};
 use crate::encoding::Encoding;
 use crate::fields::{lies_inside, source_at};
 use pixel_format::PixelFormat;
-use terms::{Area, WireFault};
+use terms::{Area, ScreenSize, WireFault};
 
 // The length of Raw data.
 fn measure_raw(format: &PixelFormat, area: Area, bytes: &[u8]) -> Option<usize>
@@ -23,18 +23,13 @@ fn measure_raw(format: &PixelFormat, area: Area, bytes: &[u8]) -> Option<usize>
 }
 
 // The length of CopyRect data.
-fn measure_copy(
-    width: u16,
-    height: u16,
-    area: Area,
-    bytes: &[u8],
-) -> Result<Option<usize>, WireFault>
-    ensures { result ≡ measured (length bytes.now) (copy_at width height area bytes.now) }
+fn measure_copy(size: ScreenSize, area: Area, bytes: &[u8]) -> Result<Option<usize>, WireFault>
+    ensures { result ≡ measured (length bytes.now) (copy_at size.width size.height area bytes.now) }
 {
     if bytes.len() < 4 {
         return Ok(None);
     }
-    if !lies_inside(source_at(area, &bytes[..4]), width, height) {
+    if !lies_inside(source_at(area, &bytes[..4]), size) {
         return Err(WireFault::SourceOutside);
     }
     Ok(Some(4))
@@ -71,18 +66,17 @@ fn measure_hextile(
 /// that is refused: `BadRre`, `BadHextile`, or `SourceOutside`. It takes no memory.
 pub fn measure(
     format: &PixelFormat,
-    width: u16,
-    height: u16,
+    size: ScreenSize,
     encoding: Encoding,
     area: Area,
     bytes: &[u8],
 ) -> Result<Option<usize>, WireFault>
-    ensures value { result ≡ measured (length bytes.now) (data_at format.now width height encoding area bytes.now) }
-    ensures whole { IfOk result (λ o. IfSome o (λ n. (n ≤ length bytes.now) × AreData format.now width height encoding area (take n bytes.now))) }
+    ensures value { result ≡ measured (length bytes.now) (data_at format.now size.width size.height encoding area bytes.now) }
+    ensures whole { IfOk result (λ o. IfSome o (λ n. (n ≤ length bytes.now) × AreData format.now size.width size.height encoding area (take n bytes.now))) }
 {
     match encoding {
         Encoding::Raw => Ok(measure_raw(format, area, bytes)),
-        Encoding::CopyRect => measure_copy(width, height, area, bytes),
+        Encoding::CopyRect => measure_copy(size, area, bytes),
         Encoding::Rre => measure_rre(format, area, bytes),
         Encoding::Hextile => measure_hextile(format, area, bytes),
     }

@@ -3,6 +3,8 @@
 -- that is met.
 use Rattle.std.specs.Prelude.{ℕ, nat_lt, zero, suc, ◌+◌, ◌-◌, ◌*◌, List, [], ◌∷◌, length, slice_index, nat_eq, Option, Some, None, if◌then◌else◌}
 use Rattle.pixel_format.specs.Format.{host_format}
+use Rattle.pixel_format.specs.Limits.{limits}
+use Rattle.pixel_format.specs.declared.kind.Format.TheVariants.{One}
 use Rattle.terms.specs.Reading.{Reading, Got, Bad, ◌>>=◌, field, guard, within}
 use Rattle.terms.specs.Number.{u16_at, u32_at}
 use Rattle.terms.specs.declared.area.Area.{Area}
@@ -98,4 +100,4 @@ message_at limit width height bytes = field 1 bytes >>= λ type rest.
 
 -- the greatest number of bytes of an update
 abbrev pub message_limit : ℕ
-message_limit = 67108864
+message_limit = (limits One).message

@@ -7,7 +7,7 @@ use crate::reader::ServerReader;
 use rect_data::Encoding;
 use std::alloc::Global;
 use std::marker::Model;
-use terms::{Area, NoMemory, WireFault};
+use terms::{Area, NoMemory, ScreenSize, WireFault};
 
 /// A rectangle of an update: its area of the screen, and where in the message's bytes its data
 /// begin and end.
@@ -23,8 +23,7 @@ pub struct Rectangle {
 /// they came and, for an update, where its rectangles stand in them.
 #[derive(Drop)]
 pub struct HostMessage {
-    width: u16,
-    height: u16,
+    size: ScreenSize,
     bytes: Vec<u8>,
     rectangles: Vec<Rectangle>,
 }
@@ -38,13 +37,13 @@ impl Model for HostMessage {
     ghost view = { λ m. record {
       bytes = m.bytes.items;
       rectangles = m.rectangles.items;
-      width = m.width;
-      height = m.height;
+      width = m.size.width;
+      height = m.size.height;
     } };
 
     ghost invariant = { λ m. IsRecorded message_limit (record {
-      width = m.width;
-      height = m.height;
+      width = m.size.width;
+      height = m.size.height;
       bytes = m.bytes.items;
       rectangles = m.rectangles.items;
     }) };
@@ -61,17 +60,15 @@ impl HostMessage {
 
     // The message whose parts these are.
     pub(crate) fn from_parts(
-        width: u16,
-        height: u16,
+        size: ScreenSize,
         bytes: Vec<u8>,
         rectangles: Vec<Rectangle>,
     ) -> HostMessage
-        requires { IsRecorded message_limit (host_of width height bytes.items rectangles.items) }
-        ensures { result ≡ host_of width height bytes.items rectangles.items }
+        requires { IsRecorded message_limit (host_of size.width size.height bytes.items rectangles.items) }
+        ensures { result ≡ host_of size.width size.height bytes.items rectangles.items }
     {
         HostMessage {
-            width,
-            height,
+            size,
             bytes,
             rectangles,
         }
@@ -81,22 +78,21 @@ impl HostMessage {
     /// one recorded message, the fault is that of a reader which is fed them, else `NotOne`.
     pub fn from_bytes(
         alloc: Global,
-        width: u16,
-        height: u16,
+        size: ScreenSize,
         bytes: &[u8],
     ) -> Result<HostMessage, BytesFault>
-        ensures ok { IfOk result (λ m. IsFor message_limit width height m × (m.bytes ≡ bytes.now)) }
+        ensures ok { IfOk result (λ m. IsFor message_limit size.width size.height m × (m.bytes ≡ bytes.now)) }
         // What is one message is read as that message.
-        ensures whole { (m : Host) → IsFor message_limit width height m → m.bytes ≡ bytes.now
+        ensures whole { (m : Host) → IsFor message_limit size.width size.height m → m.bytes ≡ bytes.now
             → MatchResult result (λ n. n ≡ m) (λ f. f ≡ BytesFault.Wire WireFault.NoMemory) }
         ensures not_one { result ≡ Err BytesFault.NotOne → (m : Host)
-            → IsFor message_limit width height m → m.bytes ≡ bytes.now → ⊥ }
+            → IsFor message_limit size.width size.height m → m.bytes ≡ bytes.now → ⊥ }
         ensures no_fault { result ≡ Err BytesFault.NotOne → (f : WireFault)
-            → FaultOf (message_at message_limit width height) bytes.now f → ⊥ }
+            → FaultOf (message_at message_limit size.width size.height) bytes.now f → ⊥ }
         ensures wire { (f : WireFault) → result ≡ Err (BytesFault.Wire f)
-            → UnlessMemory f (FaultOf (message_at message_limit width height) bytes.now f) }
+            → UnlessMemory f (FaultOf (message_at message_limit size.width size.height) bytes.now f) }
     {
-        let mut reader = ServerReader::new(alloc, width, height);
+        let mut reader = ServerReader::new(alloc, size);
         let mut messages = Vec::new(alloc);
         if reader.reserve(bytes.len()).is_err() {
             return Err(BytesFault::Wire(WireFault::NoMemory));
@@ -120,11 +116,11 @@ impl HostMessage {
         &self.bytes
     }
 
-    /// The width and height of the screen that the message is for.
-    pub fn size(&self) -> (u16, u16)
-        ensures { result ≡ (self.now.width, self.now.height) }
+    /// The size of the screen that the message is for.
+    pub fn size(&self) -> ScreenSize
+        ensures { result ≡ record { width = self.now.width; height = self.now.height } }
     {
-        (self.width, self.height)
+        self.size
     }
 
     /// Whether the message is a FramebufferUpdate (RFC 6143, section 7.6.1).
@@ -146,7 +142,7 @@ impl HostMessage {
         ensures parts { IsTrue result ↔ ((self.now.width ≡ other.now.width)
             × (self.now.height ≡ other.now.height) × (self.now.bytes ≡ other.now.bytes)) }
     {
-        self.width == other.width && self.height == other.height && self.bytes == other.bytes
+        self.size == other.size && self.bytes == other.bytes
     }
 
     /// Does nothing: its contract is what the type keeps.
@@ -154,7 +150,7 @@ impl HostMessage {
         ensures recorded { IsRecorded message_limit self.now }
         ensures short { length self.now.bytes ≤ message_limit }
     {
-        let _ = &self.width;
+        let _ = &self.size;
     }
 
     /// The rectangles of an update, in their order; none of another message. Each lies within the
@@ -174,8 +170,7 @@ impl HostMessage {
         let bytes = Vec::from_slice(alloc, self.bytes())?;
         let rectangles = Vec::from_slice(alloc, self.rectangles())?;
         Ok(HostMessage {
-            width: self.width,
-            height: self.height,
+            size: self.size,
             bytes,
             rectangles,
         })

@@ -6,12 +6,12 @@ ghost use Rattle.rfb_wire.specs.Grammar.{rectangle_at, rectangles_at, update_at,
 ghost use Rattle.rfb_wire.specs.Plain.{Says, SaysMessage, kind_of};
 
 use crate::message::{HostMessage, Rectangle};
-use crate::progress::MESSAGE_LIMIT;
+use crate::progress::message_limit;
 use crate::step::{TEXT_LIMIT, judge_header};
 use pixel_format::PixelFormat;
 use rect_data::measure;
 use std::alloc::Global;
-use terms::{WireFault, field};
+use terms::{ScreenSize, WireFault, field};
 
 /// The message that bytes begin with.
 #[derive(Drop)]
@@ -24,22 +24,21 @@ pub enum Front {
 
 // The rectangle that the bytes begin with, at a place of its message, and the bytes behind it.
 fn rectangle(
-    width: u16,
-    height: u16,
+    size: ScreenSize,
     at: usize,
     bytes: &[u8],
 ) -> Result<Option<(Rectangle, &[u8])>, WireFault>
     requires { at + length bytes.now ≤ message_limit }
-    ensures says { Says (λ x. x.0) (λ x. x.1.now) result (rectangle_at width height at bytes.now) }
+    ensures says { Says (λ x. x.0) (λ x. x.1.now) result (rectangle_at size.width size.height at bytes.now) }
     ensures ends { IfOk result (λ o. IfSome o (λ x.
         x.0.end + length x.1.now ≡ at + length bytes.now)) }
 {
     let Some((header, rest)) = field(12, bytes) else {
         return Ok(None);
     };
-    let (area, encoding) = judge_header(width, height, header)?;
+    let (area, encoding) = judge_header(size, header)?;
     let start = at + 12;
-    let length = match measure(&PixelFormat::host(), width, height, encoding, area, rest) {
+    let length = match measure(&PixelFormat::host(), size, encoding, area, rest) {
         Ok(Some(length)) => length,
         Ok(None) => return Ok(None),
         Err(fault) => return Err(fault),
@@ -56,20 +55,19 @@ fn rectangle(
 // So many rectangles behind the head of an update, and the bytes behind them.
 fn rectangles(
     alloc: Global,
-    width: u16,
-    height: u16,
+    size: ScreenSize,
     count: u16,
     bytes: &[u8],
 ) -> Result<Option<(Vec<Rectangle>, &[u8])>, WireFault>
     requires { 4 + length bytes.now ≤ message_limit }
     ensures { Says (λ x. x.0.items) (λ x. x.1.now) result
-        (rectangles_at width height count 4 bytes.now) }
+        (rectangles_at size.width size.height count 4 bytes.now) }
 {
     let mut found = Vec::new(alloc);
     let mut at = 4;
     let mut rest = bytes;
     for _ in 0..count {
-        let Some((next, behind)) = rectangle(width, height, at, rest)? else {
+        let Some((next, behind)) = rectangle(size, at, rest)? else {
             return Ok(None);
         };
         found.push(next)?;
@@ -82,13 +80,12 @@ fn rectangles(
 // The rectangles of the update that the bytes begin with, and the bytes behind it.
 fn update(
     alloc: Global,
-    width: u16,
-    height: u16,
+    size: ScreenSize,
     bytes: &[u8],
 ) -> Result<Option<(Vec<Rectangle>, &[u8])>, WireFault>
     requires { length bytes.now ≤ message_limit }
     ensures { Says (λ x. Recorded x.0.items) (λ x. x.1.now) result
-        (update_at width height bytes.now) }
+        (update_at size.width size.height bytes.now) }
 {
     let Some((_, head)) = field(1, bytes) else {
         return Ok(None);
@@ -97,7 +94,7 @@ fn update(
         return Ok(None);
     };
     let count = u16::from_be_bytes([numbers[1], numbers[2]]);
-    rectangles(alloc, width, height, count, body)
+    rectangles(alloc, size, count, body)
 }
 
 // The bytes behind a colour map, of which these follow the type.
@@ -144,26 +141,22 @@ fn other(kind: u8, bytes: &[u8]) -> Result<Option<(bool, &[u8])>, WireFault>
 }
 
 // The update that the bytes begin with, whose type is read.
-fn update_message(
-    alloc: Global,
-    width: u16,
-    height: u16,
-    bytes: &[u8],
-) -> Result<Option<Front>, WireFault>
+fn update_message(alloc: Global, size: ScreenSize, bytes: &[u8]) -> Result<Option<Front>, WireFault>
     requires some { 0 < length bytes.now }
     requires kind { slice_index bytes.now 0 ≡ 0 }
-    ensures { SaysMessage message_limit width height bytes.now result
-        (message_at message_limit width height bytes.now) }
+    ensures { SaysMessage message_limit size.width size.height bytes.now result
+        (message_at message_limit size.width size.height bytes.now) }
 {
-    let front = &bytes[..bytes.len().min(MESSAGE_LIMIT)];
-    let Some((rectangles, rest)) = update(alloc, width, height, front)? else {
-        if bytes.len() > MESSAGE_LIMIT {
+    let limit = message_limit();
+    let front = &bytes[..bytes.len().min(limit)];
+    let Some((rectangles, rest)) = update(alloc, size, front)? else {
+        if bytes.len() > limit {
             return Err(WireFault::TooLong);
         }
         return Ok(None);
     };
     let whole = Vec::from_slice(alloc, &front[..front.len() - rest.len()])?;
-    let message = HostMessage::from_parts(width, height, whole, rectangles);
+    let message = HostMessage::from_parts(size, whole, rectangles);
     Ok(Some(Front::Recorded(message)))
 }
 
@@ -172,18 +165,17 @@ fn update_message(
 /// `ServerReader` takes them in pieces.
 pub fn read_message(
     alloc: Global,
-    width: u16,
-    height: u16,
+    size: ScreenSize,
     bytes: &[u8],
 ) -> Result<Option<Front>, WireFault>
-    ensures { SaysMessage message_limit width height bytes.now result
-        (message_at message_limit width height bytes.now) }
+    ensures { SaysMessage message_limit size.width size.height bytes.now result
+        (message_at message_limit size.width size.height bytes.now) }
 {
     let Some((kind, rest)) = field(1, bytes) else {
         return Ok(None);
     };
     if kind[0] == 0 {
-        return update_message(alloc, width, height, bytes);
+        return update_message(alloc, size, bytes);
     }
     let Some((recorded, behind)) = other(kind[0], rest)? else {
         return Ok(None);
@@ -193,6 +185,6 @@ pub fn read_message(
         return Ok(Some(Front::ReadOver(length)));
     }
     let whole = Vec::from_slice(alloc, &bytes[..length])?;
-    let message = HostMessage::from_parts(width, height, whole, Vec::new(alloc));
+    let message = HostMessage::from_parts(size, whole, Vec::new(alloc));
     Ok(Some(Front::Recorded(message)))
 }

@@ -9,18 +9,17 @@ ghost use Rattle.rfb_wire.specs.Grammar.{message_at, message_limit};
 ghost use Rattle.rfb_wire.specs.Stream.{given};
 
 use crate::message::HostMessage;
-use crate::progress::{MESSAGE_LIMIT, PartialMessage};
+use crate::progress::{PartialMessage, message_limit};
 use std::alloc::Global;
 use std::marker::Model;
-use terms::{NoMemory, WireFault};
+use terms::{NoMemory, ScreenSize, WireFault};
 
 /// Reads a host's messages from its stream, which comes in pieces of any length (RFC 6143, section
 /// 7.6), for a screen of one size. Each byte is looked at once, and memory is taken for bytes that
 /// have come alone.
 #[derive(Drop)]
 pub struct ServerReader {
-    width: u16,
-    height: u16,
+    size: ScreenSize,
     alloc: Global,
     progress: PartialMessage,
     fault: Option<WireFault>,
@@ -35,8 +34,8 @@ impl Model for ServerReader {
     ghost Value = { Reader };
 
     ghost view = { λ r. record {
-      width = r.width;
-      height = r.height;
+      width = r.size.width;
+      height = r.size.height;
       kept = r.progress.bytes.items;
       passed = passed_in r.progress.over;
       room = vec_capacity r.progress.bytes;
@@ -44,36 +43,37 @@ impl Model for ServerReader {
       fault = r.fault;
     } };
 
-    ghost invariant = { λ r. IsAt message_limit r.width r.height r.progress };
+    ghost invariant = { λ r. IsAt message_limit r.size.width r.size.height r.progress };
 }
 
 impl ServerReader {
     /// A reader at the start of a stream, for a screen of this size.
-    pub fn new(alloc: Global, width: u16, height: u16) -> ServerReader
+    pub fn new(alloc: Global, size: ScreenSize) -> ServerReader
         ensures { result
-            ≡ record { width = width; height = height; kept = []; passed = 0; room = 0; places = 0; fault = None } }
+            ≡ record { width = size.width; height = size.height; kept = []; passed = 0; room = 0; places = 0; fault = None } }
     {
         ServerReader {
-            width,
-            height,
+            size,
             alloc,
             progress: PartialMessage::new(alloc),
             fault: None,
         }
     }
 
-    /// The width and height of the screen.
-    pub fn size(&self) -> (u16, u16)
-        ensures { result ≡ (self.now.width, self.now.height) }
+    /// The size of the screen.
+    pub fn size(&self) -> ScreenSize
+        ensures { result ≡ record { width = self.now.width; height = self.now.height } }
     {
-        (self.width, self.height)
+        self.size
     }
 
     // Takes room for so many bytes of the message that comes, or as many as a message may have.
     pub(crate) fn reserve(&mut self, room: usize) -> Result<(), NoMemory>
         ensures { self.new ≡ record self.old { room = self.new.room } }
     {
-        self.progress.bytes.reserve_exact(room.min(MESSAGE_LIMIT))?;
+        self.progress
+            .bytes
+            .reserve_exact(room.min(message_limit()))?;
         Ok(())
     }
 
@@ -123,9 +123,7 @@ impl ServerReader {
         if let Some(fault) = self.fault {
             return Err(fault);
         }
-        let read = self
-            .progress
-            .read(self.alloc, self.width, self.height, piece, out);
+        let read = self.progress.read(self.alloc, self.size, piece, out);
         if let Err(fault) = read {
             self.fault = Some(fault);
             self.progress = PartialMessage::new(self.alloc);

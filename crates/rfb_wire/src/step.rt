@@ -15,7 +15,7 @@ use crate::message::Rectangle;
 use crate::progress::{AfterField, Begun, Next, Stage};
 use pixel_format::PixelFormat;
 use rect_data::{Encoding, Judging, lies_inside};
-use terms::{Area, WireFault};
+use terms::{Area, ScreenSize, WireFault};
 
 /// The greatest number of bytes of a text that is recorded.
 pub const TEXT_LIMIT: u32 = 65_536;
@@ -46,13 +46,13 @@ fn encoding_at(header: &[u8]) -> u32
 
 /// The area and the encoding that the header of a rectangle names. An area that leaves the screen is
 /// refused, and then an encoding that isn't known.
-pub fn judge_header(width: u16, height: u16, header: &[u8]) -> Result<(Area, Encoding), WireFault>
+pub fn judge_header(size: ScreenSize, header: &[u8]) -> Result<(Area, Encoding), WireFault>
     requires { length header.now ≡ 12 }
-    ensures ok { IfOk result (λ x. Names width height header.now x.0 x.1) }
-    ensures faults { IfErr result (IsRefusedBy width height header.now) }
+    ensures ok { IfOk result (λ x. Names size.width size.height header.now x.0 x.1) }
+    ensures faults { IfErr result (IsRefusedBy size.width size.height header.now) }
 {
     let area = area_at(header);
-    if !lies_inside(area, width, height) {
+    if !lies_inside(area, size) {
         return Err(WireFault::OutsideScreen);
     }
     let number = encoding_at(header);
@@ -224,8 +224,7 @@ fn next_data(at: usize, begun: Begun, next: Option<Judging>, others: u16) -> Aft
 
 // Behind a field of a rectangle's data, which is whole.
 fn behind_content(
-    width: u16,
-    height: u16,
+    size: ScreenSize,
     field: &[u8],
     at: usize,
     begun: Begun,
@@ -235,13 +234,13 @@ fn behind_content(
     requires whole { length field.now ≡ judging.wants_of host_format current }
     requires short { at + length field.now ≤ message_limit }
     ensures goes { IfOk result (λ s. (more : List ℕ)
-        → resume width height (Stage.Data at begun current others) (field.now ++ more) ≡ step_on width height s more) }
+        → resume size.width size.height (Stage.Data at begun current others) (field.now ++ more) ≡ step_on size.width size.height s more) }
     ensures begins { IfOk result (λ s. NextBegins (at + length field.now) s.next) }
     ensures kind { IfOk result (λ s. (bytes : List ℕ) → IsOfUpdate bytes → NextIsOfKind s.next bytes) }
     ensures faults { IfErr result (λ f. (more : List ℕ)
-        → resume width height (Stage.Data at begun current others) (field.now ++ more) ≡ Bad f) }
+        → resume size.width size.height (Stage.Data at begun current others) (field.now ++ more) ≡ Bad f) }
 {
-    match current.step(&PixelFormat::host(), width, height, field) {
+    match current.step(&PixelFormat::host(), size, field) {
         Ok(next) => Ok(next_data(at + field.len(), begun, next, others)),
         Err(fault) => Err(fault),
     }
@@ -250,8 +249,7 @@ fn behind_content(
 /// What follows from the whole fields of a rectangle's data that the bytes begin with, and how many
 /// bytes these have.
 pub fn run(
-    width: u16,
-    height: u16,
+    size: ScreenSize,
     at: usize,
     begun: Begun,
     current: Judging,
@@ -261,13 +259,13 @@ pub fn run(
     requires { at + length bytes.now ≤ message_limit }
     ensures taken { IfOk result (λ x. x.0 ≤ length bytes.now) }
     ensures goes { IfOk result (λ x. (more : List ℕ)
-        → resume width height (Stage.Data at begun current others) (take x.0 bytes.now ++ more) ≡ step_on width height x.1 more) }
+        → resume size.width size.height (Stage.Data at begun current others) (take x.0 bytes.now ++ more) ≡ step_on size.width size.height x.1 more) }
     ensures begins { IfOk result (λ x. NextBegins (at + x.0) x.1.next) }
     ensures kind { IfOk result (λ x. (b : List ℕ) → IsOfUpdate b → NextIsOfKind x.1.next b) }
     ensures faults { IfErr result (λ f. (more : List ℕ)
-        → resume width height (Stage.Data at begun current others) (bytes.now ++ more) ≡ Bad f) }
+        → resume size.width size.height (Stage.Data at begun current others) (bytes.now ++ more) ≡ Bad f) }
 {
-    match current.run(&PixelFormat::host(), width, height, bytes) {
+    match current.run(&PixelFormat::host(), size, bytes) {
         Ok((taken, next)) => Ok((taken, next_data(at + taken, begun, next, others))),
         Err(fault) => Err(fault),
     }
@@ -275,8 +273,7 @@ pub fn run(
 
 // Behind the header of a rectangle.
 fn behind_header(
-    width: u16,
-    height: u16,
+    size: ScreenSize,
     at: usize,
     others: u16,
     header: &[u8],
@@ -284,13 +281,13 @@ fn behind_header(
     requires whole { length header.now ≡ 12 }
     requires short { at + 12 ≤ message_limit }
     ensures goes { IfOk result (λ s. (more : List ℕ)
-        → resume width height (Stage.RectangleHead at others) (header.now ++ more) ≡ step_on width height s more) }
+        → resume size.width size.height (Stage.RectangleHead at others) (header.now ++ more) ≡ step_on size.width size.height s more) }
     ensures begins { IfOk result (λ s. NextBegins (at + 12) s.next) }
     ensures kind { IfOk result (λ s. (bytes : List ℕ) → IsOfUpdate bytes → NextIsOfKind s.next bytes) }
     ensures faults { IfErr result (λ f. (more : List ℕ)
-        → resume width height (Stage.RectangleHead at others) (header.now ++ more) ≡ Bad f) }
+        → resume size.width size.height (Stage.RectangleHead at others) (header.now ++ more) ≡ Bad f) }
 {
-    let (area, encoding) = judge_header(width, height, header)?;
+    let (area, encoding) = judge_header(size, header)?;
     let begun = Begun {
         start: at + 12,
         area,
@@ -301,14 +298,14 @@ fn behind_header(
 }
 
 /// What follows from the whole field of a stage.
-pub fn step(width: u16, height: u16, stage: Stage, field: &[u8]) -> Result<AfterField, WireFault>
+pub fn step(size: ScreenSize, stage: Stage, field: &[u8]) -> Result<AfterField, WireFault>
     requires whole { length field.now ≡ wants_of stage }
     requires short { start_of stage + length field.now ≤ message_limit }
     ensures goes { IfOk result (λ s. (more : List ℕ)
-        → resume width height stage (field.now ++ more) ≡ step_on width height s more) }
+        → resume size.width size.height stage (field.now ++ more) ≡ step_on size.width size.height s more) }
     ensures begins { IfOk result (λ s. NextBegins (start_of stage + length field.now) s.next) }
     ensures kind { IfOk result (λ s. (bytes : List ℕ) → drop (start_of stage) bytes ≡ field.now → IsOfKind stage bytes → NextIsOfKind s.next bytes) }
-    ensures faults { IfErr result (λ f. (more : List ℕ) → resume width height stage (field.now ++ more) ≡ Bad f) }
+    ensures faults { IfErr result (λ f. (more : List ℕ) → resume size.width size.height stage (field.now ++ more) ≡ Bad f) }
 {
     match stage {
         Stage::Type => behind_type(field),
@@ -316,12 +313,12 @@ pub fn step(width: u16, height: u16, stage: Stage, field: &[u8]) -> Result<After
         Stage::ColorMapHead => Ok(behind_color_map_head(field)),
         Stage::TextHead => Ok(behind_text_head(field)),
         Stage::TextData { length } => Ok(behind_text(length)),
-        Stage::RectangleHead { at, others } => behind_header(width, height, at, others, field),
+        Stage::RectangleHead { at, others } => behind_header(size, at, others, field),
         Stage::Data {
             at,
             begun,
             next,
             others,
-        } => behind_content(width, height, field, at, begun, next, others),
+        } => behind_content(size, field, at, begun, next, others),
     }
 }

@@ -3,7 +3,6 @@ pub mod Refusals
 pub mod Measured
 pub mod Listed
 pub mod Appends
-pub mod Sizes
 pub mod Decimals
 pub mod Areas
 pub mod Progress

@@ -4,5 +4,4 @@ pub mod Number
 pub mod Decimal
 pub mod Appending
 pub mod Area
-pub mod Size
 pub mod Fault

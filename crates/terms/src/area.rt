@@ -3,6 +3,8 @@
 ghost use Rattle.std.specs.Prelude.{◌≡◌, ◌+◌, ◌<◌, ◌≤◌, ◌&&◌, ◌||◌, nat_lt, min, max, MatchOption};
 ghost use Rattle.terms.specs.Area.{area_bytes, is_in, HasPlaces, HasJustOf, IsSmallest};
 
+use crate::screen_size::ScreenSize;
+
 /// A rectangle of places: its upper left corner, its width and its height.
 #[derive(Clone, Copy, Debug, PartialEq, Eq)]
 pub struct Area {
@@ -86,14 +88,14 @@ impl Area {
     }
 
     /// Its part on a screen of this size, in places, if any.
-    pub fn cut(self, width: u16, height: u16) -> Option<Area>
-        ensures { HasJustOf (λ x y. is_in self x y && (nat_lt x width && nat_lt y height)) result }
+    pub fn cut(self, size: ScreenSize) -> Option<Area>
+        ensures { HasJustOf (λ x y. is_in self x y && (nat_lt x size.width && nat_lt y size.height)) result }
     {
         self.common(Area {
             x: 0,
             y: 0,
-            w: width,
-            h: height,
+            w: size.width,
+            h: size.height,
         })
     }
 

@@ -16,7 +16,7 @@ pub use area::Area;
 pub use decimal::decimal_number;
 pub use format_fault::FormatFault;
 pub use front::field;
-pub use screen_size::is_size;
+pub use screen_size::ScreenSize;
 pub use wire_fault::WireFault;
 
 /// Want of memory: a growth was refused.

@@ -1,20 +1,9 @@
-//! The sizes that a screen may have.
+//! The size of a screen.
 
-ghost use Rattle.std.specs.Prelude.{◌≡◌, ◌↔◌, IsTrue};
-ghost use Rattle.terms.specs.Size.{IsSize, is_size};
-
-const LONGEST_SIDE: u16 = 8192;
-
-const LARGEST_AREA: u32 = 1 << 23;
-
-/// Whether a screen may have this size, in places: sides of 1 to 8,192, an area of at most 2^23.
-pub fn is_size(width: u16, height: u16) -> bool
-    ensures is { IsTrue result ↔ IsSize width height }
-    ensures tested { result ≡ is_size width height }
-{
-    1 <= width
-        && width <= LONGEST_SIDE
-        && 1 <= height
-        && height <= LONGEST_SIDE
-        && u32::from(width) * u32::from(height) <= LARGEST_AREA
+/// How many places a screen has in a row, and how many rows, as both peers of a session tell it in
+/// 16 bits (RFC 6143, section 7.3.2).
+#[derive(Clone, Copy, Debug, PartialEq, Eq)]
+pub struct ScreenSize {
+    pub width: u16,
+    pub height: u16,
 }

@@ -13,6 +13,7 @@ use Rattle.terms.specs.Area.{is_in, HasJust, IsSmallest}
 use Rattle.gated_journal.specs.Recording.{Head}
 use Rattle.keyed_entries.specs.declared.entry.Stamped.{Stamped}
 use Rattle.terms.proofs.Areas.{in_is, is_in_true, or_parts, or_right, same_smallest}
+use Rattle.place_sets.proofs.Looked.{around_within}
 use Rattle.place_sets.specs.Places.{PlaceSet, SameSize, holds}
 use Rattle.viewer_session.specs.declared.copies.KeptCopy.{KeptCopy}
 use Rattle.viewer_session.specs.Copies.{IsPart, IsCopyWithin, ShowsSource}
@@ -38,28 +39,11 @@ part_left width height area part just =
 -- so is the smallest area round two parts
 pub part_around : (width height : ℕ) (one other area : Area) → IsPart width height one → IsPart width height other → IsSmallest (λ x y. is_in one x y || is_in other x y) area → IsPart width height area
 part_around width height one other area p q is =
-    let pc = p.within.columns in
-    let pr = p.within.rows in
-    let qc = q.within.columns in
-    let qr = q.within.rows in
     let l = in_is area area.x is.left.0 (is.holds_each area.x is.left.0 is.left.1) in
     let lr = l.right in
     let lt = l.top in
     let lb = l.bottom in
-    record {
-      within = record {
-        columns = elim (or_parts (is_in one (area.x + area.w - 1) is.right.0) (is_in other (area.x + area.w - 1) is.right.0) is.right.1) [
-          | inl here ↦ (let high = (in_is one (area.x + area.w - 1) is.right.0 here).right in omega arith)
-          | inr here ↦ (let high = (in_is other (area.x + area.w - 1) is.right.0 here).right in omega arith)
-        ];
-        rows = elim (or_parts (is_in one is.bottom.0 (area.y + area.h - 1)) (is_in other is.bottom.0 (area.y + area.h - 1)) is.bottom.1) [
-          | inl here ↦ (let high = (in_is one is.bottom.0 (area.y + area.h - 1) here).bottom in omega arith)
-          | inr here ↦ (let high = (in_is other is.bottom.0 (area.y + area.h - 1) here).bottom in omega arith)
-        ];
-      };
-      across = omega arith;
-      down = omega arith;
-    }
+    record { within = around_within width height one other area p.within q.within is; across = omega arith; down = omega arith }
 
 -- a part by itself
 pub part_itself : (width height : ℕ) (area : Area) → IsPart width height area → IsSmallest (λ x y. false || is_in area x y) area

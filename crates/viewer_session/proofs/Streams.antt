@@ -145,79 +145,79 @@ abbrev pub heard_more : Greeting → Greeting → Greeting
 heard_more old new = record old { heard = new.heard; settled = false }
 
 in_greeting : (g : Greeting) (before : Option Reader) (stream told : List ℕ) (messages : List ClientMessage) → before ≡ None
-    → Stands g.width g.height g.name.items g.heard.items before stream messages (told ++ due_by g)
-    → IsGreeting g.width g.height g.name.items g.heard.items stream messages (told ++ due_by g)
+    → Stands g.size.width g.size.height g.name.items g.heard.items before stream messages (told ++ due_by g)
+    → IsGreeting g.size.width g.size.height g.name.items g.heard.items stream messages (told ++ due_by g)
 in_greeting g before stream told messages none is =
-    subst (λ (r : Option Reader). Stands g.width g.height g.name.items g.heard.items r stream messages (told ++ due_by g)) none is
+    subst (λ (r : Option Reader). Stands g.size.width g.size.height g.name.items g.heard.items r stream messages (told ++ due_by g)) none is
 
 reads_so : (old new : Greeting) (heard : Reading (Unit {0}) SessionFault) → new ≡ heard_more old new → (talk_by new).heard ≡ heard
-    → (handshake_at old.width old.height old.name.items new.heard.items).heard ≡ heard
+    → (handshake_at old.size.width old.size.height old.name.items new.heard.items).heard ≡ heard
 reads_so old new heard kept is = sym (ap (λ (g : Greeting). (talk_by g).heard) kept) ∙ is
 
 pub fed_waits : (old new : Greeting) (before after : Option Reader) (stream piece told : List ℕ) (messages out : List ClientMessage)
     → before ≡ None → after ≡ None → out ≡ [] → new ≡ heard_more old new → IsSoundGreeting old → HearsSo old new piece (length piece) More
-    → Stands old.width old.height old.name.items old.heard.items before stream messages (told ++ due_by old)
-    → Stands new.width new.height new.name.items new.heard.items after (stream ++ piece) (messages ++ out) (told ++ due_by new)
+    → Stands old.size.width old.size.height old.name.items old.heard.items before stream messages (told ++ due_by old)
+    → Stands new.size.width new.size.height new.name.items new.heard.items after (stream ++ piece) (messages ++ out) (told ++ due_by new)
 fed_waits old new before after stream piece told messages out none still empty kept sound hears is =
-    subst (λ (r : Option Reader). Stands new.width new.height new.name.items new.heard.items r (stream ++ piece) (messages ++ out) (told ++ due_by new)) (sym still)
-    (subst (λ (ms : List ClientMessage). IsGreeting new.width new.height new.name.items new.heard.items (stream ++ piece) (messages ++ ms) (told ++ due_by new)) (sym empty)
-    (subst (λ (g : Greeting). IsGreeting g.width g.height g.name.items g.heard.items (stream ++ piece) (messages ++ []) (told ++ due_by g)) (sym kept)
-    (greeting_waits old.width old.height old.name.items old.heard.items new.heard.items stream piece told messages old.sent
+    subst (λ (r : Option Reader). Stands new.size.width new.size.height new.name.items new.heard.items r (stream ++ piece) (messages ++ out) (told ++ due_by new)) (sym still)
+    (subst (λ (ms : List ClientMessage). IsGreeting new.size.width new.size.height new.name.items new.heard.items (stream ++ piece) (messages ++ ms) (told ++ due_by new)) (sym empty)
+    (subst (λ (g : Greeting). IsGreeting g.size.width g.size.height g.name.items g.heard.items (stream ++ piece) (messages ++ []) (told ++ due_by g)) (sym kept)
+    (greeting_waits old.size.width old.size.height old.name.items old.heard.items new.heard.items stream piece told messages old.sent
     (in_greeting old before stream told messages none is) sound.sent hears.heard (reads_so old new More kept hears.reads))))
 
 pub fed_ends : (old new : Greeting) (before after : Option Reader) (stream piece told : List ℕ) (messages out : List ClientMessage) (f : SessionFault)
     → before ≡ None → after ≡ None → out ≡ [] → new ≡ heard_more old new → IsSoundGreeting old → Refuses old new piece f
-    → Stands old.width old.height old.name.items old.heard.items before stream messages (told ++ due_by old)
-    → Ends new.width new.height new.name.items after (stream ++ piece) (messages ++ out) (told ++ due_by new) f
+    → Stands old.size.width old.size.height old.name.items old.heard.items before stream messages (told ++ due_by old)
+    → Ends new.size.width new.size.height new.name.items after (stream ++ piece) (messages ++ out) (told ++ due_by new) f
 fed_ends old new before after stream piece told messages out f none still empty kept sound refuses is =
-    subst (λ (r : Option Reader). Ends new.width new.height new.name.items r (stream ++ piece) (messages ++ out) (told ++ due_by new) f) (sym still)
-    (subst (λ (ms : List ClientMessage). EndsInHandshake new.width new.height new.name.items (stream ++ piece) (messages ++ ms) (told ++ due_by new) f) (sym empty)
-    (subst (λ (g : Greeting). EndsInHandshake g.width g.height g.name.items (stream ++ piece) (messages ++ []) (told ++ due_by g) f) (sym kept)
-    (greeting_ends old.width old.height old.name.items old.heard.items new.heard.items stream piece told messages old.sent refuses.n f
+    subst (λ (r : Option Reader). Ends new.size.width new.size.height new.name.items r (stream ++ piece) (messages ++ out) (told ++ due_by new) f) (sym still)
+    (subst (λ (ms : List ClientMessage). EndsInHandshake new.size.width new.size.height new.name.items (stream ++ piece) (messages ++ ms) (told ++ due_by new) f) (sym empty)
+    (subst (λ (g : Greeting). EndsInHandshake g.size.width g.size.height g.name.items (stream ++ piece) (messages ++ []) (told ++ due_by g) f) (sym kept)
+    (greeting_ends old.size.width old.size.height old.name.items old.heard.items new.heard.items stream piece told messages old.sent refuses.n f
     (in_greeting old before stream told messages none is) sound.sent refuses.hears.heard (reads_so old new (Bad f) kept refuses.hears.reads))))
 
 pub fed_whole : (old new : Greeting) (before : Option Reader) (r : Reader) (stream piece told : List ℕ) (messages : List ClientMessage) (n : ℕ)
     → before ≡ None → r ≡ record { kept = []; passed = 0; room = 0; fault = None } → new ≡ heard_more old new → IsSoundGreeting old → HearsSo old new piece n (Got tt [])
-    → Stands old.width old.height old.name.items old.heard.items before stream messages (told ++ due_by old)
-    → IsListening new.width new.height new.name.items r (stream ++ take n piece) messages (told ++ due_by new)
+    → Stands old.size.width old.size.height old.name.items old.heard.items before stream messages (told ++ due_by old)
+    → IsListening new.size.width new.size.height new.name.items r (stream ++ take n piece) messages (told ++ due_by new)
 fed_whole old new before r stream piece told messages n none fresh kept sound hears is =
-    subst (λ (x : Reader). IsListening new.width new.height new.name.items x (stream ++ take n piece) messages (told ++ due_by new)) (sym fresh)
-    (subst (λ (g : Greeting). IsListening g.width g.height g.name.items (record { kept = []; passed = 0; room = 0; fault = None }) (stream ++ take n piece) messages (told ++ due_by g)) (sym kept)
-    (greeting_whole old.width old.height old.name.items old.heard.items new.heard.items stream piece told messages old.sent n
+    subst (λ (x : Reader). IsListening new.size.width new.size.height new.name.items x (stream ++ take n piece) messages (told ++ due_by new)) (sym fresh)
+    (subst (λ (g : Greeting). IsListening g.size.width g.size.height g.name.items (record { kept = []; passed = 0; room = 0; fault = None }) (stream ++ take n piece) messages (told ++ due_by g)) (sym kept)
+    (greeting_whole old.size.width old.size.height old.name.items old.heard.items new.heard.items stream piece told messages old.sent n
     (in_greeting old before stream told messages none is) sound.sent hears.heard (reads_so old new (Got tt []) kept hears.reads)))
 
 -- a session that listens
 pub in_messages : (g : Greeting) (before : Option Reader) (r : Reader) (stream told : List ℕ) (messages : List ClientMessage) → before ≡ Some r
-    → Stands g.width g.height g.name.items g.heard.items before stream messages (told ++ due_by g)
-    → IsListening g.width g.height g.name.items r stream messages (told ++ due_by g)
+    → Stands g.size.width g.size.height g.name.items g.heard.items before stream messages (told ++ due_by g)
+    → IsListening g.size.width g.size.height g.name.items r stream messages (told ++ due_by g)
 in_messages g before r stream told messages some is =
-    subst (λ (x : Option Reader). Stands g.width g.height g.name.items g.heard.items x stream messages (told ++ due_by g)) some is
+    subst (λ (x : Option Reader). Stands g.size.width g.size.height g.name.items g.heard.items x stream messages (told ++ due_by g)) some is
 
 -- what is left of a piece is heard behind the handshake
 pub rest_goes : (g : Greeting) (r after : Reader) (stream piece rest told : List ℕ) (messages more : List ClientMessage) (n : ℕ) → rest ≡ drop n piece
-    → GoesIn r after rest more → IsListening g.width g.height g.name.items r (stream ++ take n piece) messages (told ++ due_by g)
-    → IsListening g.width g.height g.name.items after (stream ++ piece) (messages ++ more) (told ++ due_by g)
+    → GoesIn r after rest more → IsListening g.size.width g.size.height g.name.items r (stream ++ take n piece) messages (told ++ due_by g)
+    → IsListening g.size.width g.size.height g.name.items after (stream ++ piece) (messages ++ more) (told ++ due_by g)
 rest_goes g r after stream piece rest told messages more n is goes before =
-    subst (λ (z : List ℕ). IsListening g.width g.height g.name.items after z (messages ++ more) (told ++ due_by g))
+    subst (λ (z : List ℕ). IsListening g.size.width g.size.height g.name.items after z (messages ++ more) (told ++ due_by g))
     (ap (λ (z : List ℕ). (stream ++ take n piece) ++ z) is ∙ split_piece stream piece n)
-    (listening_goes g.width g.height g.name.items r after (stream ++ take n piece) rest messages more (told ++ due_by g) goes before)
+    (listening_goes g.size.width g.size.height g.name.items r after (stream ++ take n piece) rest messages more (told ++ due_by g) goes before)
 
 pub rest_stops : (g : Greeting) (r after : Reader) (stream piece rest told : List ℕ) (messages more : List ClientMessage) (n : ℕ) (f : SessionFault) → rest ≡ drop n piece
-    → StopsIn r rest more f → IsListening g.width g.height g.name.items r (stream ++ take n piece) messages (told ++ due_by g)
-    → Ends g.width g.height g.name.items (Some after) (stream ++ piece) (messages ++ more) (told ++ due_by g) f
+    → StopsIn r rest more f → IsListening g.size.width g.size.height g.name.items r (stream ++ take n piece) messages (told ++ due_by g)
+    → Ends g.size.width g.size.height g.name.items (Some after) (stream ++ piece) (messages ++ more) (told ++ due_by g) f
 rest_stops g r after stream piece rest told messages more n f is stops before =
-    subst (λ (z : List ℕ). Ends g.width g.height g.name.items (Some after) z (messages ++ more) (told ++ due_by g) f)
+    subst (λ (z : List ℕ). Ends g.size.width g.size.height g.name.items (Some after) z (messages ++ more) (told ++ due_by g) f)
     (ap (λ (z : List ℕ). (stream ++ take n piece) ++ z) is ∙ split_piece stream piece n)
-    (listening_stops g.width g.height g.name.items r after (stream ++ take n piece) rest messages more (told ++ due_by g) f stops before)
+    (listening_stops g.size.width g.size.height g.name.items r after (stream ++ take n piece) rest messages more (told ++ due_by g) f stops before)
 
 -- a session at its start
-pub starts : (g : Greeting) → g.heard.items ≡ [] → g.sent ≡ 0 → IsGreeting g.width g.height g.name.items g.heard.items [] [] (due_by g)
+pub starts : (g : Greeting) → g.heard.items ≡ [] → g.sent ≡ 0 → IsGreeting g.size.width g.size.height g.name.items g.heard.items [] [] (due_by g)
 starts g none unsent =
-    let t = handshake_at g.width g.height g.name.items [] in
+    let t = handshake_at g.size.width g.size.height g.name.items [] in
     let said : t.said ≡ due_by g =
-    ap (λ (z : List ℕ). (handshake_at g.width g.height g.name.items z).said) (sym none) ∙ ap (λ (n : ℕ). drop n (said_by g)) (sym unsent) in
+    ap (λ (z : List ℕ). (handshake_at g.size.width g.size.height g.name.items z).said) (sym none) ∙ ap (λ (n : ℕ). drop n (said_by g)) (sym unsent) in
     record {
       heard_is = sym none;
-      reads = same_talk t (due_by g) More said (ap (λ (x : Talk (Unit {0}) SessionFault). x.heard) (few g.width g.height g.name.items [] (omega arith)));
+      reads = same_talk t (due_by g) More said (ap (λ (x : Talk (Unit {0}) SessionFault). x.heard) (few g.size.width g.size.height g.name.items [] (omega arith)));
       none = refl;
     }

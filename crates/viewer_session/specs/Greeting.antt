@@ -8,7 +8,7 @@ use Rattle.viewer_session.specs.Handshake.{handshake_at}
 
 -- what the handshake's bytes say so far
 abbrev pub talk_by : Greeting → Talk (Unit {0}) SessionFault
-talk_by g = handshake_at g.width g.height g.name.items g.heard.items
+talk_by g = handshake_at g.size.width g.size.height g.name.items g.heard.items
 
 -- all that they are answered with
 abbrev pub said_by : Greeting → List ℕ

@@ -22,15 +22,14 @@ IsGoing (Some r) = r.fault ≡ None
 
 -- this was told, and the rest of the answers is due
 abbrev pub StandsAt : Progress → List ℕ → List ClientMessage → List ℕ → Type 0
-StandsAt p stream messages told = Stands p.greeting.width p.greeting.height p.greeting.name.items p.greeting.heard.items p.reader stream messages (told ++ due_by p.greeting)
+StandsAt p stream messages told = Stands p.greeting.size.width p.greeting.size.height p.greeting.name.items p.greeting.heard.items p.reader stream messages (told ++ due_by p.greeting)
 
 abbrev pub EndsAt : Progress → List ℕ → List ClientMessage → List ℕ → SessionFault → Type 0
-EndsAt p stream messages told f = Ends p.greeting.width p.greeting.height p.greeting.name.items p.reader stream messages (told ++ due_by p.greeting) f
+EndsAt p stream messages told f = Ends p.greeting.size.width p.greeting.size.height p.greeting.name.items p.reader stream messages (told ++ due_by p.greeting) f
 
 -- it is the same viewer, told of the same screen
 pub record TellsTheSame (old new : Greeting) : Type 0 where
-  pub width : new.width ≡ old.width
-  pub height : new.height ≡ old.height
+  pub size : new.size ≡ old.size
   pub name : new.name ≡ old.name
   pub sent : new.sent ≡ old.sent
 

@@ -67,6 +67,6 @@ Goes (Some f) reader = Unit {0}
 pub record IsSoundSession (progress : Progress) (view : View) (fault : Option SessionFault) : Type 0 where
   pub greeting : IsSoundGreeting progress.greeting
   pub view_is : IsSound view
-  pub width : view.screen.width ≡ progress.greeting.width
-  pub height : view.screen.height ≡ progress.greeting.height
+  pub width : view.screen.width ≡ progress.greeting.size.width
+  pub height : view.screen.height ≡ progress.greeting.size.height
   pub going : Goes fault progress.reader

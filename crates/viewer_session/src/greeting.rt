@@ -9,13 +9,12 @@ use crate::handshake::{LENGTH, Stage, greeting, is_whole, stage_of};
 use arrayvec::ArrayVec;
 use pixel_format::PixelFormat;
 use std::alloc::Global;
-use terms::NoMemory;
+use terms::{NoMemory, ScreenSize};
 
 /// What a viewer is told of the screen, how far its handshake goes, and how much it was answered.
 #[derive(Drop)]
 pub struct Greeting {
-    pub width: u16,
-    pub height: u16,
+    pub size: ScreenSize,
     pub name: Vec<u8>,
     /// The first bytes of the viewer's stream, as far as its handshake goes.
     pub heard: ArrayVec<u8, LENGTH>,
@@ -26,12 +25,12 @@ pub struct Greeting {
 }
 
 // Appends a width and a height.
-fn write_size(width: u16, height: u16, out: &mut Vec<u8>) -> Result<(), NoMemory>
+fn write_size(size: ScreenSize, out: &mut Vec<u8>) -> Result<(), NoMemory>
     ensures { OnOk result (out.new.items ≡ out.old.items
-        ++ (width / 256 ∷ width % 256 ∷ height / 256 ∷ height % 256 ∷ [])) }
+        ++ (size.width / 256 ∷ size.width % 256 ∷ size.height / 256 ∷ size.height % 256 ∷ [])) }
 {
-    let [wide, width_low] = width.to_be_bytes();
-    let [high, height_low] = height.to_be_bytes();
+    let [wide, width_low] = size.width.to_be_bytes();
+    let [high, height_low] = size.height.to_be_bytes();
     out.extend_from_slice(&[wide, width_low, high, height_low])?;
     Ok(())
 }
@@ -46,16 +45,11 @@ fn write_length(count: u32, out: &mut Vec<u8>) -> Result<(), NoMemory>
 }
 
 // Appends ServerInit, or a part of it where memory runs out.
-fn write_server_init(
-    width: u16,
-    height: u16,
-    name: &[u8],
-    out: &mut Vec<u8>,
-) -> Result<(), NoMemory>
+fn write_server_init(size: ScreenSize, name: &[u8], out: &mut Vec<u8>) -> Result<(), NoMemory>
     requires { length name.now < 2 ^ 32 }
-    ensures { OnOk result (out.new.items ≡ out.old.items ++ server_init width height name.now) }
+    ensures { OnOk result (out.new.items ≡ out.old.items ++ server_init size.width size.height name.now) }
 {
-    write_size(width, height, out)?;
+    write_size(size, out)?;
     out.extend_from_slice(&PixelFormat::host().write())?;
     write_length(name.len() as u32, out)?;
     out.extend_from_slice(name)?;
@@ -66,16 +60,15 @@ impl Greeting {
     ghost use Rattle.viewer_session.specs.Greeting.{IsSoundGreeting, said_by, Hears, Refuses};
 
     /// The start of a stream.
-    pub fn new(width: u16, height: u16, name: Vec<u8>) -> Greeting
+    pub fn new(size: ScreenSize, name: Vec<u8>) -> Greeting
         requires { length name.items < 2 ^ 32 }
         ensures sound { IsSoundGreeting result }
-        ensures told { (result.width ≡ width) × (result.height ≡ height) × (result.name ≡ name) }
+        ensures told { (result.size ≡ size) × (result.name ≡ name) }
         ensures heard { result.heard.items ≡ [] }
         ensures sent { result.sent ≡ 0 }
     {
         Greeting {
-            width,
-            height,
+            size,
             name,
             heard: ArrayVec::new(),
             sent: 0,
@@ -112,7 +105,7 @@ impl Greeting {
         let stage = stage_of(self.heard.as_slice());
         out.extend_from_slice(greeting(stage))?;
         if let Stage::Whole = stage {
-            write_server_init(self.width, self.height, &self.name, out)?;
+            write_server_init(self.size, &self.name, out)?;
         }
         Ok(())
     }

@@ -21,7 +21,7 @@ use rect_data::Encoding;
 use replay::Slice;
 use std::alloc::Global;
 use std::marker::Model;
-use terms::NoMemory;
+use terms::{NoMemory, ScreenSize};
 
 // Messages are taken of so many bytes at a time, so that those of a long piece need no more memory.
 const PART: usize = 1024;
@@ -45,8 +45,8 @@ impl Model for Session {
     ghost Value = { Session };
 
     ghost view = { λ s. record {
-      width = s.progress.greeting.width;
-      height = s.progress.greeting.height;
+      width = s.progress.greeting.size.width;
+      height = s.progress.greeting.size.height;
       name = s.progress.greeting.name.items;
       heard = s.progress.greeting.heard.items;
       due = due_by s.progress.greeting;
@@ -61,14 +61,14 @@ impl Model for Session {
 impl Session {
     /// A session at the start of a viewer's stream, for a screen of this size, in places, and a
     /// name: black, before the first message, in the host format and Raw, with all places stale.
-    pub fn new(alloc: Global, width: u16, height: u16, name: &[u8]) -> Result<Session, NoMemory>
+    pub fn new(alloc: Global, size: ScreenSize, name: &[u8]) -> Result<Session, NoMemory>
         requires { length name.now < 2 ^ 32 }
         ensures after { IfOk result (λ s. IsAfter s [] [] []) }
-        ensures told { IfOk result (λ s. (s.width ≡ width) × (s.height ≡ height)
+        ensures told { IfOk result (λ s. (s.width ≡ size.width) × (s.height ≡ size.height)
             × (s.name ≡ name.now)) }
         ensures going { IfOk result (λ s. s.fault ≡ None) }
-        ensures size { IfOk result (λ s. (s.view.screen.width ≡ width)
-            × (s.view.screen.height ≡ height)) }
+        ensures size { IfOk result (λ s. (s.view.screen.width ≡ size.width)
+            × (s.view.screen.height ≡ size.height)) }
         ensures stale { IfOk result (λ s. AreStale s.view (λ x y. true)) }
         ensures format { IfOk result (λ s. s.view.format ≡ host_format) }
         ensures encoding { IfOk result (λ s. s.view.encoding ≡ Encoding.Raw) }
@@ -77,16 +77,16 @@ impl Session {
         ensures pending { IfOk result (λ s. s.view.pending ≡ None) }
         ensures copies { IfOk result (λ s. (s.view.copy ≡ None) × (s.view.takes_copies ≡ false)
             × (s.view.asked_whole ≡ false)) }
-        ensures right { IfOk result (λ s. (head : Head) → head.width ≡ width
-            → head.height ≡ height → (seen : Picture) → (messages : List Stamped)
+        ensures right { IfOk result (λ s. (head : Head) → head.width ≡ size.width
+            → head.height ≡ size.height → (seen : Picture) → (messages : List Stamped)
             → IsRight head s.view seen messages) }
     {
-        let view = View::new(alloc, width, height)?;
+        let view = View::new(alloc, size)?;
         let name = Vec::from_slice(alloc, name)?;
         Ok(Session {
             alloc,
             progress: Progress {
-                greeting: Greeting::new(width, height, name),
+                greeting: Greeting::new(size, name),
                 reader: None,
             },
             view,

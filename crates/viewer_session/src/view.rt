@@ -25,7 +25,7 @@ use rect_codec::{pick, written_parts_are_read};
 use rect_data::Encoding;
 use replay::Slice;
 use std::alloc::Global;
-use terms::{Area, NoMemory};
+use terms::{Area, NoMemory, ScreenSize};
 
 // The number of the encoding by which a viewer says that it takes copies (RFC 6143, section 7.7.2).
 const COPY_RECT: i32 = 1;
@@ -55,10 +55,10 @@ pub struct View {
 }
 
 // What is pending once a part of the screen was asked for, beside what was.
-fn widened(pending: Option<Area>, area: Area, width: u16, height: u16) -> Area
-    requires pending { IfSome pending (IsPart width height) }
-    requires area { IsPart width height area }
-    ensures part { IsPart width height result }
+fn widened(pending: Option<Area>, area: Area, size: ScreenSize) -> Area
+    requires pending { IfSome pending (IsPart size.width size.height) }
+    requires area { IsPart size.width size.height area }
+    ensures part { IsPart size.width size.height result }
     ensures smallest { IsSmallest (λ x y. is_pending pending x y || is_in area x y) result }
 {
     match pending {
@@ -69,7 +69,7 @@ fn widened(pending: Option<Area>, area: Area, width: u16, height: u16) -> Area
 
 impl View {
     /// A black screen before the first message, in the host format and Raw, all of it stale.
-    pub fn new(alloc: Global, width: u16, height: u16) -> Result<View, NoMemory>
+    pub fn new(alloc: Global, size: ScreenSize) -> Result<View, NoMemory>
         ensures sound { IfOk result IsSound }
         ensures stale { IfOk result (λ v. AreStale v (λ x y. true)) }
         ensures format { IfOk result (λ v. v.format ≡ host_format) }
@@ -79,17 +79,17 @@ impl View {
         ensures pending { IfOk result (λ v. v.pending ≡ None) }
         ensures copies { IfOk result (λ v. (v.copy ≡ None) × (v.takes_copies ≡ false)
             × (v.asked_whole ≡ false)) }
-        ensures size { IfOk result (λ v. (v.screen.width ≡ width) × (v.screen.height ≡ height)) }
-        ensures right { IfOk result (λ v. (head : Head) → head.width ≡ width → head.height ≡ height
+        ensures size { IfOk result (λ v. (v.screen.width ≡ size.width) × (v.screen.height ≡ size.height)) }
+        ensures right { IfOk result (λ v. (head : Head) → head.width ≡ size.width → head.height ≡ size.height
             → (seen : Picture) → (messages : List Stamped) → IsRight head v seen messages) }
     {
         Ok(View {
             format: PixelFormat::host(),
             encoding: Encoding::Raw,
-            screen: Screen::black(alloc, width, height)?,
+            screen: Screen::black(alloc, size)?,
             position: 0,
             started: false,
-            stale: Places::all(alloc, width, height)?,
+            stale: Places::all(alloc, size)?,
             pending: None,
             asked_whole: false,
             takes_copies: false,
@@ -234,8 +234,8 @@ impl View {
         ensures sound { IsSound self.new }
         ensures asked { IsAsked self.old self.new incremental area }
     {
-        let (width, height) = self.screen.size();
-        let Some(area) = area.cut(width, height) else {
+        let size = self.screen.size();
+        let Some(area) = area.cut(size) else {
             return;
         };
         if !incremental {
@@ -243,7 +243,7 @@ impl View {
             self.asked_whole = true;
             self.copy = None; // the viewer may have lost what it shows
         }
-        self.pending = Some(widened(self.pending, area, width, height));
+        self.pending = Some(widened(self.pending, area, size));
     }
 
     /// Takes a message of the viewer. A request is cut to the screen, and dropped where nothing of

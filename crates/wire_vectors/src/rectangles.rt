@@ -7,7 +7,7 @@ use crate::words::bad;
 use pixel_format::{Color, PixelFormat};
 use rect_data::{Encoding, Judging, measure};
 use std::io;
-use terms::{Area, WireFault};
+use terms::{Area, ScreenSize, WireFault};
 use wire_tests::{HEIGHT, Kind, Short, TestCanvas, WIDTH, hextile_in_pieces};
 
 impl Places for TestCanvas {
@@ -75,7 +75,7 @@ fn write_picture(
 
 // How many bytes data have that are judged field by field; none where they need more.
 fn in_pieces(
-    size: (u16, u16),
+    size: ScreenSize,
     encoding: Encoding,
     area: Area,
     bytes: &[u8],
@@ -91,7 +91,7 @@ fn in_pieces(
         if rest.len() < wants {
             return Ok(None);
         }
-        next = stage.step(&host, size.0, size.1, &rest[..wants])?;
+        next = stage.step(&host, size, &rest[..wants])?;
         rest = &rest[wants..];
     }
     Ok(None)
@@ -101,7 +101,7 @@ fn in_pieces(
 pub(crate) fn run_measured(
     account: &mut Account,
     number: u16,
-    size: (u16, u16),
+    size: ScreenSize,
     area: Area,
     bytes: &[u8],
 ) -> io::Result<()> {
@@ -111,7 +111,7 @@ pub(crate) fn run_measured(
     let host = PixelFormat::host();
     for count in 0..=bytes.len() {
         let data = bytes.get(..count).unwrap_or(bytes);
-        let answer = measure(&host, size.0, size.1, encoding, area, data);
+        let answer = measure(&host, size, encoding, area, data);
         if in_pieces(size, encoding, area, data) != answer {
             return account.tell(format_args!("{count} otherwise in pieces"));
         }

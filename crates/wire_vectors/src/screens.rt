@@ -4,16 +4,16 @@ use crate::account::Account;
 use crate::picture::{Places, write_rows};
 use crate::words::{Spelled, bad, bytes};
 use painter::Screen;
-use pixel_format::Color;
+use pixel_format::{Color, Format};
 use rfb_wire::HostMessage;
 use std::alloc::Global;
 use std::io;
-use terms::is_size;
+use terms::ScreenSize;
 
 impl Places for Screen {
     fn color_at(&self, x: u16, y: u16) -> Option<Color> {
-        let (w, h) = self.size();
-        if x < w && y < h {
+        let size = self.size();
+        if x < size.width && y < size.height {
             Some(self.color(x, y))
         } else {
             None
@@ -23,8 +23,7 @@ impl Places for Screen {
 
 // Paints an update on a screen.
 fn paint(alloc: Global, screen: &mut Screen, bytes: &[u8]) -> io::Result<()> {
-    let (w, h) = screen.size();
-    let Ok(message) = HostMessage::from_bytes(alloc, w, h, bytes) else {
+    let Ok(message) = HostMessage::from_bytes(alloc, screen.size(), bytes) else {
         return Err(bad());
     };
     if message.size() != screen.size() {
@@ -46,23 +45,23 @@ fn paint_all(alloc: Global, screen: &mut Screen, text: &str) -> io::Result<()> {
 }
 
 /// Tells the rows of a screen of this size that updates paint, which commas part.
-pub(crate) fn run(account: &mut Account, size: (u16, u16), text: &str) -> io::Result<()> {
-    let mut screen = Screen::black(account.alloc, size.0, size.1)?;
+pub(crate) fn run(account: &mut Account, size: ScreenSize, text: &str) -> io::Result<()> {
+    let mut screen = Screen::black(account.alloc, size)?;
     paint_all(account.alloc, &mut screen, text)?;
-    write_rows(account, &screen, size)
+    write_rows(account, &screen, (size.width, size.height))
 }
 
 // A black screen of this size that an update painted.
-fn painted(alloc: Global, size: (u16, u16), bytes: &[u8]) -> io::Result<Screen> {
-    let mut screen = Screen::black(alloc, size.0, size.1)?;
+fn painted(alloc: Global, size: ScreenSize, bytes: &[u8]) -> io::Result<Screen> {
+    let mut screen = Screen::black(alloc, size)?;
     paint(alloc, &mut screen, bytes)?;
     Ok(screen)
 }
 
 /// Tells the key screen of a screen that an update paints, where it paints the same.
-pub(crate) fn run_key(account: &mut Account, size: (u16, u16), bytes: &[u8]) -> io::Result<()> {
+pub(crate) fn run_key(account: &mut Account, size: ScreenSize, bytes: &[u8]) -> io::Result<()> {
     let screen = painted(account.alloc, size, bytes)?;
-    if !is_size(screen.size().0, screen.size().1) {
+    if !Format::One.limits().allow(screen.size()) {
         return Err(bad());
     }
     let key = screen.key(account.alloc)?;

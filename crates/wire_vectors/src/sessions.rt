@@ -7,6 +7,7 @@ use host_session::{HostFault, HostSession};
 use rfb_wire::HostMessage;
 use std::alloc::Global;
 use std::io;
+use terms::ScreenSize;
 
 // A session, and what came of what it was fed. Its calls promise nothing here.
 #[derive(Drop)]
@@ -20,7 +21,7 @@ struct Talk {
 }
 
 impl Talk {
-    fn new(alloc: Global, expected: Option<(u16, u16)>) -> Talk {
+    fn new(alloc: Global, expected: Option<ScreenSize>) -> Talk {
         Talk {
             session: HostSession::new(alloc, expected),
             messages: Vec::new(alloc),
@@ -60,9 +61,9 @@ impl Talk {
 
     // Adds what the session knows in the end.
     fn tell(&self, account: &mut Account) -> io::Result<()> {
-        if let Some((w, h)) = self.session.size() {
+        if let Some(size) = self.session.size() {
             let name = Spelled(self.session.name());
-            account.tell(format_args!("size {w} {h}; name {name}"))?;
+            account.tell(format_args!("size {} {}; name {name}", size.width, size.height))?;
         }
         if !self.session.reason().is_empty() {
             let reason = Spelled(self.session.reason());
@@ -97,7 +98,7 @@ impl Talk {
 // Whether what is fed in two pieces comes to the same.
 fn is_cut_alike(
     alloc: Global,
-    expected: Option<(u16, u16)>,
+    expected: Option<ScreenSize>,
     pieces: (&[u8], &[u8]),
     talk: &Talk,
 ) -> io::Result<bool> {
@@ -110,7 +111,7 @@ fn is_cut_alike(
 // Tells what comes of the bytes, and what is otherwise where they are cut in two.
 fn tell_all(
     account: &mut Account,
-    expected: Option<(u16, u16)>,
+    expected: Option<ScreenSize>,
     bytes: &[u8],
     talk: &mut Talk,
 ) -> io::Result<()> {
@@ -130,7 +131,7 @@ fn tell_all(
 /// number of bytes that had come by then; and in the end the screen's size and name, or the reason.
 pub(crate) fn run(
     account: &mut Account,
-    expected: Option<(u16, u16)>,
+    expected: Option<ScreenSize>,
     bytes: &[u8],
 ) -> io::Result<()> {
     let mut talk = Talk::new(account.alloc, expected);

@@ -4,7 +4,7 @@ use crate::account::Account;
 use crate::words::{bad, bytes, numbers};
 use crate::{formats, hosts, rectangles, screens, sessions, viewers};
 use std::io;
-use terms::Area;
+use terms::{Area, ScreenSize};
 
 /// Tells what comes of a vector, which its kind and numbers, a colon and its bytes tell.
 pub(crate) fn run(account: &mut Account, vector: &str) -> io::Result<()> {
@@ -14,9 +14,13 @@ pub(crate) fn run(account: &mut Account, vector: &str) -> io::Result<()> {
     let kind = head.split_whitespace().next().unwrap_or("");
     let numbers = numbers(account.alloc, head)?;
     if let ("screen", [w, h]) = (kind, numbers.as_slice()) {
-        return screens::run(account, (*w, *h), text);
+        return screens::run(account, size_of(*w, *h), text);
     }
     run_bytes(account, kind, &numbers, &bytes(account.alloc, text)?)
+}
+
+fn size_of(width: u16, height: u16) -> ScreenSize {
+    ScreenSize { width, height }
 }
 
 fn run_bytes(account: &mut Account, kind: &str, numbers: &[u16], bytes: &[u8]) -> io::Result<()> {
@@ -27,11 +31,11 @@ fn run_bytes(account: &mut Account, kind: &str, numbers: &[u16], bytes: &[u8]) -
             "format" => formats::run(account, bytes),
             _ => Err(bad()),
         },
-        [w, h] => run_of_size(account, kind, (w, h), bytes),
+        [w, h] => run_of_size(account, kind, size_of(w, h), bytes),
         [bits, w, h] => rectangles::run_painted(account, kind, bits, (w, h), bytes),
         [number, width, height, x, y, w, h] => {
             let area = Area { x, y, w, h };
-            rectangles::run_measured(account, number, (width, height), area, bytes)
+            rectangles::run_measured(account, number, size_of(width, height), area, bytes)
         }
         _ => Err(bad()),
     }
@@ -40,7 +44,7 @@ fn run_bytes(account: &mut Account, kind: &str, numbers: &[u16], bytes: &[u8]) -
 fn run_of_size(
     account: &mut Account,
     kind: &str,
-    size: (u16, u16),
+    size: ScreenSize,
     bytes: &[u8],
 ) -> io::Result<()> {
     match kind {

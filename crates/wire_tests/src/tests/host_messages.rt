@@ -2,19 +2,19 @@
 //! memory.
 
 use crate::tests::readers::gives;
-use crate::tests::samples::{RED_UPDATE as RED, area};
+use crate::tests::samples::{RED_UPDATE as RED, area, size};
 use pixel_format::Color;
 use rfb_wire::*;
 use std::test::Fail;
 
 #[test]
 fn messages_told_apart(rt: HostRuntime) -> Result<(), Fail> {
-    let red = HostMessage::from_bytes(rt.alloc(), 1, 1, &RED)?;
-    let bell = HostMessage::from_bytes(rt.alloc(), 1, 1, &[2])?;
-    let other = HostMessage::from_bytes(rt.alloc(), 2, 1, &[2])?;
+    let red = HostMessage::from_bytes(rt.alloc(), size(1, 1), &RED)?;
+    let bell = HostMessage::from_bytes(rt.alloc(), size(1, 1), &[2])?;
+    let other = HostMessage::from_bytes(rt.alloc(), size(2, 1), &[2])?;
     assert!(rt; red.is_update() && !bell.is_update());
     assert!(rt; red.same(&red.copy(rt.alloc())?) && !red.same(&bell) && !bell.same(&other));
-    assert!(rt; ServerReader::new(rt.alloc(), 3, 2).size() == (3, 2));
+    assert!(rt; ServerReader::new(rt.alloc(), size(3, 2)).size() == size(3, 2));
     Ok(())
 }
 
@@ -53,7 +53,7 @@ const STREAM: [u8; 43] = [
 // Also run with each allocation failing in turn.
 #[test]
 fn reading_while_memory_lasts(rt: HostRuntime) {
-    let mut reader = ServerReader::new(rt.alloc(), 1, 1);
+    let mut reader = ServerReader::new(rt.alloc(), size(1, 1));
     assert!(rt; gives(rt.alloc(), &mut reader, &STREAM, &[1, 10, 20]));
 }
 

@@ -6,7 +6,7 @@ ghost use Rattle.pixel_format.specs.Pixel.{IsWithin, IsScreenColor};
 use crate::test_canvas::TestCanvas;
 use pixel_format::{Color, PixelFormat};
 use std::alloc::Global;
-use terms::{Area, NoMemory};
+use terms::{Area, NoMemory, ScreenSize};
 
 pub(crate) const BLACK: Color = Color { r: 0, g: 0, b: 0 };
 
@@ -38,6 +38,13 @@ pub(crate) fn area(x: u16, y: u16, w: u16, h: u16) -> Area
     ensures { result ≡ record { x = x; y = y; w = w; h = h } }
 {
     Area { x, y, w, h }
+}
+
+/// A screen's size.
+pub(crate) fn size(width: u16, height: u16) -> ScreenSize
+    ensures { result ≡ record { width = width; height = height } }
+{
+    ScreenSize { width, height }
 }
 
 /// The next number below a limit.

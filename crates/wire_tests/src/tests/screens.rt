@@ -1,19 +1,20 @@
 //! Areas that are copied on a screen, whichever way source and destination overlap, and a screen as
 //! RRE has it.
 
-use crate::tests::samples::area;
+use crate::tests::samples::{area, size};
 use painter::{Screen, ScreenPart};
 use pixel_format::{Color, PixelFormat};
 use rfb_wire::{Encoding, HostMessage};
 use std::alloc::Global;
 use std::test::Fail;
+use terms::ScreenSize;
 
 // The screen of this size that the updates paint. It promises nothing, nor does the next one: with
 // the clauses of `Screen` the test would be slow to prove.
-fn painted(alloc: Global, w: u16, h: u16, updates: &[&[u8]]) -> Result<Screen, Fail> {
-    let mut screen = Screen::black(alloc, w, h)?;
+fn painted(alloc: Global, size: ScreenSize, updates: &[&[u8]]) -> Result<Screen, Fail> {
+    let mut screen = Screen::black(alloc, size)?;
     for bytes in updates {
-        let message = HostMessage::from_bytes(alloc, w, h, bytes)?;
+        let message = HostMessage::from_bytes(alloc, size, bytes)?;
         if message.size() == screen.size() {
             screen.paint(&message);
         }
@@ -23,8 +24,8 @@ fn painted(alloc: Global, w: u16, h: u16, updates: &[&[u8]]) -> Result<Screen, F
 
 // The colour at a place.
 fn color(screen: &Screen, x: u16, y: u16) -> Option<Color> {
-    let (w, h) = screen.size();
-    if x < w && y < h {
+    let size = screen.size();
+    if x < size.width && y < size.height {
         Some(screen.color(x, y))
     } else {
         None
@@ -59,7 +60,7 @@ fn copied_whichever_way_the_areas_overlap(rt: HostRuntime) -> Result<(), Fail> {
             let copy = [
                 0, 0, 0, 1, 0, to_x, 0, to_y, 0, 3, 0, 3, 0, 0, 0, 1, 0, 1, 0, 1,
             ];
-            let screen = painted(alloc, 5, 5, &[&update, &copy])?;
+            let screen = painted(alloc, size(5, 5), &[&update, &copy])?;
             let (left, top) = (u16::from(to_x), u16::from(to_y));
             for x in 0..5 {
                 for y in 0..5 {
@@ -80,7 +81,7 @@ fn copied_whichever_way_the_areas_overlap(rt: HostRuntime) -> Result<(), Fail> {
 // One of four bytes a place would have 262,160.
 #[test]
 fn key_of_a_black_screen(rt: HostRuntime) -> Result<(), Fail> {
-    let screen = Screen::black(rt.alloc(), 256, 256)?;
+    let screen = Screen::black(rt.alloc(), size(256, 256))?;
     let key = screen.key(rt.alloc())?;
     assert!(rt; key.bytes().len() < 262_160);
     Ok(())
@@ -88,9 +89,9 @@ fn key_of_a_black_screen(rt: HostRuntime) -> Result<(), Fail> {
 
 // The whole screen as a viewer is sent it that asked for RRE.
 fn sent(alloc: Global, screen: &Screen) -> Result<Vec<u8>, Fail> {
-    let (w, h) = screen.size();
+    let size = screen.size();
     let whole = ScreenPart::Places {
-        area: area(0, 0, w, h),
+        area: area(0, 0, size.width, size.height),
         encoding: Encoding::Rre,
     };
     let mut out = Vec::new(alloc);
@@ -104,7 +105,7 @@ fn sent(alloc: Global, screen: &Screen) -> Result<Vec<u8>, Fail> {
 fn red_place_sent_in_rre(rt: HostRuntime) -> Result<(), Fail> {
     let alloc = rt.alloc();
     let red = [0, 0, 0, 1, 0, 2, 0, 1, 0, 1, 0, 1, 0, 0, 0, 0, 0, 0, 255, 0];
-    let screen = painted(alloc, 5, 2, &[&red])?;
+    let screen = painted(alloc, size(5, 2), &[&red])?;
     let heads = [0, 0, 0, 1, 0, 0, 0, 0, 0, 5, 0, 2, 0, 0, 0, 2];
     let one_on_black = [0, 0, 0, 1, 0, 0, 0, 0];
     let subrectangle = [0, 0, 255, 0, 0, 2, 0, 1, 0, 1, 0, 1];

@@ -6,14 +6,15 @@ use Rattle.rfb_wire.specs.Written.{two_bytes}
 use Rattle.fbs_export.specs.Opening.{version}
 use Rattle.fbs_export.specs.Export.{opening_text}
 use Rattle.fbs_export.proofs.Texts.{seven_parts}
+use Rattle.terms.specs.declared.screen_size.ScreenSize.{ScreenSize}
 use Rattle.fbs_export.proofs.exporting.append_opening.Goals as goal
 
 pub returns : goal.returns
 unfolding opening_text
 returns g c =
     let h = c.args.index.now.head in
-    let wide = ap (λ p. p.0) c.size-width.ensures.value in
-    let high = ap (λ p. p.1) c.size-width.ensures.value in
+    let wide = ap (λ (s : ScreenSize). s.width) c.size-size.ensures.value in
+    let high = ap (λ (s : ScreenSize). s.height) c.size-size.ensures.value in
     let name : c.name-name.result.now ≡ h.name = c.name-name.ensures ∙ ap (λ x. x.name) c.header-2.ensures in
     rw (
       c.in_ok-extend_from_slice-7.ensures.items,

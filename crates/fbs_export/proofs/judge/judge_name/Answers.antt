@@ -8,11 +8,11 @@ pub returns-then-bytes-lt4 : goal.returns-then-bytes-lt4
 unfolding name_at
 returns-then-bytes-lt4 c =
     let short = c.if-bytes-lt4.true in
-    (part_short 4 c.args.bytes.now (λ count rest. named c.args.width c.args.height (u32_at count 0) rest) short, short)
+    (part_short 4 c.args.bytes.now (λ count rest. named c.args.size.width c.args.size.height (u32_at count 0) rest) short, short)
 
 pub returns : goal.returns
 unfolding name_at
 returns c =
     let bytes = c.args.bytes.now in
     let count : u32_at (take 4 bytes) 0 ≡ c.from_be_bytes-count.result = rw (← c.split_at.ensures.front) (omega (arith, c.from_be_bytes-count.ensures)) in
-    (c.if-bytes-lt4.false, λ more. part_whole 4 bytes more (λ count rest. named c.args.width c.args.height (u32_at count 0) rest) c.if-bytes-lt4.false ∙ rw count refl)
+    (c.if-bytes-lt4.false, λ more. part_whole 4 bytes more (λ count rest. named c.args.size.width c.args.size.height (u32_at count 0) rest) c.if-bytes-lt4.false ∙ rw count refl)

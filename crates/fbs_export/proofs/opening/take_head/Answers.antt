@@ -29,7 +29,7 @@ returns-in-Some-clause-goes c = λ s stands more.
     let next : List ℕ = take (n + 1 - n) (drop n piece) in
     let is : new ≡ c.loop-taken.head.items ++ next = c.deref.ensures.value ∙ c.in_ok-extend_from_slice.ensures.items in
     let long : length new ≤ 40 = omega (arith, ap (λ z. length z) is, length-append c.loop-taken.head.items next, length-take (n + 1 - n) (drop n piece), before) in
-    ap (λ z. opening_at (z ++ more)) front ∙ judged.1 more ∙ ap (λ z. named c.in-Some.announced.width c.in-Some.announced.height c.in-Some.announced.count (z ++ more)) (drop_all 40 new long)
+    ap (λ z. opening_at (z ++ more)) front ∙ judged.1 more ∙ ap (λ z. named c.in-Some.announced.size.width c.in-Some.announced.size.height c.in-Some.announced.count (z ++ more)) (drop_all 40 new long)
 
 pub loop-taken-preserved : goal.loop-taken-preserved
 loop-taken-preserved c = λ s stands.

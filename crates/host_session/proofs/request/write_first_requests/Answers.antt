@@ -16,5 +16,5 @@ returns c =
     let two = c.write_set_encodings.new.out.items in
     let second : two ≡ one ++ set_encodings = c.in_ok-write_set_encodings.ensures.ok in
     let three = c.write_request.new.out.items in
-    let third : three ≡ two ++ request_bytes false (whole c.args.width c.args.height) = c.in_ok-write_request.ensures.ok ∙ ap (λ a. two ++ request_bytes false a) c.whole.ensures in
-    joined old one two three (set_pixel_format_bytes host_format) set_encodings (request_bytes false (whole c.args.width c.args.height)) first second third
+    let third : three ≡ two ++ request_bytes false (whole c.args.size.width c.args.size.height) = c.in_ok-write_request.ensures.ok ∙ ap (λ a. two ++ request_bytes false a) c.whole.ensures in
+    joined old one two three (set_pixel_format_bytes host_format) set_encodings (request_bytes false (whole c.args.size.width c.args.size.height)) first second third

@@ -22,5 +22,5 @@ pub returns-in-Head-clause-goes : goal.returns-in-Head-clause-goes
 returns-in-Head-clause-goes c = λ more.
     let f : List ℕ = c.args.field.now in
     let whole : length f ≡ 20 = c.requires ∙ ap wants_of c.in-Head.is in
-    let there = head_goes c.args.expected f more c.in-Head.width c.in-Head.height c.number_at-in-Head.result whole (sym c.number_at-in-Head.ensures) in
+    let there = head_goes c.args.expected f more c.in-Head.size c.number_at-in-Head.result whole (sym c.number_at-in-Head.ensures) in
     ap (λ s. resume c.args.expected s (f ++ more)) c.in-Head.is ∙ rw c.next-in-Head.ensures there

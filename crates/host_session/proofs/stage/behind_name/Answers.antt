@@ -7,4 +7,4 @@ use Rattle.host_session.proofs.stage.behind_name.Goals as goal
 pub returns-clause-goes : goal.returns-clause-goes
 returns-clause-goes c = λ expected more.
     let is : c.args.count - min c.args.count text_limit ≡ c.args.count - c.min.result = search rules in
-    name_goes expected c.args.field.now more c.args.width c.args.height c.args.count (c.args.count - c.min.result) c.requires is
+    name_goes expected c.args.field.now more c.args.size c.args.count (c.args.count - c.min.result) c.requires is

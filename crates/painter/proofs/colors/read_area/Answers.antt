@@ -11,11 +11,11 @@ loop-row-preserved c =
     let size : length c.loop-row.colors ≡ area.h * area.w = c.loop-row.auto.colors ∙ c.requires.size in
     let down : row < area.h = rw c.from-row-end.ensures at c.loop-row-test.true in
     let len = rw (c.from-w.ensures) at c.read_row.auto.colors in
-    let value = rw (c.from-top.ensures, c.from-left.ensures, c.from-w.ensures, c.from-width.ensures) at c.read_row.ensures.value in
+    let value = rw (c.from-w.ensures, c.area_row-places.ensures) at c.read_row.ensures.value in
     let screen = rw (c.from-w.ensures) at c.read_row.ensures.screen in
     let read = row_read c.args.pixels.now c.loop-row.colors c.read_row.new.colors width area.w area.x area.y row area.h size down len value screen in
-    rw (c.from-w.ensures, c.from-width.ensures)
+    rw c.from-w.ensures
     (record {
-      value = rows_more c.args.pixels.now c.loop-row.colors c.read_row.new.colors width area.w area.x area.y row _ (range_len (row * area.w) area.w) read (rw c.from-width.ensures at c.loop-row.invariant.value);
+      value = rows_more c.args.pixels.now c.loop-row.colors c.read_row.new.colors width area.w area.x area.y row _ (range_len (row * area.w) area.w) read c.loop-row.invariant.value;
       screen = screen_more c.args.pixels.now c.loop-row.colors c.read_row.new.colors width area.w area.x area.y row _ read c.loop-row.invariant.screen;
     })

@@ -1,4 +1,4 @@
-use Rattle.std.proofs.Common.{◌≡◌, ℕ, ◌+◌, ◌-◌, ◌*◌, List, take, drop, sym, subst, arith}
+use Rattle.std.proofs.Common.{ℕ, ◌+◌, ◌*◌, List, take, drop, sym, subst}
 use Rattle.pixel_format.specs.declared.Color.{Color}
 use Rattle.rect_codec.specs.Written.{ArePixels}
 use Rattle.terms.specs.Appending.{Appends}
@@ -15,11 +15,9 @@ loop-row-preserved c =
     let pixels = c.args.pixels.now in
     let width = c.args.width in
     let row = c.loop-row.row in
-    let told = rw (c.from-top.ensures, c.from-left.ensures, c.from-w.ensures, c.from-line.ensures) at c.in_ok-append_row.ensures.ok in
+    let told = rw c.area_row-places.ensures at c.in_ok-append_row.ensures.ok in
     let start : ℕ = (area.y + row) * width + area.x in
-    let long : start + area.w - start ≡ area.w = omega arith in
-    let more = subst (λ (n : ℕ). Appends (ArePixels f (seen_colors f (take n (drop start pixels)))) c.loop-row.out.items c.append_row.new.out.items) long told in
     subst (λ (cs : List Color). Appends (ArePixels f cs) c.args.out.now.items c.append_row.new.out.items)
     (sym (rows_joined (λ n. seen_colors f (take area.w (drop ((area.y + n) * width + area.x) pixels))) row))
     (both_appended (ArePixels f) (are_joined f) (seen_area f pixels width area row) (seen_colors f (take area.w (drop start pixels))) c.args.out.now.items c.loop-row.out.items c.append_row.new.out.items
-    c.loop-row.invariant more)
+    c.loop-row.invariant told)

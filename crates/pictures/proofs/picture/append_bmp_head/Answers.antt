@@ -6,8 +6,8 @@ use Rattle.pictures.proofs.picture.append_bmp_head.Goals as goal
 pub returns : goal.returns
 unfolding bmp_head
 returns c =
-    let product : 4 * c.from.result * c.from-2.result ≡ 4 * c.args.width * c.args.height = rw (c.from.ensures, c.from-2.ensures) refl in
-    let len : c.in-Ok.length ≡ 54 + 4 * c.args.width * c.args.height = omega (arith, c.in-Ok.ensures, product) in
+    let product : 4 * c.from.result * c.from-2.result ≡ 4 * c.args.size.width * c.args.size.height = rw (c.from.ensures, c.from-2.ensures) refl in
+    let len : c.in-Ok.length ≡ 54 + 4 * c.args.size.width * c.args.size.height = omega (arith, c.in-Ok.ensures, product) in
     rw (
       c.in_ok-extend_from_slice-12.ensures.items,
       c.in_ok-extend_from_slice-11.ensures.items,

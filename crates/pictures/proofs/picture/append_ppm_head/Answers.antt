@@ -7,8 +7,8 @@ use Rattle.pictures.proofs.picture.append_ppm_head.Goals as goal
 pub returns : goal.returns
 unfolding ppm_head
 returns c =
-    let across : c.as_bytes.result.now ≡ decimal c.args.width = c.as_bytes.ensures.value ∙ c.in_ok-across.ensures.ok in
-    let down : c.as_bytes-2.result.now ≡ decimal c.args.height = c.as_bytes-2.ensures.value ∙ c.in_ok-down.ensures.ok in
+    let across : c.as_bytes.result.now ≡ decimal c.args.size.width = c.as_bytes.ensures.value ∙ c.in_ok-across.ensures.ok in
+    let down : c.as_bytes-2.result.now ≡ decimal c.args.size.height = c.as_bytes-2.ensures.value ∙ c.in_ok-down.ensures.ok in
     rw (
       c.in_ok-extend_from_slice-5.ensures.items,
       c.in_ok-extend_from_slice-4.ensures.items,

@@ -1,6 +1,7 @@
 use Rattle.std.proofs.Common.{◌≡◌, ◌<◌, ℕ, ◌+◌, ◌-◌, List, ◌++◌, refl, subst, ap, ◌∙◌, arith}
 use Rattle.std.specs.Io.KnownBytes.{Appends}
 use Rattle.std.proofs.KnownBytes.{Appends-trans}
+use Rattle.terms.specs.declared.screen_size.ScreenSize.{ScreenSize}
 use Rattle.painter.specs.Framebuffer.{color_at}
 use Rattle.pictures.specs.Pictures.{row_at, row_text, rows_text}
 use Rattle.pictures.proofs.Texts.{one_more, rows_step}
@@ -11,8 +12,8 @@ loop-place-preserved g c =
     let s = c.args.screen.now in
     let f = c.args.format in
     let place = c.loop-place.place in
-    let wide = ap (λ p. p.0) c.size-width.ensures in
-    let high = ap (λ p. p.1) c.size-width.ensures in
+    let wide = ap (λ (z : ScreenSize). z.width) c.size-size.ensures in
+    let high = ap (λ (z : ScreenSize). z.height) c.size-size.ensures in
     let inside : place < s.height = omega (arith, c.loop-place-test.true, high) in
     let row : List ℕ = row_text f (color_at s) (row_at f s.height place) 0 s.width in
     let done = c.loop-place.invariant.0 in

@@ -14,7 +14,7 @@ use Rattle.rfb_wire.proofs.FromFront.{header_short, outside, unknown, rectangle_
 use Rattle.rfb_wire.proofs.plain.rectangle.Goals as goal
 
 pub returns-in_default-clause-says : goal.returns-in_default-clause-says
-returns-in_default-clause-says c = header_short c.args.width c.args.height c.args.at c.args.bytes.now c.in_default.ensures.reads
+returns-in_default-clause-says c = header_short c.args.size.width c.args.size.height c.args.at c.args.bytes.now c.in_default.ensures.reads
 
 pub returns-in_err-area-clause-says : goal.returns-in_err-area-clause-says
 returns-in_err-area-clause-says c =
@@ -22,8 +22,8 @@ returns-in_err-area-clause-says c =
     let header = c.in-Some.header.now in
     let rest = c.in-Some.rest.now in
     rw (p.1, p.2) (unless_memory _ _ (elim c.in_err-area.ensures.faults [
-      | inl out ↦ outside c.args.width c.args.height c.args.at c.args.bytes.now header rest c.in-Some.ensures.reads out.0 ∙ ap (λ f. Bad f) (sym out.1)
-      | inr other ↦ unknown c.args.width c.args.height c.args.at c.args.bytes.now header rest c.in-Some.ensures.reads other.0 other.1 ∙ ap (λ f. Bad f) (sym other.2)
+      | inl out ↦ outside c.args.size.width c.args.size.height c.args.at c.args.bytes.now header rest c.in-Some.ensures.reads out.0 ∙ ap (λ f. Bad f) (sym out.1)
+      | inr other ↦ unknown c.args.size.width c.args.size.height c.args.at c.args.bytes.now header rest c.in-Some.ensures.reads other.0 other.1 ∙ ap (λ f. Bad f) (sym other.2)
     ]))
 
 -- what is measured of the data is what the rectangle is
@@ -40,14 +40,14 @@ of_length width height at bytes header rest area encoding f m reads names host m
 
 pub returns-in-Ok-None-clause-says : goal.returns-in-Ok-None-clause-says
 returns-in-Ok-None-clause-says c =
-    of_length c.args.width c.args.height c.args.at c.args.bytes.now c.in-Some.header.now c.in-Some.rest.now c.in_ok-area.area c.in_ok-area.encoding
+    of_length c.args.size.width c.args.size.height c.args.at c.args.bytes.now c.in-Some.header.now c.in-Some.rest.now c.in_ok-area.area c.in_ok-area.encoding
     c.host.result c.measure.result c.in-Some.ensures.reads c.in_ok-area.ensures.ok c.host.ensures c.measure.ensures.value
     ∙ ap (λ m. rectangle_by c.in_ok-area.area c.in_ok-area.encoding (c.args.at + 12) m c.in-Some.rest.now) (c.in-Ok-None.is ∙ ap (λ o. Ok o) c.in-Ok-None.field-0-is)
 
 pub returns-in-Err-clause-says : goal.returns-in-Err-clause-says
 returns-in-Err-clause-says c =
-    unless_memory c.in-Err.fault (rectangle_at c.args.width c.args.height c.args.at c.args.bytes.now ≡ Bad c.in-Err.fault)
-    (of_length c.args.width c.args.height c.args.at c.args.bytes.now c.in-Some.header.now c.in-Some.rest.now c.in_ok-area.area c.in_ok-area.encoding
+    unless_memory c.in-Err.fault (rectangle_at c.args.size.width c.args.size.height c.args.at c.args.bytes.now ≡ Bad c.in-Err.fault)
+    (of_length c.args.size.width c.args.size.height c.args.at c.args.bytes.now c.in-Some.header.now c.in-Some.rest.now c.in_ok-area.area c.in_ok-area.encoding
     c.host.result c.measure.result c.in-Some.ensures.reads c.in_ok-area.ensures.ok c.host.ensures c.measure.ensures.value
     ∙ ap (λ m. rectangle_by c.in_ok-area.area c.in_ok-area.encoding (c.args.at + 12) m c.in-Some.rest.now) c.in-Err.is)
 
@@ -57,6 +57,6 @@ returns-clause-says c =
     let rest = c.in-Some.rest.now in
     let all : take (length rest - n) (drop n rest) ≡ drop n rest = take_all (length rest - n) (drop n rest) (rw (length-drop) (omega arith)) in
     rw all
-    (of_length c.args.width c.args.height c.args.at c.args.bytes.now c.in-Some.header.now c.in-Some.rest.now c.in_ok-area.area c.in_ok-area.encoding
+    (of_length c.args.size.width c.args.size.height c.args.at c.args.bytes.now c.in-Some.header.now c.in-Some.rest.now c.in_ok-area.area c.in_ok-area.encoding
     c.host.result c.measure.result c.in-Some.ensures.reads c.in_ok-area.ensures.ok c.host.ensures c.measure.ensures.value
     ∙ ap (λ m. rectangle_by c.in_ok-area.area c.in_ok-area.encoding (c.args.at + 12) m c.in-Some.rest.now) (c.in-Ok-Some.is ∙ ap (λ o. Ok o) c.in-Ok-Some.field-0-is))

@@ -6,6 +6,6 @@ use Rattle.rfb_wire.proofs.plain.rectangles.Given as goal
 -- what the bytes say is what the rest says behind those that are found
 abbrev pub invariant-loop : goal.invariant-loop
 invariant-loop l = record {
-  says : others_behind l.width l.height (l.count - l.counter) l.at l.found.items l.rest ≡ rectangles_at l.width l.height l.count 4 l.bytes;
+  says : others_behind l.size.width l.size.height (l.count - l.counter) l.at l.found.items l.rest ≡ rectangles_at l.size.width l.size.height l.count 4 l.bytes;
   room : l.at + length l.rest ≤ message_limit;
 }

@@ -5,14 +5,14 @@ use Rattle.rfb_wire.proofs.FromFront.{type_short, head_short, head_read, says_re
 use Rattle.rfb_wire.proofs.plain.update.Goals as goal
 
 pub returns-in_default : goal.returns-in_default
-returns-in_default c = type_short c.args.width c.args.height c.args.bytes.now c.in_default.ensures.reads
+returns-in_default c = type_short c.args.size.width c.args.size.height c.args.bytes.now c.in_default.ensures.reads
 
 pub returns-in_default-field : goal.returns-in_default-field
-returns-in_default-field c = head_short c.args.width c.args.height c.args.bytes.now _ c.in-Some.head.now c.in-Some.ensures.reads c.in_default-field.ensures.reads
+returns-in_default-field c = head_short c.args.size.width c.args.size.height c.args.bytes.now _ c.in-Some.head.now c.in-Some.ensures.reads c.in_default-field.ensures.reads
 
 pub returns : goal.returns
 returns c =
     let count : u16_at c.in-Some-field.numbers.now 1 ≡ c.from_be_bytes-count.result = search rules in
-    rw (head_read c.args.width c.args.height c.from_be_bytes-count.result c.args.bytes.now _ c.in-Some.head.now c.in-Some-field.numbers.now c.in-Some-field.body.now
+    rw (head_read c.args.size.width c.args.size.height c.from_be_bytes-count.result c.args.bytes.now _ c.in-Some.head.now c.in-Some-field.numbers.now c.in-Some-field.body.now
     c.in-Some.ensures.reads c.in-Some-field.ensures.reads count)
-    (says_recorded (λ x. x.0.items) (λ x. x.1.now) c.rectangles.result (rectangles_at c.args.width c.args.height c.from_be_bytes-count.result 4 c.in-Some-field.body.now) c.rectangles.ensures)
+    (says_recorded (λ x. x.0.items) (λ x. x.1.now) c.rectangles.result (rectangles_at c.args.size.width c.args.size.height c.from_be_bytes-count.result 4 c.in-Some-field.body.now) c.rectangles.ensures)

@@ -10,49 +10,49 @@ use Rattle.rfb_wire.proofs.plain.update_message.Goals as goal
 pub returns-in_err-rectangles : goal.returns-in_err-rectangles
 returns-in_err-rectangles c =
     let p = err_from_is_err_and c.from_residual.result c.from_residual.ensures.1 in
-    let w = c.args.width in
-    let h = c.args.height in
+    let w = c.args.size.width in
+    let h = c.args.size.height in
     let bytes = c.args.bytes.now in
-    let front : take c.min.result bytes ≡ take message_limit bytes = front_taken c.min.result bytes c.min.ensures in
+    let front : take c.min.result bytes ≡ take message_limit bytes = front_taken c.min.result bytes (rw c.message_limit-limit.ensures at c.min.ensures) in
     let g = c.in_err-rectangles.field-0.0 in
     rw (p.1, p.2) (unless_memory_map g (update_at w h (take c.min.result bytes) ≡ Bad g) (message_at message_limit w h bytes ≡ Bad g)
     (λ e. front_bad message_limit w h bytes g c.requires.some c.requires.kind (ap (update_at w h) (sym front) ∙ e))
     c.in_err-rectangles.ensures)
 
-pub returns-then-bytes-gt-MESSAGE_LIMIT : goal.returns-then-bytes-gt-MESSAGE_LIMIT
-returns-then-bytes-gt-MESSAGE_LIMIT c =
-    let w = c.args.width in
-    let h = c.args.height in
+pub returns-then-bytes-limit : goal.returns-then-bytes-limit
+returns-then-bytes-limit c =
+    let w = c.args.size.width in
+    let h = c.args.size.height in
     let bytes = c.args.bytes.now in
-    let front : take c.min.result bytes ≡ take message_limit bytes = front_taken c.min.result bytes c.min.ensures in
+    let front : take c.min.result bytes ≡ take message_limit bytes = front_taken c.min.result bytes (rw c.message_limit-limit.ensures at c.min.ensures) in
     let more = rw c.in_default.is at c.in_ok-rectangles.ensures in
-    front_long message_limit w h bytes c.requires.some c.requires.kind (ap (update_at w h) (sym front) ∙ more) c.if-bytes-gt-MESSAGE_LIMIT.true
+    front_long message_limit w h bytes c.requires.some c.requires.kind (ap (update_at w h) (sym front) ∙ more) (rw c.message_limit-limit.ensures at c.if-bytes-limit.true)
 
 pub returns-in_default : goal.returns-in_default
 returns-in_default c =
-    let w = c.args.width in
-    let h = c.args.height in
+    let w = c.args.size.width in
+    let h = c.args.size.height in
     let bytes = c.args.bytes.now in
-    let front : take c.min.result bytes ≡ take message_limit bytes = front_taken c.min.result bytes c.min.ensures in
+    let front : take c.min.result bytes ≡ take message_limit bytes = front_taken c.min.result bytes (rw c.message_limit-limit.ensures at c.min.ensures) in
     let more = rw c.in_default.is at c.in_ok-rectangles.ensures in
-    front_short message_limit w h bytes c.requires.some c.requires.kind (ap (update_at w h) (sym front) ∙ more) c.if-bytes-gt-MESSAGE_LIMIT.false
+    front_short message_limit w h bytes c.requires.some c.requires.kind (ap (update_at w h) (sym front) ∙ more) (rw c.message_limit-limit.ensures at c.if-bytes-limit.false)
 
 pub slice_bounds-from_slice-count : goal.slice_bounds-from_slice-count
 slice_bounds-from_slice-count c =
-    let w = c.args.width in
-    let h = c.args.height in
+    let w = c.args.size.width in
+    let h = c.args.size.height in
     let bytes = c.args.bytes.now in
-    let front : take c.min.result bytes ≡ take message_limit bytes = front_taken c.min.result bytes c.min.ensures in
+    let front : take c.min.result bytes ≡ take message_limit bytes = front_taken c.min.result bytes (rw c.message_limit-limit.ensures at c.min.ensures) in
     let got = rw c.in-Some.is at c.in_ok-rectangles.ensures in
     let f = front_whole w h bytes c.in-Some.rest.now c.in-Some.rectangles.items c.requires.some c.requires.kind (ap (update_at w h) (sym front) ∙ got) in
     rw (front, f.front_is, length-append) (omega arith)
 
 pub from_parts-message-requires : goal.from_parts-message-requires
 from_parts-message-requires c =
-    let w = c.args.width in
-    let h = c.args.height in
+    let w = c.args.size.width in
+    let h = c.args.size.height in
     let bytes = c.args.bytes.now in
-    let front : take c.min.result bytes ≡ take message_limit bytes = front_taken c.min.result bytes c.min.ensures in
+    let front : take c.min.result bytes ≡ take message_limit bytes = front_taken c.min.result bytes (rw c.message_limit-limit.ensures at c.min.ensures) in
     let got = rw c.in-Some.is at c.in_ok-rectangles.ensures in
     let f = front_whole w h bytes c.in-Some.rest.now c.in-Some.rectangles.items c.requires.some c.requires.kind (ap (update_at w h) (sym front) ∙ got) in
     let same : c.in_ok-whole.whole.items ≡ f.whole = c.in_ok-whole.ensures.items ∙ whole_taken (take c.min.result bytes) f.whole c.in-Some.rest.now (front ∙ f.front_is) in
@@ -60,10 +60,10 @@ from_parts-message-requires c =
 
 pub returns : goal.returns
 returns c =
-    let w = c.args.width in
-    let h = c.args.height in
+    let w = c.args.size.width in
+    let h = c.args.size.height in
     let bytes = c.args.bytes.now in
-    let front : take c.min.result bytes ≡ take message_limit bytes = front_taken c.min.result bytes c.min.ensures in
+    let front : take c.min.result bytes ≡ take message_limit bytes = front_taken c.min.result bytes (rw c.message_limit-limit.ensures at c.min.ensures) in
     let got = rw c.in-Some.is at c.in_ok-rectangles.ensures in
     let f = front_whole w h bytes c.in-Some.rest.now c.in-Some.rectangles.items c.requires.some c.requires.kind (ap (update_at w h) (sym front) ∙ got) in
     let same : c.in_ok-whole.whole.items ≡ f.whole = c.in_ok-whole.ensures.items ∙ whole_taken (take c.min.result bytes) f.whole c.in-Some.rest.now (front ∙ f.front_is) in

@@ -13,14 +13,14 @@ returns-in_err-area-clause-faults c =
     let p = err_from_is_err_and c.from_residual.result c.from_residual.ensures.1 in
     let header = c.args.header.now in
     rw (p.1, p.2) (λ more. elim c.in_err-area.ensures.faults [
-      | inl out ↦ header_outside c.args.width c.args.height c.args.at c.args.others header more c.requires.whole out.0 ∙ ap (λ f. Bad f) (sym out.1)
-      | inr other ↦ header_unknown c.args.width c.args.height c.args.at c.args.others header more c.requires.whole other.0 other.1 ∙ ap (λ f. Bad f) (sym other.2)
+      | inl out ↦ header_outside c.args.size.width c.args.size.height c.args.at c.args.others header more c.requires.whole out.0 ∙ ap (λ f. Bad f) (sym out.1)
+      | inr other ↦ header_unknown c.args.size.width c.args.size.height c.args.at c.args.others header more c.requires.whole other.0 other.1 ∙ ap (λ f. Bad f) (sym other.2)
     ])
 
 pub returns-clause-goes : goal.returns-clause-goes
 returns-clause-goes c = λ more.
-    let width = c.args.width in
-    let height = c.args.height in
+    let width = c.args.size.width in
+    let height = c.args.size.height in
     let area = c.in_ok-area.area in
     let encoding = c.in_ok-area.encoding in
     let names = c.in_ok-area.ensures.ok in

@@ -8,12 +8,12 @@ use Rattle.rfb_wire.proofs.step.judge_header.Goals as goal
 
 pub returns-then-not-lies_inside-clause-faults : goal.returns-then-not-lies_inside-clause-faults
 returns-then-not-lies_inside-clause-faults c =
-    let outside : is_inside c.args.width c.args.height (area_of c.args.header.now) ≡ false = cc in
+    let outside : is_inside c.args.size.width c.args.size.height (area_of c.args.header.now) ≡ false = cc in
     inl (outside, refl)
 
 pub returns-in_default-clause-faults : goal.returns-in_default-clause-faults
 returns-in_default-clause-faults c =
-    let inside : is_inside c.args.width c.args.height (area_of c.args.header.now) ≡ true = cc in
+    let inside : is_inside c.args.size.width c.args.size.height (area_of c.args.header.now) ≡ true = cc in
     let unknown : encoding_of (encoding_number c.args.header.now) ≡ None =
     ap encoding_of (sym c.encoding_at-number.ensures) ∙ sym c.from_number.ensures ∙ c.in_default.is in
     let fits : c.encoding_at-number.result < 4294967296 = c.encoding_at-number.type_inv in
@@ -22,7 +22,7 @@ returns-in_default-clause-faults c =
 
 pub returns-clause-ok : goal.returns-clause-ok
 returns-clause-ok c =
-    let inside : is_inside c.args.width c.args.height (area_of c.args.header.now) ≡ true = cc in
+    let inside : is_inside c.args.size.width c.args.size.height (area_of c.args.header.now) ≡ true = cc in
     record {
       area_is = c.area_at-area.ensures;
       inside = inside;

@@ -13,8 +13,8 @@ returns-in-Some-clause-smallest c =
 
 pub returns-in-None-clause-smallest : goal.returns-in-None-clause-smallest
 returns-in-None-clause-smallest c =
-    subst (λ (p : Option Area). IsSmallest (λ x y. is_pending p x y || is_in c.args.area x y) c.args.area) (sym c.in-None.is) (part_itself c.args.width c.args.height c.args.area c.requires.area)
+    subst (λ (p : Option Area). IsSmallest (λ x y. is_pending p x y || is_in c.args.area x y) c.args.area) (sym c.in-None.is) (part_itself c.args.size.width c.args.size.height c.args.area c.requires.area)
 
 pub returns-in-Some-clause-part : goal.returns-in-Some-clause-part
 returns-in-Some-clause-part c =
-    part_around c.args.width c.args.height c.in-Some.pending c.args.area c.around.result (rw c.in-Some.is at c.requires.pending) c.requires.area c.around.ensures
+    part_around c.args.size.width c.args.size.height c.in-Some.pending c.args.area c.around.result (rw c.in-Some.is at c.requires.pending) c.requires.area c.around.ensures

@@ -29,6 +29,6 @@ returns-clause-goes c = λ s stands.
     let name : IsInName c.new-name.result (s ++ take t piece) =
     name_begins c.new-name.result c.in-Some-2.begun.announced (s ++ take t piece) c.new-name.ensures.announced c.new-name.ensures.left c.new-name.ensures.none (went s head) in
     let ends = rw c.in-Some-whole.is at c.in_ok-whole-2.ensures.goes in
-    let opened : IsOpened w.width w.height c.take-2.new.self.kept.items ((s ++ take t piece) ++ take w.taken (take (length piece - t) (drop t piece))) = ends (s ++ take t piece) name in
-    subst (IsOpened w.width w.height c.take-2.new.self.kept.items)
+    let opened : IsOpened w.size.width w.size.height c.take-2.new.self.kept.items ((s ++ take t piece) ++ take w.taken (take (length piece - t) (drop t piece))) = ends (s ++ take t piece) name in
+    subst (IsOpened w.size.width w.size.height c.take-2.new.self.kept.items)
     (ap (λ z. (s ++ take t piece) ++ take w.taken z) rest ∙ append_assoc s (take t piece) (take w.taken (drop t piece)) ∙ ap (λ z. s ++ z) (sym (take-add t w.taken piece))) opened

@@ -19,9 +19,9 @@ returns-in_err-hear-clause-fault g c =
     let rest : List ℕ = take (length piece - w.taken) (drop w.taken piece) in
     let rest_is : rest ≡ drop w.taken piece = take_all (length piece - w.taken) (drop w.taken piece) (omega (arith, length-drop w.taken piece)) in
     let went = rw c.in-Some.is at c.in_ok-whole.ensures.goes in
-    let opened : IsOpened w.width w.height (name_in c.take.new.self.name) (s ++ take w.taken piece) = went s o.opening in
+    let opened : IsOpened w.size.width w.size.height (name_in c.take.new.self.name) (s ++ take w.taken piece) = went s o.opening in
     let fault = rw (c.new-reader.ensures, c.new-hosts.ensures.items) at c.in_err-hear.ensures.fault in
-    begins_with_fault f w.width w.height (name_in c.take.new.self.name) (s ++ take w.taken piece) rest (s ++ piece) [] c.hear.new.hosts.items opened
+    begins_with_fault f w.size.width w.size.height (name_in c.take.new.self.name) (s ++ take w.taken piece) rest (s ++ piece) [] c.hear.new.hosts.items opened
     (sym (ap (λ z. (s ++ take w.taken piece) ++ z) rest_is ∙ all_of s piece w.taken)) (fault refl))
 
 pub returns-clause-goes : goal.returns-clause-goes
@@ -33,9 +33,9 @@ returns-clause-goes g c = λ none times s stands.
     let rest : List ℕ = take (length piece - w.taken) (drop w.taken piece) in
     let rest_is : rest ≡ drop w.taken piece = take_all (length piece - w.taken) (drop w.taken piece) (omega (arith, length-drop w.taken piece)) in
     let went = rw c.in-Some.is at c.in_ok-whole.ensures.goes in
-    let opened : IsOpened w.width w.height (name_in c.take.new.self.name) (s ++ take w.taken piece) = went s o.opening in
-    let wide : c.hear.new.reader.width ≡ w.width = c.in_ok-hear.ensures.size.0 ∙ ap (λ (r : Reader). r.width) c.new-reader.ensures in
-    let high : c.hear.new.reader.height ≡ w.height = c.in_ok-hear.ensures.size.1 ∙ ap (λ (r : Reader). r.height) c.new-reader.ensures in
+    let opened : IsOpened w.size.width w.size.height (name_in c.take.new.self.name) (s ++ take w.taken piece) = went s o.opening in
+    let wide : c.hear.new.reader.width ≡ w.size.width = c.in_ok-hear.ensures.size.0 ∙ ap (λ (r : Reader). r.width) c.new-reader.ensures in
+    let high : c.hear.new.reader.height ≡ w.size.height = c.in_ok-hear.ensures.size.1 ∙ ap (λ (r : Reader). r.height) c.new-reader.ensures in
     let goes = rw (c.new-reader.ensures, c.new-hosts.ensures.items) at c.in_ok-hear.ensures.goes in
     begins_to_hear g.T.Tally.stands_for _ c.hear.new.reader c.hear.new.hosts.items times (s ++ piece) (s ++ take w.taken piece) rest (rw (wide, high) opened) (omega (arith, o.before, length-append s (take w.taken piece))) (c.in_ok-tell.ensures [] [] o.nothing) c.in_ok-hear.ensures.going
     (sym (ap (λ z. (s ++ take w.taken piece) ++ z) rest_is ∙ all_of s piece w.taken)) (rw (wide, high) (goes [] (record { skipped = []; count = refl; is = refl })))

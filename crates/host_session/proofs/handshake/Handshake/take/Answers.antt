@@ -27,13 +27,13 @@ returns-in-Whole-clause-taken c =
     let i = c.turns.invariant in
     let n = c.in-Whole.taken in
     let left = c.turns.rest.now in
-    let t : Whole c.args.expected c.turns.self c.take_some.new.self n c.in-Whole.width c.in-Whole.height left c.turns.due.items c.take_some.new.due.items = rw c.in-Whole.is at c.in_ok-take_some.ensures.taking in
+    let t : Whole c.args.expected c.turns.self c.take_some.new.self n c.in-Whole.size.width c.in-Whole.size.height left c.turns.due.items c.take_some.new.due.items = rw c.in-Whole.is at c.in_ok-take_some.ensures.taking in
     let at : length c.args.piece.now - length left + n ≡ length i.front + n = omega (arith, ap length i.piece, length-append i.front left) in
     let front : take (length c.args.piece.now - length left + n) c.args.piece.now ≡ i.front ++ take n left =
     rw at (ap (take (length i.front + n)) i.piece ∙ take-append-add i.front left n) in
     record {
       some = omega (arith, t.some, ap length i.piece, length-append i.front left);
       ends = rw front (leads_end c.args.expected c.args.self.now.position c.turns.self.position c.args.self.now.kept.items c.turns.self.kept.items
-          i.front (take n left) c.args.due.now.items c.turns.due.items c.take_some.new.due.items (first_requests c.in-Whole.width c.in-Whole.height)
-          (told_at c.in-Whole.width c.in-Whole.height c.take_some.new.self.kept.items) i.leads t.ends);
+          i.front (take n left) c.args.due.now.items c.turns.due.items c.take_some.new.due.items (first_requests c.in-Whole.size.width c.in-Whole.size.height)
+          (told_at c.in-Whole.size.width c.in-Whole.size.height c.take_some.new.self.kept.items) i.leads t.ends);
     }

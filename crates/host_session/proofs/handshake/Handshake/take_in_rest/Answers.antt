@@ -15,7 +15,7 @@ returns-then-piece-left c = record {
             let s = c.args.self.now in
             let p : List ℕ = c.args.piece.now in
             let within : length p ≤ c.args.left = omega arith in
-            ap (λ q. position_at expected q s.kept.items (p ++ more)) c.requires.position ∙ rest-goes c.args.width c.args.height c.args.left s.kept.items p more within;
+            ap (λ q. position_at expected q s.kept.items (p ++ more)) c.requires.position ∙ rest-goes c.args.size.width c.args.size.height c.args.left s.kept.items p more within;
       };
     };
     unfinished = omega arith;
@@ -34,7 +34,7 @@ returns c = record {
             let s = c.args.self.now in
             let p : List ℕ = take c.args.left c.args.piece.now in
             let whole : length p ≡ c.args.left = length-take-le c.args.left c.args.piece.now (omega arith) in
-            ap (λ q. position_at expected q s.kept.items (p ++ more)) c.requires.position ∙ rest-whole c.args.width c.args.height c.args.left s.kept.items p more whole;
+            ap (λ q. position_at expected q s.kept.items (p ++ more)) c.requires.position ∙ rest-whole c.args.size.width c.args.size.height c.args.left s.kept.items p more whole;
       };
     };
   };

@@ -17,10 +17,10 @@ returns-clause-ok c =
     take_all (c.len-start.result + c.from.result * c.from-2.result) out.items (omega (arith, before)) in
     let room = rw all at c.in_ok-resize.ensures.items in
     let held : vec_len out ≡ c.len-start.result = sym c.len-start.ensures in
-    let told : (x y : ℕ) → color_at (screen_of s.width s.height s.pixels.items) (area.x + x) (area.y + y) ≡ color_at c.args.self.now (area.x + x) (area.y + y) =
+    let told : (x y : ℕ) → color_at (screen_of s.size.width s.size.height s.pixels.items) (area.x + x) (area.y + y) ≡ color_at c.args.self.now (area.x + x) (area.y + y) =
     λ x y. ap (λ (f : Framebuffer). color_at f (area.x + x) (area.y + y)) c.self.view_is in
     let value : (x y : ℕ) → x < area.w → y < area.h → rows_of c.read_area.new.colors area.w x y ≡ color_at c.args.self.now (area.x + x) (area.y + y) =
-    λ x y across down. rw c.deref.ensures.value at (c.read_area.ensures.value x y across down) ∙ sym (color_is s.pixels.items ((area.y + y) * s.width + (area.x + x))) ∙ told x y in
+    λ x y across down. rw c.deref.ensures.value at (c.read_area.ensures.value x y across down) ∙ sym (color_is s.pixels.items ((area.y + y) * s.size.width + (area.x + x))) ∙ told x y in
     colors_appended c.args.self.now area out.items c.resize.new.self.items _ c.deref_mut.result.now c.read_area.new.colors c.len-start.result c.resize.new.self.len
     before (c.in_ok-resize.ensures.len ∙ ap (λ (n : ℕ). c.len-start.result + n) count)
     room (length-replicate _ _ ∙ omega (arith, count, held)) c.deref_mut.ensures.value c.read_area.auto.colors

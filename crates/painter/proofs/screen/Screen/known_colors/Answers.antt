@@ -8,4 +8,4 @@ pub returns : goal.returns
 returns c = λ area columns rows.
     let s = c.self.inside in
     subst (λ (screen : Framebuffer). AreColorsOf screen area (area_colors screen area)) c.self.view_is
-    (colors_are s.width s.height s.pixels.items area (sym s.pixels.ok.0 ∙ c.self.invariant) (rw (← c.self.view_is) at columns) (rw (← c.self.view_is) at rows))
+    (colors_are s.size.width s.size.height s.pixels.items area (sym s.pixels.ok.0 ∙ c.self.invariant) (rw (← c.self.view_is) at columns) (rw (← c.self.view_is) at rows))

@@ -13,9 +13,9 @@ returns c =
     let f = c.args.format.now in
     let area = c.args.area in
     let a = c.in_ok-number_area.ensures in
-    let same : seen_area f c.deref.result.now s.width area area.h ≡ sent_colors f c.args.self.now area =
-    ap (λ (ps : List Pixel). seen_area f ps s.width area area.h) c.deref.ensures.value
-    ∙ sym (sent_is f s.width s.height s.pixels.items area)
+    let same : seen_area f c.deref.result.now s.size.width area area.h ≡ sent_colors f c.args.self.now area =
+    ap (λ (ps : List Pixel). seen_area f ps s.size.width area area.h) c.deref.ensures.value
+    ∙ sym (sent_is f s.size.width s.size.height s.pixels.items area)
     ∙ ap (λ (screen : Framebuffer). sent_colors f screen area) c.self.view_is in
     let all : c.number_area.new.out.items ≡ a.bytes = a.is ∙ ap (λ (z : List ℕ). z ++ a.bytes) c.new-numbers.ensures.items in
     subst (λ (z : List ℕ). AreNumbersOf f (sent_colors f c.args.self.now area) z) (sym all)

@@ -11,8 +11,8 @@ use Rattle.painter.proofs.screen.Screen.paint_data.Goals as goal
 pub copy_area-requires-clause-source : goal.copy_area-requires-clause-source
 copy_area-requires-clause-source c =
     let content = rw (c.in-CopyRect.is, ← c.self.view_is) at c.requires.content in
-    let within = source_within c.self.inside.width c.self.inside.height c.args.area c.source_at.result c.args.bytes.now c.source_at.ensures content in
-    let rows = mul-le-mul_left c.self.inside.width within.1 in
+    let within = source_within c.self.inside.size.width c.self.inside.size.height c.args.area c.source_at.result c.args.bytes.now c.source_at.ensures content in
+    let rows = mul-le-mul_left c.self.inside.size.width within.1 in
     record { columns = within.0; rows = omega (arith, rows, c.self.invariant, c.deref_mut-in-CopyRect.ensures.len) }
 
 pub paint-requires-clause-held : goal.paint-requires-clause-held
@@ -30,7 +30,7 @@ returns-in-Raw-clause-painted c =
     let told = rw c.deref_mut.ensures.value at c.paint_raw.ensures in
     let content = rw c.in-Raw.is at c.requires.content in
     rw (← c.self.view_is, c.in-Raw.is)
-    (has_data fields.width fields.height fields.pixels.items (with_items fields.pixels pixels).items encodings.Raw c.args.area c.args.bytes.now content
+    (has_data fields.size.width fields.size.height fields.pixels.items (with_items fields.pixels pixels).items encodings.Raw c.args.area c.args.bytes.now content
     (rw (with_items_is fields.pixels pixels kept) told))
 
 pub returns-in-CopyRect-clause-painted : goal.returns-in-CopyRect-clause-painted
@@ -42,7 +42,7 @@ returns-in-CopyRect-clause-painted c =
     let told = rw (c.deref_mut-in-CopyRect.ensures.value, c.source_at.ensures) at c.copy_area.ensures in
     let content = rw (c.in-CopyRect.is, ← c.self.view_is) at c.requires.content in
     rw (← c.self.view_is, c.in-CopyRect.is)
-    (has_data fields.width fields.height fields.pixels.items (with_items fields.pixels pixels).items encodings.CopyRect c.args.area c.args.bytes.now content
+    (has_data fields.size.width fields.size.height fields.pixels.items (with_items fields.pixels pixels).items encodings.CopyRect c.args.area c.args.bytes.now content
     (rw (with_items_is fields.pixels pixels kept) told))
 
 pub returns-in-Rre-clause-painted : goal.returns-in-Rre-clause-painted

@@ -8,7 +8,7 @@ invariant_of-places c =
     let words = c.in_ok-words.words in
     let summary = c.in_ok-summary.summary in
     let zeros : words.items ≡ replicate (4 * (c.tiles_of.result * c.tiles_of-2.result)) 0 = c.in_ok-words.ensures.items_if_clones_equal (λ _ e. e) in
-    let many : c.tiles_of.result * c.tiles_of-2.result ≡ tiles_of c.args.height * tiles_of c.args.width = rw (c.tiles_of.ensures.is, c.tiles_of-2.ensures.is) refl in
+    let many : c.tiles_of.result * c.tiles_of-2.result ≡ tiles_of c.args.size.height * tiles_of c.args.size.width = rw (c.tiles_of.ensures.is, c.tiles_of-2.ensures.is) refl in
     record {
       wide = omega arith;
       high = omega arith;

@@ -10,4 +10,4 @@ returns-clause-just c =
     let words = c.fill_area.new.words in
     let kept : length words ≡ vec_len s.words = c.fill_area.auto.words ∙ c.deref_mut.ensures.len in
     let filled = rw (c.tiles_of-columns.ensures.is, c.deref_mut.ensures.value) at c.fill_area.ensures.filled in
-    rw (← c.self.view_is) (filled_just s.width s.height s.words.items (with_items s.words words).items c.args.area c.args.value (rw (with_items_is s.words words kept) filled))
+    rw (← c.self.view_is) (filled_just s.size.width s.size.height s.words.items (with_items s.words words).items c.args.area c.args.value (rw (with_items_is s.words words kept) filled))

@@ -8,7 +8,7 @@ returns-in_default c =
     let s = c.self.inside in
     let before = rw (← c.self.view_is) at c.loop-next.invariant.first in
     rw (← c.self.view_is)
-    (none_left_over s.width s.height s.words.items s.summary.items c.args.area c.args.from c.loop-next.next c.self.invariant (rw (← c.self.view_is) at c.requires.columns) (rw (← c.self.view_is) at c.requires.rows)
+    (none_left_over s.size.width s.size.height s.words.items s.summary.items c.args.area c.args.from c.loop-next.next c.self.invariant (rw (← c.self.view_is) at c.requires.columns) (rw (← c.self.view_is) at c.requires.rows)
     before (rw (c.in_default.is, c.tile_at-end.ensures, c.tiles_of-columns.ensures.is, c.deref.ensures.value) at c.first.ensures))
 
 pub returns-in-Some-smallest_in_tile : goal.returns-in-Some-smallest_in_tile
@@ -18,7 +18,7 @@ returns-in-Some-smallest_in_tile c =
     let first = rw (c.in-Some.is, c.tile_at-end.ensures, c.tiles_of-columns.ensures.is, c.deref.ensures.value) at c.first.ensures in
     let is = rw (c.in-Some-smallest_in_tile.is, ← c.self.view_is) at c.smallest_in_tile.ensures in
     rw (← c.self.view_is)
-    (first_tile s.width s.height s.words.items s.summary.items c.args.area c.args.from c.loop-next.next c.in-Some.tile c.in-Some-smallest_in_tile.area c.self.invariant
+    (first_tile s.size.width s.size.height s.words.items s.summary.items c.args.area c.args.from c.loop-next.next c.in-Some.tile c.in-Some-smallest_in_tile.area c.self.invariant
     (rw (← c.self.view_is) at c.requires.columns) (rw (← c.self.view_is) at c.requires.rows) (omega arith) (omega arith) c.loop-next.invariant.from_on before first is)
 
 pub loop-next-preserved : goal.loop-next-preserved
@@ -32,8 +32,8 @@ loop-next-preserved c =
     record {
       from_on = omega (arith, on, from_on);
       first = rw (← c.self.view_is)
-          (before_next (places_of s.width s.height s.words.items) c.args.area c.args.from c.in-Some.tile
-          (before_first s.width s.height s.words.items s.summary.items c.args.area c.args.from c.loop-next.next c.in-Some.tile c.self.invariant
+          (before_next (places_of s.size.width s.size.height s.words.items) c.args.area c.args.from c.in-Some.tile
+          (before_first s.size.width s.size.height s.words.items s.summary.items c.args.area c.args.from c.loop-next.next c.in-Some.tile c.self.invariant
           (rw (← c.self.view_is) at c.requires.columns) (rw (← c.self.view_is) at c.requires.rows) before first) none);
     }
 
@@ -41,5 +41,5 @@ pub returns : goal.returns
 returns c =
     let s = c.self.inside in
     rw (← c.self.view_is)
-    (none_behind (places_of s.width s.height s.words.items) c.args.area c.args.from c.loop-next.next (rw (← c.self.view_is) at c.loop-next.invariant.first)
+    (none_behind (places_of s.size.width s.size.height s.words.items) c.args.area c.args.from c.loop-next.next (rw (← c.self.view_is) at c.loop-next.invariant.first)
     (rw (c.tile_at-end.ensures, c.tiles_of-columns.ensures.is) at c.loop-next-test.false))

@@ -17,15 +17,15 @@ unfolding resume
 returns-then-not-lies_inside-clause-refused c = λ more.
     let area = c.in-Source.area in
     let whole : length c.args.field.now ≡ 4 = c.requires ∙ ap (wants_of c.args.format.now) c.in-Source.is in
-    let out : is_inside c.args.width c.args.height (source_of area c.args.field.now) ≡ false =
-    ap (is_inside c.args.width c.args.height) (sym c.source_at.ensures) ∙ sym c.if-not-lies_inside.ensures in
-    rw c.in-Source.is (source_outside c.args.width c.args.height area c.args.field.now more whole out)
+    let out : is_inside c.args.size.width c.args.size.height (source_of area c.args.field.now) ≡ false =
+    ap (is_inside c.args.size.width c.args.size.height) (sym c.source_at.ensures) ∙ sym c.if-not-lies_inside.ensures in
+    rw c.in-Source.is (source_outside c.args.size.width c.args.size.height area c.args.field.now more whole out)
 
 pub returns-else-not-lies_inside-clause-goes : goal.returns-else-not-lies_inside-clause-goes
 unfolding resume go_on
 returns-else-not-lies_inside-clause-goes c = λ more.
     let area = c.in-Source.area in
     let whole : length c.args.field.now ≡ 4 = c.requires ∙ ap (wants_of c.args.format.now) c.in-Source.is in
-    let inside : is_inside c.args.width c.args.height (source_of area c.args.field.now) ≡ true =
-    ap (is_inside c.args.width c.args.height) (sym c.source_at.ensures) ∙ sym c.if-not-lies_inside.ensures in
-    rw c.in-Source.is (source_inside c.args.width c.args.height area c.args.field.now more whole inside)
+    let inside : is_inside c.args.size.width c.args.size.height (source_of area c.args.field.now) ≡ true =
+    ap (is_inside c.args.size.width c.args.size.height) (sym c.source_at.ensures) ∙ sym c.if-not-lies_inside.ensures in
+    rw c.in-Source.is (source_inside c.args.size.width c.args.size.height area c.args.field.now more whole inside)

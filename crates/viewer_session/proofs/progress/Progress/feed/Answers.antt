@@ -12,7 +12,7 @@ returns-in-Some-clause-goes c =
     let r = c.in-Some.reader in
     let is : c.args.self.now.reader ≡ Some r = sym c.take.ensures.value ∙ c.in-Some.is in
     on_ok c.listen-heard.result _ _ (λ goes stream told messages h.
-    listening_goes g.width g.height g.name.items r c.listen-heard.new.reader stream c.args.piece.now messages c.listen-heard.new.out.items (told ++ due_by g) goes
+    listening_goes g.size.width g.size.height g.name.items r c.listen-heard.new.reader stream c.args.piece.now messages c.listen-heard.new.out.items (told ++ due_by g) goes
     (in_messages g c.args.self.now.reader r stream told messages is h))
     c.listen-heard.ensures.goes
 
@@ -22,7 +22,7 @@ returns-in-Some-clause-faults c =
     let r = c.in-Some.reader in
     let is : c.args.self.now.reader ≡ Some r = sym c.take.ensures.value ∙ c.in-Some.is in
     if_err c.listen-heard.result _ _ (λ f stops stream told messages h.
-    listening_stops g.width g.height g.name.items r c.listen-heard.new.reader stream c.args.piece.now messages c.listen-heard.new.out.items (told ++ due_by g) f stops
+    listening_stops g.size.width g.size.height g.name.items r c.listen-heard.new.reader stream c.args.piece.now messages c.listen-heard.new.out.items (told ++ due_by g) f stops
     (in_messages g c.args.self.now.reader r stream told messages is h))
     c.listen-heard.ensures.faults
 

@@ -13,7 +13,7 @@ returns-clause-asked c =
     let old = c.args.self.now in
     let mid : View = c.if-not-incremental.self in
     let part = c.in-Some.area in
-    let cut : HasJust (is_left old.screen.width old.screen.height c.args.area) part = rw c.size-width.ensures at c.in-Some.ensures in
+    let cut : HasJust (is_left old.screen.width old.screen.height c.args.area) part = rw c.size-size.ensures at c.in-Some.ensures in
     let marked : IsMarked old mid (not c.args.incremental) (is_in part) = elim c.if-not-incremental.branch [
       | then-not-incremental w ↦
           (let plain : c.args.incremental ≡ false = w.if-not-incremental.true in
@@ -43,12 +43,12 @@ pub insert-requires : goal.insert-requires
 insert-requires c =
     let old = c.args.self.now in
     let part = c.in-Some.area in
-    let cut : HasJust (is_left old.screen.width old.screen.height c.args.area) part = rw c.size-width.ensures at c.in-Some.ensures in
+    let cut : HasJust (is_left old.screen.width old.screen.height c.args.area) part = rw c.size-size.ensures at c.in-Some.ensures in
     rw (c.requires.sound.width, c.requires.sound.height) (part_left old.screen.width old.screen.height c.args.area part cut).within
 
 pub widened-requires-clause-area : goal.widened-requires-clause-area
 widened-requires-clause-area c =
     let old = c.args.self.now in
     let part = c.in-Some.area in
-    let cut : HasJust (is_left old.screen.width old.screen.height c.args.area) part = rw c.size-width.ensures at c.in-Some.ensures in
-    rw c.size-width.ensures (part_left old.screen.width old.screen.height c.args.area part cut)
+    let cut : HasJust (is_left old.screen.width old.screen.height c.args.area) part = rw c.size-size.ensures at c.in-Some.ensures in
+    rw c.size-size.ensures (part_left old.screen.width old.screen.height c.args.area part cut)
