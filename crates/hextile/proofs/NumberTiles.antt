@@ -4,11 +4,11 @@ use Rattle.std.specs.Prelude.{All}
 use Rattle.std.proofs.lemmas.Bool.{cases_eq}
 use Rattle.std.proofs.lemmas.List.{get_or-set_same, get_or-set_other, get_or-take, get_or_default, length-take-le}
 use Rattle.pixel_format.specs.Format.{Format}
-use Rattle.pixel_format.specs.Number.{number_color, IsNumber}
+use Rattle.pixel_format.specs.Number.{number_color, IsNumber, colors_of}
 use Rattle.pixel_format.proofs.Numbers.{color_nth}
 use Rattle.hextile.specs.Tiles.{tile_count, tile_left, tile_top, tile_width, tile_height}
 use Rattle.hextile.specs.Encoded.{AreTileColors}
-use Rattle.hextile.specs.Numbered.{colors_of, AreTileNumbers}
+use Rattle.hextile.specs.Numbered.{AreTileNumbers}
 use Rattle.hextile.proofs.Tiling.{place_inside}
 
 pub color_if : (f : Format) (b : Bool) (m n : ℕ) → number_color f (cond b m n) ≡ cond b (number_color f m) (number_color f n)

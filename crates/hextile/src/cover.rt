@@ -1,15 +1,15 @@
 //! Which parts of a tile an encoder lists.
 
 ghost use Rattle.std.specs.Prelude.{◌≡◌, ◌↔◌, ℕ, ◌+◌, ◌*◌, ◌/◌, ◌%◌, ◌<◌, ◌≤◌, ◌&&◌, length, All, IsTrue, [], nat_lt, nat_le, reverse, true, if◌then◌else◌, slice_index};
-ghost use Rattle.pixel_format.specs.Number.{number_color, IsNumber};
+ghost use Rattle.pixel_format.specs.Number.{number_color, IsNumber, colors_of};
 ghost use Rattle.pixel_format.specs.Canvas.{covers};
 ghost use Rattle.pixel_format.specs.declared.Color.{Color};
 ghost use Rattle.hextile.specs.Encoded.{IsPart, IsUniform, IsCover, ShownUpto};
-ghost use Rattle.hextile.specs.Numbered.{colors_of, AreTileNumbers};
+ghost use Rattle.hextile.specs.Numbered.{AreTileNumbers};
 
 use crate::position::TileArea;
 use arrayvec::ArrayVec;
-use pixel_format::{Color, PixelFormat, end_of_number, same};
+use pixel_format::{Color, PixelFormat, end_of_number, most_voted, same};
 
 /// The most subrectangles that a tile may have.
 pub(crate) const MOST_PARTS: usize = 255;
@@ -72,27 +72,15 @@ pub(crate) struct Background {
     pub is_only: bool,
 }
 
-/// A vote for a tile's background: each place of another colour takes one away.
-pub(crate) fn most_voted(numbers: &[u32]) -> Background
+/// Chooses a tile's background.
+pub(crate) fn choose_background(numbers: &[u32]) -> Background
     requires { 0 < length numbers.now }
     ensures place { result.place < length numbers.now }
     ensures only { result.is_only ≡ true → (k : ℕ) → k < length numbers.now → slice_index numbers.now k ≡ slice_index numbers.now result.place }
 {
     let run = end_of_number(numbers, 0, numbers[0]);
-    let mut place = 0;
-    let mut votes = run;
-    for k in run..numbers.len() {
-        if votes == 0 {
-            place = k;
-            votes = 1;
-        } else if numbers[k] == numbers[place] {
-            votes += 1;
-        } else {
-            votes -= 1;
-        }
-    }
     Background {
-        place: if run == numbers.len() { 0 } else { place },
+        place: most_voted(numbers, run),
         is_only: run == numbers.len(),
     }
 }

@@ -1,19 +1,18 @@
 //! Encoding a rectangle.
 
-ghost use Rattle.std.specs.Prelude.{◌≡◌, ℕ, List, ◌+◌, ◌*◌, ◌<◌, ◌≤◌, All, IsTrue, IfSome, IfOk, OnOk, OnErr, length, Some, None, true, false};
+ghost use Rattle.std.specs.Prelude.{◌≡◌, ℕ, List, ◌+◌, ◌*◌, ◌<◌, ◌≤◌, All, IsTrue, IfSome, IfOk, OnOk, OnErr, length, Some, None, true};
 ghost use Rattle.pixel_format.specs.Pixel.{IsWithin};
-ghost use Rattle.terms.specs.Appending.{Appends, Grows};
+ghost use Rattle.terms.specs.Appending.{Appends, AppendsIf, Grows};
 ghost use Rattle.hextile.specs.declared.cover.Part.{Part};
 ghost use Rattle.hextile.specs.Grammar.{Tile};
-ghost use Rattle.pixel_format.specs.Number.{IsNumber};
-ghost use Rattle.hextile.specs.Numbered.{colors_of};
+ghost use Rattle.pixel_format.specs.Number.{IsNumber, colors_of};
 ghost use Rattle.hextile.specs.Encoded.{IsMaskFor, known_behind, IsKnown, ShowsTile, Shows};
 
-use crate::cover::{Part, Parts, cover, most_voted, tile_numbers};
+use crate::cover::{Part, Parts, choose_background, cover, tile_numbers};
 use crate::fields::{Mask, pixel_size};
 use crate::position::{count_tiles, tile_area};
 use crate::writing::{Known, append_parts_tile, append_raw_tile};
-use pixel_format::{Color, PixelFormat, same};
+use pixel_format::{Color, PixelFormat, Pixels, same};
 use std::alloc::Global;
 use terms::{NoMemory, whole_or_none};
 
@@ -109,7 +108,7 @@ fn append_tile(
         → Appends (ShowsTile format.now w h (colors_of format.now numbers.now) before after) bytes.old.items bytes.new.items) }
     ensures grows { Grows bytes.old.items bytes.new.items }
 {
-    let chosen = most_voted(numbers);
+    let chosen = choose_background(numbers);
     let number = numbers[chosen.place];
     if cover(format, w, h, numbers, number, chosen.is_only, room) {
         let background = format.color_of(number);
@@ -199,27 +198,21 @@ pub fn encode(
     encode_numbers(format, w, h, &numbers, bytes)
 }
 
-/// Appends data of a rectangle of w by h that has these pixels, by rows, as [`encode`] does of their
-/// colours, if they have fewer bytes than the limit, and answers whether they have. It takes memory
-/// for the bytes alone. Where they haven't, and for want of memory, `bytes` stays as it was.
+/// Appends data of a rectangle that has these pixels, as [`encode`] does of their colours, if they
+/// have fewer bytes than the limit, and answers whether they have. It takes memory for the bytes
+/// alone. Where they haven't, and for want of memory, `bytes` stays as it was.
 pub fn encode_numbers_below(
     format: &PixelFormat,
-    w: u16,
-    h: u16,
-    numbers: &[u32],
+    pixels: Pixels,
     limit: usize,
     bytes: &mut Vec<u8>,
 ) -> Result<bool, NoMemory>
-    requires size { length numbers.now ≡ h * w }
-    requires numbers { All (IsNumber format.now) numbers.now }
-    ensures ok { IfOk result (λ whole. whole ≡ true
-        → Appends (Shows format.now w h (colors_of format.now numbers.now)) bytes.old.items bytes.new.items) }
+    requires { All (IsNumber format.now) pixels.numbers.now }
+    ensures appended { AppendsIf (Shows format.now pixels.entry.w pixels.entry.h (colors_of format.now pixels.entry.numbers.now)) bytes.old.items bytes.new.items result }
     ensures below { IfOk result (λ whole. whole ≡ true → length bytes.new.items < length bytes.old.items + limit) }
-    ensures unchanged { IfOk result (λ whole. whole ≡ false → bytes.new.items ≡ bytes.old.items) }
-    ensures err { OnErr result (bytes.new.items ≡ bytes.old.items) }
 {
     let before = bytes.len();
-    encode_numbers(format, w, h, numbers, bytes)?;
+    encode_numbers(format, pixels.w, pixels.h, pixels.numbers, bytes)?;
     if bytes.len() - before < limit {
         return Ok(true);
     }

@@ -18,7 +18,7 @@ pub struct Subrectangle {
 }
 
 /// What a tile's first byte says of the bytes behind it.
-#[derive(Clone, Copy, Debug, PartialEq, Eq)]
+#[derive(Clone, Copy)]
 pub struct Mask {
     /// All pixels of the tile follow, and the other bits play no part.
     pub raw: bool,
@@ -33,7 +33,7 @@ pub struct Mask {
 }
 
 /// Which colours the tiles so far have named.
-#[derive(Clone, Copy, Debug, PartialEq, Eq)]
+#[derive(Clone, Copy)]
 pub struct Named {
     pub background: bool,
     pub foreground: bool,

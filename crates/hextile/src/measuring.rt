@@ -10,7 +10,7 @@ use pixel_format::PixelFormat;
 /// Which field of a rectangle's data comes next: what stands for the part that is judged. Data that
 /// come in pieces are judged by taking [`wants`](Measuring::wants) bytes for each
 /// [`step`](Measuring::step), from [`start`](Measuring::start) on, and no byte twice.
-#[derive(Clone, Copy, Debug, PartialEq, Eq)]
+#[derive(Clone, Copy)]
 pub enum Measuring {
     /// A tile's mask.
     Mask(Position),

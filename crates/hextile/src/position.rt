@@ -6,7 +6,7 @@ ghost use Rattle.hextile.specs.Tiles.{tiles_across, tile_count, tile_left, tile_
 use crate::fields::{Mask, Named};
 
 /// A tile of a rectangle that has places, and what is known of the tiles around it.
-#[derive(Clone, Copy, Debug, PartialEq, Eq)]
+#[derive(Clone, Copy)]
 pub struct Position {
     /// The rectangle's width.
     pub w: u16,
@@ -22,7 +22,7 @@ pub struct Position {
 
 /// A tile of which the fields behind the mask come next: its background's pixel, its foreground's,
 /// and the number of its subrectangles, one of them at least.
-#[derive(Clone, Copy, Debug, PartialEq, Eq)]
+#[derive(Clone, Copy)]
 pub struct TileHead {
     pub tile: Position,
     pub mask: Mask,

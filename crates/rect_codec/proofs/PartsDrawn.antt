@@ -1,6 +1,6 @@
 -- What one reads and paints of an update of several parts.
 use Rattle.std.proofs.Common.{◌≡◌, ℕ, ◌+◌, ◌-◌, ◌*◌, ◌<◌, ◌^◌, List, [], ◌∷◌, ◌++◌, length, suc, refl, ap, ◌∙◌, arith, inl, inr, length-append}
-use Rattle.std.specs.Prelude.{All}
+use Rattle.std.specs.Prelude.{All, Result, Ok, Err, OnOk}
 use Rattle.std.specs.List.{AllZip}
 use Rattle.pixel_format.specs.declared.Color.{Color}
 use Rattle.pixel_format.specs.Format.{Format, pixel_bytes}
@@ -99,6 +99,20 @@ draws_parts f width height parts bytes few inside u =
       reads = ap (update_at f width height) u.bytes_are ∙ rw (head, u16_back (length parts), read.reads) refl;
       each = read.each;
     }
+
+-- what holds of an answer where two things do
+pub on_ok_both : {T E P Q R : Type 0} (r : Result T E) → OnOk r P → OnOk r Q → (P → Q → R) → OnOk r R
+on_ok_both (Ok value) p q give = give p q
+on_ok_both (Err fault) p q give = tt
+
+-- a head, and rectangles behind it
+pub update_of_parts : (f : Format) (parts : List Part) (old between new : List ℕ) → between ≡ old ++ parts_head (length parts)
+    → Appends (AreEach (IsPart f) parts) between new → Appends (AreParts f parts) old new
+update_of_parts f parts old between new begin a = record {
+  bytes = parts_head (length parts) ++ a.bytes;
+  is = joined old (parts_head (length parts)) a.bytes between new begin a.is;
+  are = record { body = a.bytes; bytes_are = refl; are = a.are };
+}
 
 -- a head, and pixels behind it
 pub raw_rectangle : (f : Format) (area : Area) (colors : List Color) (old between new : List ℕ) → length colors ≡ area.h * area.w

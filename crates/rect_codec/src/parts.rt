@@ -3,7 +3,7 @@
 ghost use Rattle.std.specs.Prelude.{◌≡◌, ◌<◌, ◌^◌, ◌++◌, All, OnOk, OnErr, length};
 ghost use Rattle.client_wire.specs.Written.{rectangle_head};
 ghost use Rattle.rect_data.specs.Data.{number_of};
-ghost use Rattle.terms.specs.Appending.{Appends};
+ghost use Rattle.terms.specs.Appending.{Appends, AreEach, Grows};
 ghost use Rattle.rect_codec.specs.Parts.{CanBeWritten, IsPart, AreParts, source_bytes};
 
 use crate::numbers::append_numbers;
@@ -79,6 +79,23 @@ fn append_part(
     }
 }
 
+// Appends the rectangles of parts. Want of memory may leave some of them.
+fn append_parts(
+    alloc: Global,
+    format: &PixelFormat,
+    parts: &[Part],
+    out: &mut Vec<u8>,
+) -> Result<(), NoMemory>
+    requires { All (CanBeWritten format.now) parts.now }
+    ensures ok { OnOk result (Appends (AreEach (IsPart format.now) parts.now) out.old.items out.new.items) }
+    ensures grows { Grows out.old.items out.new.items }
+{
+    for part in parts {
+        append_part(alloc, format, part, out)?;
+    }
+    Ok(())
+}
+
 /// Appends a FramebufferUpdate (RFC 6143, section 7.6.1) with a rectangle for each of these parts, in
 /// their order; none gives an update of no rectangles. The colours keep to the format's maxima. A
 /// rectangle of colours never has more bytes than 12 and a pixel for each place. Want of memory leaves
@@ -97,11 +114,6 @@ pub fn write_parts(
     let start = out.len();
     let [count, count_low] = (parts.len() as u16).to_be_bytes();
     out.extend_from_slice(&[0, 0, count, count_low])?;
-    for part in parts {
-        if let Err(fault) = append_part(alloc, format, part, out) {
-            out.truncate(start);
-            return Err(fault);
-        }
-    }
-    Ok(())
+    let appended = append_parts(alloc, format, parts, out);
+    whole_or_none(appended, start, out)
 }

@@ -4,13 +4,13 @@ ghost use Rattle.std.specs.Prelude.{◌≡◌, ℕ, ◌+◌, ◌*◌, ◌<◌, �
 ghost use Rattle.pixel_format.specs.Format.{pixel_bytes};
 ghost use Rattle.pixel_format.specs.Pixel.{IsWithin};
 ghost use Rattle.pixel_format.specs.Canvas.{nth};
-ghost use Rattle.terms.specs.Appending.{Appends};
+ghost use Rattle.terms.specs.Appending.{Appends, Grows};
 ghost use Rattle.rect_codec.specs.Picture.{pixel_at};
 ghost use Rattle.rect_codec.specs.Room.{HaveRoom};
 ghost use Rattle.rect_codec.specs.Written.{IsPixelOf, ArePixels};
 
 use pixel_format::{Color, PixelFormat};
-use terms::NoMemory;
+use terms::{NoMemory, whole_or_none};
 
 // How many pixels are appended at once.
 const AT_ONCE: usize = 256;
@@ -87,6 +87,23 @@ fn append_some(
     out.extend_from_slice(&block[..size])
 }
 
+// Appends the pixels of colours, a block at a time. Want of memory may leave some of the blocks.
+fn append_blocks(format: &PixelFormat, colors: &[Color], out: &mut Vec<u8>) -> Result<(), NoMemory>
+    requires few { length colors.now < 2 ^ 32 }
+    requires within { All (IsWithin format.now) colors.now }
+    ensures ok { OnOk result (Appends (ArePixels format.now colors.now) out.old.items out.new.items) }
+    ensures grows { Grows out.old.items out.new.items }
+{
+    let mut block = [0; 4 * AT_ONCE];
+    let mut rest = colors;
+    while !rest.is_empty() {
+        let (some, behind) = rest.split_at(rest.len().min(AT_ONCE));
+        append_some(format, some, &mut block, out)?;
+        rest = behind;
+    }
+    Ok(())
+}
+
 /// Appends the pixels of colours, one behind the other (RFC 6143, section 7.7.1). Want of memory
 /// leaves `out` as it was.
 pub(crate) fn append_pixels(
@@ -101,15 +118,6 @@ pub(crate) fn append_pixels(
 {
     let start = out.len();
     out.reserve(colors.len() * format.bytes())?;
-    let mut block = [0; 4 * AT_ONCE];
-    let mut rest = colors;
-    while !rest.is_empty() {
-        let (some, behind) = rest.split_at(rest.len().min(AT_ONCE));
-        if let Err(fault) = append_some(format, some, &mut block, out) {
-            out.truncate(start);
-            return Err(fault);
-        }
-        rest = behind;
-    }
-    Ok(())
+    let appended = append_blocks(format, colors, out);
+    whole_or_none(appended, start, out)
 }

@@ -12,7 +12,7 @@ use crate::pixels::append_pixels;
 use pixel_format::{Color, PixelFormat};
 use rect_data::Encoding;
 use std::alloc::Global;
-use terms::{Area, NoMemory};
+use terms::{Area, NoMemory, whole_or_none};
 
 /// Appends the header of a rectangle: its area, and the number of its encoding (RFC 6143, section
 /// 7.6.1). Want of memory leaves `out` as it was.
@@ -41,11 +41,8 @@ pub(crate) fn append_raw(
 {
     let start = out.len();
     append_head(area, Encoding::Raw, out)?;
-    if let Err(fault) = append_pixels(format, colors, out) {
-        out.truncate(start);
-        return Err(fault);
-    }
-    Ok(())
+    let appended = append_pixels(format, colors, out);
+    whole_or_none(appended, start, out)
 }
 
 /// Appends a FramebufferUpdate of one rectangle (RFC 6143, section 7.6.1) that gives the places of

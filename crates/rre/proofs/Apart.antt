@@ -7,11 +7,11 @@ use Rattle.std.proofs.lemmas.List.{places, take-take}
 use Rattle.std.proofs.lemmas.List.Sums.{count_by_more_yes, sum_by-take-le}
 use Rattle.pixel_format.specs.declared.Color.{Color}
 use Rattle.pixel_format.specs.Format.{Format}
-use Rattle.pixel_format.specs.Number.{number_color}
+use Rattle.pixel_format.specs.Number.{number_color, colors_of}
 use Rattle.pixel_format.specs.Canvas.{nth, rows_of}
 use Rattle.rre.specs.declared.data.Subrectangle.{Subrectangle}
 use Rattle.rre.specs.Encoded.{Reaches, part_picture}
-use Rattle.rre.specs.Numbered.{colors_of, others_in}
+use Rattle.rre.specs.Numbered.{others_in}
 use Rattle.pixel_format.proofs.Numbers.{color_nth}
 
 pub others_all : (background : ℕ) (numbers : List ℕ) (i : ℕ) → others_in background (take i numbers) ≤ others_in background numbers

@@ -1,40 +1,11 @@
 -- What counting a run of one number does to a map that counts numbers.
-use Rattle.std.proofs.Common.{◌≡◌, ℕ, ◌+◌, ◌-◌, ◌<◌, ◌≤◌, ◌==◌, Bool, true, false, cond, List, length, take, get_or, zero, suc, refl, ap, sym, ◌∙◌, arith}
+use Rattle.std.proofs.Common.{◌≡◌, ℕ, ◌+◌, ◌-◌, ◌<◌, ◌≤◌, ◌==◌, Bool, true, false, cond, List, length, take, get_or, refl, ap, sym, ◌∙◌, arith}
 use Rattle.std.specs.BTreeMap.{BTreeMap}
 use Rattle.std.proofs.lemmas.Bool.{eq-eqb, eqb-true}
 use Rattle.std.proofs.lemmas.List.{take_all}
-use Rattle.std.proofs.lemmas.List.Sums.{count_by_more_no, count_by_more_yes}
-use Rattle.rre.specs.Numbered.{times_in, counted}
-
-cond_same : (test : Bool) (n : ℕ) → cond test n n ≡ n
-cond_same true n = refl
-cond_same false n = refl
-
-one_more : (number : ℕ) (numbers : List ℕ) (start n : ℕ) (other : ℕ) (test : Bool) → (other == number) ≡ test
-    → start + n < length numbers → get_or numbers (start + n) 0 ≡ number
-    → times_in other (take (start + n) numbers) ≡ times_in other (take start numbers) + cond (other == number) n 0
-    → times_in other (take (start + suc n) numbers) ≡ times_in other (take start numbers) + cond test (suc n) 0
-one_more number numbers start n other true is fits here before =
-    let last = count_by_more_yes (λ (y : ℕ). other == y) numbers (start + n) 0 fits (ap (λ (y : ℕ). other == y) here ∙ is) in
-    let next : start + suc n ≡ start + n + 1 = omega arith in
-    let so_far = before ∙ ap (λ t. times_in other (take start numbers) + cond t n 0) is in
-    ap (λ m. times_in other (take m numbers)) next ∙ last ∙ omega (arith, so_far)
-one_more number numbers start n other false is fits here before =
-    let last = count_by_more_no (λ (y : ℕ). other == y) numbers (start + n) 0 fits (ap (λ (y : ℕ). other == y) here ∙ is) in
-    let next : start + suc n ≡ start + n + 1 = omega arith in
-    ap (λ m. times_in other (take m numbers)) next ∙ last ∙ before ∙ ap (λ t. times_in other (take start numbers) + cond t n 0) is
-
--- a run of one number counts for that number alone
-count_run : (number : ℕ) (numbers : List ℕ) (start n : ℕ) (other : ℕ) → start + n ≤ length numbers
-    → ((k : ℕ) → start ≤ k → k < start + n → get_or numbers k 0 ≡ number)
-    → times_in other (take (start + n) numbers) ≡ times_in other (take start numbers) + cond (other == number) n 0
-count_run number numbers start zero other fits same =
-    let next : start + zero ≡ start = omega arith in
-    let none = cond_same (other == number) 0 in
-    ap (λ m. times_in other (take m numbers)) next ∙ omega (arith, none)
-count_run number numbers start (suc n) other fits same =
-    one_more number numbers start n other (other == number) refl (omega arith) (same (start + n) (omega arith) (omega arith))
-    (count_run number numbers start n other (omega arith) (λ k from to. same k from (omega arith)))
+use Rattle.pixel_format.specs.Number.{times_in}
+use Rattle.pixel_format.proofs.Voting.{count_run}
+use Rattle.rre.specs.Numbered.{counted}
 
 -- The numbers before `start` are counted. The one at `place` is counted most often.
 pub record IsTally (numbers : List ℕ) (counts : BTreeMap ℕ ℕ) (start place most : ℕ) : Type 0 where

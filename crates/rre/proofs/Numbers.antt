@@ -9,10 +9,10 @@ use Rattle.std.proofs.lemmas.List.Sums.{sum_by-cons}
 use Rattle.pixel_format.specs.declared.Color.{Color}
 use Rattle.pixel_format.specs.Format.{Format}
 use Rattle.pixel_format.specs.Pixel.{color_number, IsWithin}
-use Rattle.pixel_format.specs.Number.{number_color, IsNumber}
+use Rattle.pixel_format.specs.Number.{number_color, IsNumber, colors_of, times_in}
 use Rattle.rre.specs.Encoded.{IsMajority, HasMany}
 use Rattle.rre.specs.Frequent.{is_color, count_of, others_than}
-use Rattle.rre.specs.Numbered.{colors_of, times_in, others_in}
+use Rattle.rre.specs.Numbered.{others_in}
 
 one_color : (one other : Color) → is_color one other ≡ true → one ≡ other
 one_color one other h =

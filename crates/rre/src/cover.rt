@@ -2,18 +2,26 @@
 
 ghost use Rattle.std.specs.Prelude.{◌≡◌, ℕ, ◌+◌, ◌*◌, ◌^◌, ◌<◌, ◌≤◌, ◌==◌, length, IsTrue, OnOk, IfOk, IfSome, None, true, false, take, slice_index, if◌then◌else◌, ◌&&◌, nat_le, nat_lt};
 ghost use Rattle.rre.specs.Encoded.{IsUniform, AreUniform, Reaches, part_picture};
-ghost use Rattle.rre.specs.Numbered.{colors_of, times_in, others_in, counted, HasMajority};
-ghost use Rattle.pixel_format.specs.Number.{number_color};
+ghost use Rattle.rre.specs.Numbered.{others_in, counted};
+ghost use Rattle.pixel_format.specs.Number.{number_color, colors_of, times_in, HasMajority};
 ghost use Rattle.pixel_format.specs.Canvas.{Agree, rows_of};
 
 use crate::data::Subrectangle;
-use pixel_format::{PixelFormat, end_of_number};
+use pixel_format::{PixelFormat, Pixels, end_of_number, most_voted};
 use std::alloc::Global;
 use std::collections::BTreeMap;
 use terms::NoMemory;
 
 // The most colours that are counted. With more, the others are mostly no shorter to write in RRE.
 const MOST_COLORS: usize = 64;
+
+/// Pixels that are to be covered, all but the background's, by at most so many subrectangles.
+#[derive(Clone, Copy)]
+pub(crate) struct Ground<'a> {
+    pub pixels: Pixels<'a>,
+    pub background: u32,
+    pub most: usize,
+}
 
 // How often each number was met.
 type Counts = BTreeMap<u32, usize>;
@@ -68,28 +76,6 @@ fn most_counted(alloc: Global, numbers: &[u32]) -> Result<Option<usize>, NoMemor
     Ok(Some(place))
 }
 
-// The index of the number that stands at more than half of the places, if one does: each place of
-// another number takes one vote of it away.
-fn most_voted(numbers: &[u32]) -> usize
-    requires { 0 < length numbers.now }
-    ensures within { result < length numbers.now }
-    ensures majority { HasMajority numbers.now result }
-{
-    let mut place = 0;
-    let mut votes = 0usize;
-    for k in 0..numbers.len() {
-        if votes == 0 {
-            place = k;
-            votes = 1;
-        } else if numbers[k] == numbers[place] {
-            votes += 1;
-        } else {
-            votes -= 1;
-        }
-    }
-    place
-}
-
 /// The index of a number that stands at the most places where the numbers are few, and else of the
 /// one that stands at more than half of them, if one does.
 pub(crate) fn background(alloc: Global, numbers: &[u32]) -> Result<usize, NoMemory>
@@ -101,7 +87,7 @@ pub(crate) fn background(alloc: Global, numbers: &[u32]) -> Result<usize, NoMemo
     if let Some(place) = counted {
         return Ok(place);
     }
-    Ok(most_voted(numbers))
+    Ok(most_voted(numbers, end_of_run(numbers, 0)))
 }
 
 // Whether so many places of a row, from a column on, have the number.
@@ -189,35 +175,32 @@ fn raise(reach: &mut [u16], column: u16, width: u16, end: u16)
 // parts in all are enough.
 fn cover_row(
     format: &PixelFormat,
-    h: u16,
-    numbers: &[u32],
+    ground: Ground,
     row: u16,
-    background: u32,
-    most: usize,
     reach: &mut [u16],
     parts: &mut Vec<Subrectangle>,
 ) -> Result<bool, NoMemory>
-    requires narrow { length reach.old < 65536 }
-    requires row { row < h }
-    requires size { length numbers.now ≡ h * length reach.old }
+    requires row { row < ground.pixels.h }
+    requires columns { length reach.old ≡ ground.pixels.w }
     requires apart { length parts.old.items
-        ≤ others_in background (take (row * length reach.old) numbers.now) }
-    requires reaches { Reaches (colors_of format.now numbers.now) (length reach.old) h (number_color format.now background) parts.old.items reach.old 0 row }
+        ≤ others_in ground.background (take (row * length reach.old) ground.pixels.numbers.now) }
+    requires reaches { Reaches (colors_of format.now ground.pixels.numbers.now) (length reach.old) ground.pixels.h (number_color format.now ground.background) parts.old.items reach.old 0 row }
     ensures whole { IfOk result (λ whole. whole ≡ true
-        → Reaches (colors_of format.now numbers.now) (length reach.old) h (number_color format.now background) parts.new.items reach.new 0 (row + 1)) }
+        → Reaches (colors_of format.now ground.entry.pixels.numbers.now) (length reach.old) ground.entry.pixels.h (number_color format.now ground.entry.background) parts.new.items reach.new 0 (row + 1)) }
     ensures apart { IfOk result (λ whole. whole ≡ true → length parts.new.items
-        ≤ others_in background (take ((row + 1) * length reach.old) numbers.now)) }
-    ensures many { IfOk result (λ whole. whole ≡ false → most < others_in background numbers.now) }
+        ≤ others_in ground.entry.background (take ((row + 1) * length reach.old) ground.entry.pixels.numbers.now)) }
+    ensures many { IfOk result (λ whole. whole ≡ false → ground.entry.most < others_in ground.entry.background ground.entry.pixels.numbers.now) }
 {
+    let Pixels { h, numbers, .. } = ground.pixels;
     let start = row as usize * reach.len();
     let line = &numbers[start..start + reach.len()];
     let mut column = 0;
     while column < line.len() {
-        if line[column] == background {
-            column = end_of_number(line, column + 1, background);
+        if line[column] == ground.background {
+            column = end_of_number(line, column + 1, ground.background);
         } else if reach[column] > row {
             column += 1;
-        } else if parts.len() >= most {
+        } else if parts.len() >= ground.most {
             return Ok(false);
         } else {
             let x = column as u16;
@@ -230,32 +213,24 @@ fn cover_row(
     Ok(true)
 }
 
-/// At most so many subrectangles of one colour each that, over the background, give every place of
-/// numbers by rows its colour; `None` where they would be more. Each place is looked at a bounded
-/// number of times.
+/// At most so many subrectangles of one colour each that, over the background, give every place its
+/// colour; `None` where they would be more. Each place is looked at a bounded number of times.
 pub(crate) fn cover(
     alloc: Global,
     format: &PixelFormat,
-    w: u16,
-    h: u16,
-    numbers: &[u32],
-    background: u32,
-    most: usize,
+    ground: Ground,
 ) -> Result<Option<Vec<Subrectangle>>, NoMemory>
-    requires { length numbers.now ≡ h * w }
-    ensures uniform { IfOk result (λ covered. IfSome covered (λ parts. AreUniform (colors_of format.now numbers.now) w h parts.items)) }
-    ensures few { IfOk result (λ covered. IfSome covered (λ parts. length parts.items ≤ h * w)) }
-    ensures picture { IfOk result (λ covered. IfSome covered (λ parts.
-        Agree w h (part_picture (number_color format.now background) parts.items) (rows_of (colors_of format.now numbers.now) w))) }
-    ensures apart { IfOk result (λ covered. IfSome covered (λ parts. length parts.items ≤ others_in background numbers.now)) }
-    ensures many { IfOk result (λ covered. covered ≡ None → most < others_in background numbers.now) }
+    ensures uniform { IfOk result (λ covered. IfSome covered (λ parts. AreUniform (colors_of format.now ground.entry.pixels.numbers.now) ground.entry.pixels.w ground.entry.pixels.h parts.items)) }
+    ensures few { IfOk result (λ covered. IfSome covered (λ parts. length parts.items ≤ ground.entry.pixels.h * ground.entry.pixels.w)) }
+    ensures picture { IfOk result (λ covered. IfSome covered (λ parts. Agree ground.entry.pixels.w ground.entry.pixels.h
+        (part_picture (number_color format.now ground.entry.background) parts.items) (rows_of (colors_of format.now ground.entry.pixels.numbers.now) ground.entry.pixels.w))) }
+    ensures apart { IfOk result (λ covered. IfSome covered (λ parts. length parts.items ≤ others_in ground.entry.background ground.entry.pixels.numbers.now)) }
+    ensures many { IfOk result (λ covered. covered ≡ None → ground.entry.most < others_in ground.entry.background ground.entry.pixels.numbers.now) }
 {
     let mut parts = Vec::new(alloc);
-    let mut reach = vec![in alloc; 0; w as usize]?;
-    for row in 0..h {
-        if !cover_row(
-            format, h, numbers, row, background, most, &mut reach, &mut parts,
-        )? {
+    let mut reach = vec![in alloc; 0; ground.pixels.w as usize]?;
+    for row in 0..ground.pixels.h {
+        if !cover_row(format, ground, row, &mut reach, &mut parts)? {
             return Ok(None);
         }
     }

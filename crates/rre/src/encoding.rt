@@ -1,15 +1,14 @@
 //! Encoding a rectangle.
 
 ghost use Rattle.std.specs.Prelude.{◌≡◌, ◌+◌, ◌*◌, ◌<◌, All, IfOk, OnOk, OnErr, length, true, false};
-ghost use Rattle.pixel_format.specs.Number.{number_color, IsNumber};
+ghost use Rattle.pixel_format.specs.Number.{number_color, IsNumber, colors_of};
 ghost use Rattle.pixel_format.specs.Pixel.{IsWithin};
-ghost use Rattle.terms.specs.Appending.{Appends};
+ghost use Rattle.terms.specs.Appending.{Appends, AppendsIf};
 ghost use Rattle.rre.specs.Encoded.{Shows, IsMajority, HasFew, HasMany, IsLong};
-ghost use Rattle.rre.specs.Numbered.{colors_of};
 
 use crate::append::append_data;
-use crate::cover::{background, cover};
-use pixel_format::{Color, PixelFormat};
+use crate::cover::{Ground, background, cover};
+use pixel_format::{Color, PixelFormat, Pixels};
 use std::alloc::Global;
 use terms::{NoMemory, whole_or_none};
 
@@ -33,24 +32,23 @@ fn background_number(alloc: Global, format: &PixelFormat, numbers: &[u32]) -> Re
 fn append_few(
     alloc: Global,
     format: &PixelFormat,
-    w: u16,
-    h: u16,
-    numbers: &[u32],
+    pixels: Pixels,
     most: usize,
     bytes: &mut Vec<u8>,
 ) -> Result<bool, NoMemory>
-    requires size { length numbers.now ≡ h * w }
-    requires numbers { All (IsNumber format.now) numbers.now }
-    ensures ok { IfOk result (λ whole. whole ≡ true
-        → Appends (Shows format.now w h (colors_of format.now numbers.now)) bytes.old.items bytes.new.items) }
+    requires { All (IsNumber format.now) pixels.numbers.now }
+    ensures appended { AppendsIf (Shows format.now pixels.entry.w pixels.entry.h (colors_of format.now pixels.entry.numbers.now)) bytes.old.items bytes.new.items result }
     ensures few { IfOk result (λ whole. whole ≡ true
-        → HasFew format.now (colors_of format.now numbers.now) (length bytes.old.items) (length bytes.new.items)) }
-    ensures many { IfOk result (λ whole. whole ≡ false → HasMany (colors_of format.now numbers.now) most) }
-    ensures unchanged { IfOk result (λ whole. whole ≡ false → bytes.new.items ≡ bytes.old.items) }
-    ensures err { OnErr result (bytes.new.items ≡ bytes.old.items) }
+        → HasFew format.now (colors_of format.now pixels.entry.numbers.now) (length bytes.old.items) (length bytes.new.items)) }
+    ensures many { IfOk result (λ whole. whole ≡ false → HasMany (colors_of format.now pixels.entry.numbers.now) most) }
 {
-    let number = background_number(alloc, format, numbers)?;
-    let covered = cover(alloc, format, w, h, numbers, number, most)?;
+    let number = background_number(alloc, format, pixels.numbers)?;
+    let ground = Ground {
+        pixels,
+        background: number,
+        most,
+    };
+    let covered = cover(alloc, format, ground)?;
     let Some(parts) = covered else {
         return Ok(false);
     };
@@ -83,37 +81,36 @@ pub fn encode(
 {
     let most = h as usize * w as usize;
     let numbers = format.numbers_of(alloc, colors)?;
-    let whole = append_few(alloc, format, w, h, &numbers, most, bytes)?;
+    let pixels = Pixels {
+        w,
+        h,
+        numbers: &numbers,
+    };
+    let whole = append_few(alloc, format, pixels, most, bytes)?;
     prove!(whole);
     Ok(())
 }
 
-/// Appends data of a rectangle of w by h that has these pixels, by rows, as [`encode`] does of their
-/// colours, if they have fewer bytes than the limit, and answers whether they have. It stops listing
-/// subrectangles once they have as many. It answers `false` only where data that list each place of
-/// another colour than the background's by itself have as many bytes as the limit; then, and for
-/// want of memory, `bytes` stays as it was.
+/// Appends data of a rectangle that has these pixels, as [`encode`] does of their colours, if they
+/// have fewer bytes than the limit, and answers whether they have. It stops listing subrectangles
+/// once they have as many. It answers `false` only where data that list each place of another colour
+/// than the background's by itself have as many bytes as the limit; then, and for want of memory,
+/// `bytes` stays as it was.
 pub fn encode_numbers_below(
     alloc: Global,
     format: &PixelFormat,
-    w: u16,
-    h: u16,
-    numbers: &[u32],
+    pixels: Pixels,
     limit: usize,
     bytes: &mut Vec<u8>,
 ) -> Result<bool, NoMemory>
-    requires size { length numbers.now ≡ h * w }
-    requires numbers { All (IsNumber format.now) numbers.now }
-    ensures ok { IfOk result (λ whole. whole ≡ true
-        → Appends (Shows format.now w h (colors_of format.now numbers.now)) bytes.old.items bytes.new.items) }
+    requires { All (IsNumber format.now) pixels.numbers.now }
+    ensures appended { AppendsIf (Shows format.now pixels.entry.w pixels.entry.h (colors_of format.now pixels.entry.numbers.now)) bytes.old.items bytes.new.items result }
     ensures below { IfOk result (λ whole. whole ≡ true → length bytes.new.items < length bytes.old.items + limit) }
-    ensures long { IfOk result (λ whole. whole ≡ false → IsLong format.now (colors_of format.now numbers.now) limit) }
-    ensures unchanged { IfOk result (λ whole. whole ≡ false → bytes.new.items ≡ bytes.old.items) }
-    ensures err { OnErr result (bytes.new.items ≡ bytes.old.items) }
+    ensures long { IfOk result (λ whole. whole ≡ false → IsLong format.now (colors_of format.now pixels.entry.numbers.now) limit) }
 {
     let before = bytes.len();
     let most = limit / (format.bytes() + 8);
-    let whole = append_few(alloc, format, w, h, numbers, most, bytes)?;
+    let whole = append_few(alloc, format, pixels, most, bytes)?;
     if !whole {
         return Ok(false);
     }

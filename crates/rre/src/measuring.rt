@@ -12,7 +12,7 @@ use pixel_format::PixelFormat;
 /// Which field of a rectangle's data comes next: what stands for the part that is judged. Data that
 /// come in pieces are judged by taking [`wants`](Measuring::wants) bytes for each
 /// [`step`](Measuring::step), from `Head` on, and no byte twice.
-#[derive(Clone, Copy, Debug, PartialEq, Eq)]
+#[derive(Clone, Copy)]
 pub enum Measuring {
     /// The number of subrectangles, and the background's pixel.
     Head,

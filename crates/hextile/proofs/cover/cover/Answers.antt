@@ -2,10 +2,9 @@ use Rattle.std.proofs.Common.{List, ◌+◌, ◌*◌, ◌<◌, length, ap, sym, 
 use Rattle.std.proofs.lemmas.List.{get_or-replicate}
 use Rattle.std.proofs.lemmas.List.Elements.{All-nil}
 use Rattle.std.proofs.lemmas.Nat.{mul-add-lt}
-use Rattle.pixel_format.specs.Number.{number_color}
+use Rattle.pixel_format.specs.Number.{number_color, colors_of}
 use Rattle.hextile.specs.declared.cover.Part.{Part}
 use Rattle.hextile.specs.Encoded.{IsPart, IsCover}
-use Rattle.hextile.specs.Numbered.{colors_of}
 use Rattle.pixel_format.proofs.Numbers.{color_nth}
 use Rattle.hextile.proofs.cover.cover.Goals as goal
 

@@ -1,9 +1,8 @@
 use Rattle.std.proofs.Common.{◌≡◌, ◌∙◌, ℕ, List, length, ap, sym, subst, arith}
 use Rattle.std.proofs.lemmas.List.{length-map}
-use Rattle.pixel_format.specs.Number.{number_color}
+use Rattle.pixel_format.specs.Number.{number_color, colors_of}
 use Rattle.hextile.specs.declared.cover.Part.{Part}
 use Rattle.hextile.specs.Encoded.{ShownUpto}
-use Rattle.hextile.specs.Numbered.{colors_of}
 use Rattle.hextile.proofs.Covered.{all_shown, nothing_shown}
 use Rattle.pixel_format.proofs.Numbers.{color_nth}
 use Rattle.hextile.proofs.cover.parts_over.Goals as goal

@@ -1,8 +1,7 @@
 use Rattle.std.proofs.Common.{◌≡◌, ℕ, ◌<◌, length, get_or}
 use Rattle.std.specs.Prelude.{All}
-use Rattle.pixel_format.specs.Number.{number_color, IsNumber}
+use Rattle.pixel_format.specs.Number.{number_color, IsNumber, colors_of}
 use Rattle.hextile.specs.Encoded.{ShownUpto}
-use Rattle.hextile.specs.Numbered.{colors_of}
 use Rattle.hextile.proofs.cover.parts_over.Given as goal
 
 abbrev pub invariant-loop-k : goal.invariant-loop-k

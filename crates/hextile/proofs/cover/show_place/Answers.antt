@@ -3,11 +3,10 @@ use Rattle.std.proofs.Math.Nat.{mul-le-mul_left}
 use Rattle.std.proofs.lemmas.List.{length-map}
 use Rattle.pixel_format.specs.declared.Color.{Color}
 use Rattle.pixel_format.specs.Pixel.{IsWithin}
-use Rattle.pixel_format.specs.Number.{number_color}
+use Rattle.pixel_format.specs.Number.{number_color, colors_of}
 use Rattle.pixel_format.specs.Canvas.{nth, covers}
 use Rattle.hextile.specs.declared.cover.Part.{Part}
 use Rattle.hextile.specs.Encoded.{IsPart, ShownUpto}
-use Rattle.hextile.specs.Numbered.{colors_of}
 use Rattle.hextile.proofs.Covered.{part_added, goes_on, index_of}
 use Rattle.pixel_format.proofs.Numbers.{color_nth}
 use Rattle.hextile.proofs.NumberTiles.{color_if}

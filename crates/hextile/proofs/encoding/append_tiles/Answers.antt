@@ -1,8 +1,7 @@
 use Rattle.std.proofs.Common.{◌≡◌, ◌<◌, ◌*◌, length, take, sym, arith}
 use Rattle.std.proofs.lemmas.List.{length-take-le, take-map}
-use Rattle.pixel_format.specs.Number.{number_color}
+use Rattle.pixel_format.specs.Number.{number_color, colors_of}
 use Rattle.hextile.specs.Tiles.{tile_count}
-use Rattle.hextile.specs.Numbered.{colors_of}
 use Rattle.hextile.proofs.EncodedTiles.{few_places, none_written, one_written, all_written}
 use Rattle.hextile.proofs.NumberTiles.{numbers_taken, tile_is, numbers_within}
 use Rattle.hextile.proofs.encoding.append_tiles.Goals as goal

@@ -1,5 +1,5 @@
 use Rattle.terms.specs.Appending.{Appends}
-use Rattle.hextile.specs.Numbered.{colors_of}
+use Rattle.pixel_format.specs.Number.{colors_of}
 use Rattle.hextile.proofs.EncodedTiles.{Written}
 use Rattle.hextile.proofs.encoding.append_tiles.Given as goal
 

@@ -1,7 +1,6 @@
 use Rattle.std.proofs.Common.{◌∙◌}
 use Rattle.std.proofs.lemmas.List.{length-map}
-use Rattle.pixel_format.specs.Number.{number_color}
-use Rattle.hextile.specs.Numbered.{colors_of}
+use Rattle.pixel_format.specs.Number.{number_color, colors_of}
 use Rattle.hextile.proofs.Written.{raw_tile_appended}
 use Rattle.hextile.proofs.writing.append_raw_tile.Goals as goal
 

@@ -1,10 +1,15 @@
-use Rattle.std.proofs.Common.{◌++◌, length}
-use Rattle.terms.proofs.Appends.{each_more}
-use Rattle.rect_codec.specs.Parts.{IsPart, parts_head}
+use Rattle.std.proofs.Common.{◌≡◌, ◌++◌, length, subst, sym, rules}
+use Rattle.terms.specs.Appending.{Appends}
+use Rattle.rect_codec.specs.Parts.{AreParts, parts_head}
+use Rattle.rect_codec.proofs.PartsDrawn.{on_ok_both, update_of_parts}
 use Rattle.rect_codec.proofs.parts.write_parts.Goals as goal
 
-pub loop-part-preserved : goal.loop-part-preserved
-loop-part-preserved c =
+pub returns-clause-ok : goal.returns-clause-ok
+returns-clause-ok c =
+    let f = c.args.format.now in
     let parts = c.args.parts.now in
-    each_more (IsPart c.args.format.now) parts c.loop-part.part-index _ (c.args.out.now.items ++ parts_head (length parts))
-    c.loop-part.out.items c.append_part.new.out.items c.loop-part-test.true c.loop-part.invariant c.in_default.ensures.ok
+    let head : c.extend_from_slice.new.self.items ≡ c.args.out.now.items ++ parts_head (length parts) = search rules in
+    let same = sym c.whole_or_none.ensures.same in
+    on_ok_both c.whole_or_none.result (rw same at c.append_parts-appended.ensures.ok) c.whole_or_none.ensures.ok (λ rectangles kept.
+    subst (Appends (AreParts f parts) c.args.out.now.items) (sym kept)
+    (update_of_parts f parts c.args.out.now.items c.extend_from_slice.new.self.items c.append_parts-appended.new.out.items head rectangles))

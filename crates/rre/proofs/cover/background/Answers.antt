@@ -1,4 +1,4 @@
-use Rattle.rre.proofs.Votes.{counted_majority}
+use Rattle.rre.proofs.Majority.{counted_majority}
 use Rattle.rre.proofs.cover.background.Goals as goal
 
 pub returns-in-Some-clause-majority : goal.returns-in-Some-clause-majority

@@ -1,7 +1,6 @@
 use Rattle.std.proofs.Common.{sym, ◌∙◌}
 use Rattle.std.proofs.lemmas.List.{length-map}
-use Rattle.pixel_format.specs.Number.{number_color}
-use Rattle.rre.specs.Numbered.{colors_of}
+use Rattle.pixel_format.specs.Number.{number_color, colors_of}
 use Rattle.rre.proofs.Lengths.{has_few}
 use Rattle.rre.proofs.Numbers.{colors_within, few_others, many_others}
 use Rattle.rre.proofs.Shown.{parts_within, shown}
@@ -11,31 +10,35 @@ pub append_data-appended-requires-clause-parts : goal.append_data-appended-requi
 append_data-appended-requires-clause-parts c = λ k d lt.
     let f = c.args.format.now in
     rw c.deref.ensures.value
-    (parts_within f (colors_of f c.args.numbers.now) c.args.w c.args.h c.in-Some.parts.items k d (colors_within f c.args.numbers.now c.requires.numbers)
-    (length-map c.args.numbers.now (number_color f) ∙ c.requires.size) (rw c.in-Some.is at c.in_ok-covered.ensures.uniform) (rw c.deref.ensures.value at lt))
+    (parts_within f (colors_of f c.args.pixels.numbers.now) c.args.pixels.w c.args.pixels.h c.in-Some.parts.items k d (colors_within f c.args.pixels.numbers.now c.requires)
+    (length-map c.args.pixels.numbers.now (number_color f) ∙ c.args.pixels.size) (rw c.in-Some.is at c.in_ok-covered.ensures.uniform) (rw c.deref.ensures.value at lt))
 
-pub returns-clause-ok : goal.returns-clause-ok
-returns-clause-ok c = λ _.
+pub returns-clause-appended : goal.returns-clause-appended
+returns-clause-appended c =
     let f = c.args.format.now in
     let same = sym c.in_ok-whole_or_none.ensures.same in
     let fine = rw same at c.append_data-appended.ensures.ok in
     let written = rw same at c.append_data-appended.ensures.written in
-    shown f (colors_of f c.args.numbers.now) c.args.w c.args.h (number_color f c.in_ok-number.number) c.in-Some.parts.items c.args.bytes.now.items c.whole_or_none.new.bytes.items
-    (rw c.in-Some.is at c.in_ok-covered.ensures.uniform) (rw c.in-Some.is at c.in_ok-covered.ensures.picture)
-    (rw (c.color_of-background.ensures, c.deref.ensures.value, sym c.in_ok-whole_or_none.ensures.ok) at fine)
-    (rw (c.color_of-background.ensures, c.deref.ensures.value, sym c.in_ok-whole_or_none.ensures.ok) at written)
+    record {
+      ok = λ _. shown f (colors_of f c.args.pixels.numbers.now) c.args.pixels.w c.args.pixels.h (number_color f c.in_ok-number.number) c.in-Some.parts.items c.args.bytes.now.items c.whole_or_none.new.bytes.items
+          (rw c.in-Some.is at c.in_ok-covered.ensures.uniform) (rw c.in-Some.is at c.in_ok-covered.ensures.picture)
+          (rw (c.color_of-background.ensures, c.deref.ensures.value, sym c.in_ok-whole_or_none.ensures.ok) at fine)
+          (rw (c.color_of-background.ensures, c.deref.ensures.value, sym c.in_ok-whole_or_none.ensures.ok) at written);
+      unchanged = λ no. absurd (cc);
+      err = tt;
+    }
 
 pub returns-clause-few : goal.returns-clause-few
 returns-clause-few c = λ _.
     let f = c.args.format.now in
     let same = sym c.in_ok-whole_or_none.ensures.same in
     let fine = rw same at c.append_data-appended.ensures.ok in
-    has_few f (colors_of f c.args.numbers.now) (number_color f c.in_ok-number.number) c.in-Some.parts.items c.args.bytes.now.items c.whole_or_none.new.bytes.items
+    has_few f (colors_of f c.args.pixels.numbers.now) (number_color f c.in_ok-number.number) c.in-Some.parts.items c.args.bytes.now.items c.whole_or_none.new.bytes.items
     c.in_ok-number.ensures.majority
-    (few_others f c.in_ok-number.number c.args.numbers.now _ c.in_ok-number.ensures.number c.requires.numbers (rw c.in-Some.is at c.in_ok-covered.ensures.apart))
+    (few_others f c.in_ok-number.number c.args.pixels.numbers.now _ c.in_ok-number.ensures.number c.requires (rw c.in-Some.is at c.in_ok-covered.ensures.apart))
     (rw (c.color_of-background.ensures, c.deref.ensures.value, sym c.in_ok-whole_or_none.ensures.ok) at fine)
 
 pub returns-in_default-clause-many : goal.returns-in_default-clause-many
 returns-in_default-clause-many c = λ _.
-    many_others c.args.format.now c.in_ok-number.number c.args.numbers.now c.args.most c.in_ok-number.ensures.number c.requires.numbers c.in_ok-number.ensures.majority
+    many_others c.args.format.now c.in_ok-number.number c.args.pixels.numbers.now c.args.most c.in_ok-number.ensures.number c.requires c.in_ok-number.ensures.majority
     (c.in_ok-covered.ensures.many c.in_default.is)

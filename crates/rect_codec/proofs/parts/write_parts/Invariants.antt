@@ -1,9 +1,0 @@
-use Rattle.std.proofs.Common.{◌++◌, take, length}
-use Rattle.terms.specs.Appending.{Appends, AreEach}
-use Rattle.rect_codec.specs.Parts.{IsPart, parts_head}
-use Rattle.rect_codec.proofs.parts.write_parts.Given as goal
-
--- the rectangles of the parts so far stand behind the head
-abbrev pub invariant-loop-part : goal.invariant-loop-part
-invariant-loop-part l =
-    Appends (AreEach (IsPart l.format) (take l.part-index l.parts)) (l.fn.out.items ++ parts_head (length l.parts)) l.out.items

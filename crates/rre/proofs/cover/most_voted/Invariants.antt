@@ -1,7 +1,0 @@
-use Rattle.rre.proofs.Votes.{IsVote}
-use Rattle.rre.proofs.cover.most_voted.Given as goal
-
-abbrev pub invariant-loop-k : goal.invariant-loop-k
-invariant-loop-k l = record {
-  votes : IsVote l.numbers l.k l.place l.votes;
-}
