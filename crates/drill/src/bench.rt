@@ -13,6 +13,7 @@ use pixel_format::Format;
 use std::alloc::{AllocError, Global};
 use std::io::{BufRead, BufReader, Read, Write};
 use std::{io, mem};
+use terms::ScreenSize;
 
 /// What a drill has: nothing before the first `new`, then a disk, and a desk on it unless `new` or
 /// `open` was refused. The desk is boxed, since it is large.
@@ -110,14 +111,13 @@ impl Drill {
     fn start(
         &mut self,
         format: Format,
-        width: u16,
-        height: u16,
+        size: ScreenSize,
         key_interval: u16,
         name: &[u8],
     ) -> Result<Answer, AllocError> {
         self.fuse.disarm();
         let disk = self.fuse.on(MemoryDisk::new(self.alloc))?;
-        match Header::with_format(self.alloc, format, width, height, key_interval, name) {
+        match Header::with_format(self.alloc, format, size, key_interval, name) {
             Ok(header) => Ok(self.create(disk, header)),
             Err(fault) => {
                 self.bench = Bench::Disk(disk);
@@ -127,16 +127,11 @@ impl Drill {
     }
 
     fn create(&mut self, disk: FusedDisk, header: Header) -> Answer {
-        let (width, height) = header.size();
-        let key_interval = header.key_interval();
+        let (size, key_interval) = (header.size(), header.key_interval());
         match new_desk(self.alloc, disk, header) {
             Ok(desk) => {
                 self.bench = Bench::Desk(desk);
-                Answer::Recording {
-                    width,
-                    height,
-                    key_interval,
-                }
+                Answer::Recording { size, key_interval }
             }
             Err(refused) => {
                 self.bench = Bench::Disk(refused.disk);
@@ -179,11 +174,10 @@ impl Drill {
         match line {
             Line::New {
                 format,
-                width,
-                height,
+                size,
                 key_interval,
                 name,
-            } => self.start(format, width, height, key_interval, &name),
+            } => self.start(format, size, key_interval, &name),
             Line::Open => self.open(),
             Line::OnDesk(line) => match &mut self.bench {
                 Bench::Empty | Bench::Disk(_) => Ok(Answer::Bad),

@@ -20,14 +20,6 @@ pub fn answer(
     line: DeskLine,
 ) -> Result<Answer, AllocError> {
     match line {
-        DeskLine::Host { time, bytes } => host(alloc, desk, time, &bytes),
-        DeskLine::Take => take(alloc, desk),
-        DeskLine::Body => body(alloc, desk),
-        DeskLine::Gate => gate(alloc, desk),
-        DeskLine::Join { start } => join(alloc, desk, start_of(start)),
-        DeskLine::Next { seat, limit } => next(alloc, desk, seat, limit),
-        DeskLine::Seek { seat, count } => seek(alloc, desk, seat, count),
-        DeskLine::Leave { seat } => leave(alloc, desk, seat),
         DeskLine::Pixel { count, x, y } => Ok(pixel(desk, count, x, y)),
         DeskLine::Fail { calls } => {
             fuse.fail_after(calls);
@@ -37,7 +29,54 @@ pub fn answer(
             fuse.stop_after(calls, fill);
             Ok(Answer::Set)
         }
+        line => answer_to_step(alloc, desk, line),
     }
+}
+
+// The answer to a line that is a step of the desk.
+fn answer_to_step(
+    alloc: Global,
+    desk: &mut Desk<FusedDisk>,
+    line: DeskLine,
+) -> Result<Answer, AllocError> {
+    let (seat, position) = seat_of(&line);
+    match step_of(alloc, desk, line) {
+        Ok(step) => Ok(answer_of(reply_to(alloc, desk, step)?, seat, position)),
+        Err(answer) => Ok(answer),
+    }
+}
+
+// The seat of `seek S N` and `leave S`, and the place that it is to have.
+fn seat_of(line: &DeskLine) -> (u32, u64) {
+    match line {
+        DeskLine::Seek { seat, count } => (*seat, *count),
+        DeskLine::Leave { seat } => (*seat, 0),
+        _ => (0, 0),
+    }
+}
+
+// The step that a line asks for, or its answer where it asks for none.
+fn step_of(alloc: Global, desk: &Desk<FusedDisk>, line: DeskLine) -> Result<Step, Answer>
+    ensures { IfOk result (IsSizedStep desk.now.head) }
+{
+    Ok(match line {
+        DeskLine::Host { time, bytes } => {
+            match HostMessage::from_bytes(alloc, desk.header().size(), &bytes) {
+                Ok(message) => Step::Host(time, message),
+                Err(fault) => return Err(Answer::BytesRefused(fault.number())),
+            }
+        }
+        DeskLine::Take => Step::Take,
+        DeskLine::Body => Step::Body,
+        DeskLine::Gate => Step::Gate,
+        DeskLine::Join { start } => Step::Join(start_of(start)),
+        DeskLine::Next { seat, limit } => Step::Next(seat, limit),
+        DeskLine::Seek { seat, count } => Step::Seek(seat, count),
+        DeskLine::Leave { seat } => Step::Leave(seat),
+        DeskLine::Pixel { .. } | DeskLine::Fail { .. } | DeskLine::Stop { .. } => {
+            return Err(Answer::Bad);
+        }
+    })
 }
 
 // A run of one step, and its reply.
@@ -56,121 +95,40 @@ fn reply_to(alloc: Global, desk: &mut Desk<FusedDisk>, step: Step) -> Result<Rep
     Ok(reply)
 }
 
-// `host T HEX`.
-fn host(
-    alloc: Global,
-    desk: &mut Desk<FusedDisk>,
-    time: u32,
-    bytes: &[u8],
-) -> Result<Answer, AllocError> {
-    let (width, height) = desk.header().size();
-    let message = match HostMessage::from_bytes(alloc, width, height, bytes) {
-        Ok(message) => message,
-        Err(fault) => return Ok(Answer::BytesRefused(fault.number())),
-    };
-    let Reply::Host(reply) = reply_to(alloc, desk, Step::Host(time, message))? else {
-        unreachable!()
-    };
-    Ok(match reply {
-        Ok(number) => Answer::Accepted(number),
-        Err(refused) => Answer::HostRefused(StepRefusal::Host(refused.why).number()),
-    })
-}
-
-// `take`.
-fn take(alloc: Global, desk: &mut Desk<FusedDisk>) -> Result<Answer, AllocError> {
-    let Reply::Take(reply) = reply_to(alloc, desk, Step::Take)? else {
-        unreachable!()
-    };
-    Ok(match reply {
-        Ok(taken) => Answer::Taken {
+// The answer that tells a reply; a seat has this number, and after `seek` this place.
+fn answer_of(reply: Reply, seat: u32, position: u64) -> Answer {
+    match reply {
+        Reply::Host(Ok(number)) => Answer::Accepted(number),
+        Reply::Host(Err(refused)) => {
+            Answer::HostRefused(StepRefusal::Host(refused.why).number())
+        }
+        Reply::Take(Ok(taken)) => Answer::Taken {
             first: taken.first,
             count: taken.count,
         },
-        Err(refusal) => Answer::TakeRefused(StepRefusal::Take(refusal).number()),
-    })
-}
-
-// `body`.
-fn body(alloc: Global, desk: &mut Desk<FusedDisk>) -> Result<Answer, AllocError> {
-    let Reply::Body(reply) = reply_to(alloc, desk, Step::Body)? else {
-        unreachable!()
-    };
-    Ok(match reply {
-        Ok(()) => Answer::Written,
-        Err(refusal) => Answer::BodyRefused(StepRefusal::Flush(refusal).number()),
-    })
-}
-
-// `gate`. What is answered ends at the committed count, so no sum is cut at the limit of its type.
-fn gate(alloc: Global, desk: &mut Desk<FusedDisk>) -> Result<Answer, AllocError> {
-    let Reply::Gate(reply) = reply_to(alloc, desk, Step::Gate)? else {
-        unreachable!()
-    };
-    Ok(match reply {
-        Ok(slice) => { Answer::Committed(slice.first.saturating_add(slice.messages.len() as u64)) }
-        Err(refusal) => Answer::GateRefused(StepRefusal::Flush(refusal).number()),
-    })
-}
-
-// `join live`, `join N`.
-fn join(alloc: Global, desk: &mut Desk<FusedDisk>, start: Start) -> Result<Answer, AllocError> {
-    let Reply::Join(reply) = reply_to(alloc, desk, Step::Join(start))? else {
-        unreachable!()
-    };
-    Ok(match reply {
-        Ok(seated) => Answer::Seated {
+        Reply::Take(Err(refusal)) => Answer::TakeRefused(StepRefusal::Take(refusal).number()),
+        Reply::Body(Ok(())) => Answer::Written,
+        Reply::Body(Err(refusal)) => Answer::BodyRefused(StepRefusal::Flush(refusal).number()),
+        // What is answered ends at the committed count, so no sum is cut at the limit of its type.
+        Reply::Gate(Ok(slice)) => {
+            Answer::Committed(slice.first.saturating_add(slice.messages.len() as u64))
+        }
+        Reply::Gate(Err(refusal)) => Answer::GateRefused(StepRefusal::Flush(refusal).number()),
+        Reply::Join(Ok(seated)) => Answer::Seated {
             seat: seated.number,
             position: seated.position,
         },
-        Err(refusal) => Answer::JoinRefused(StepRefusal::Join(refusal).number()),
-    })
-}
-
-// `next S LIMIT`.
-fn next(
-    alloc: Global,
-    desk: &mut Desk<FusedDisk>,
-    seat: u32,
-    limit: u32,
-) -> Result<Answer, AllocError> {
-    let Reply::Next(reply) = reply_to(alloc, desk, Step::Next(seat, limit))? else {
-        unreachable!()
-    };
-    Ok(match reply {
-        Ok(slice) => Answer::Slice {
+        Reply::Join(Err(refusal)) => Answer::JoinRefused(StepRefusal::Join(refusal).number()),
+        Reply::Next(Ok(slice)) => Answer::Slice {
             first: slice.first,
             count: slice.messages.len(),
         },
-        Err(refusal) => Answer::NextRefused(StepRefusal::Next(refusal).number()),
-    })
-}
-
-// `seek S N`.
-fn seek(
-    alloc: Global,
-    desk: &mut Desk<FusedDisk>,
-    seat: u32,
-    position: u64,
-) -> Result<Answer, AllocError> {
-    let Reply::Seek(reply) = reply_to(alloc, desk, Step::Seek(seat, position))? else {
-        unreachable!()
-    };
-    Ok(match reply {
-        Ok(()) => Answer::Seated { seat, position },
-        Err(refusal) => Answer::SeekRefused(StepRefusal::Seek(refusal).number()),
-    })
-}
-
-// `leave S`.
-fn leave(alloc: Global, desk: &mut Desk<FusedDisk>, seat: u32) -> Result<Answer, AllocError> {
-    let Reply::Leave(reply) = reply_to(alloc, desk, Step::Leave(seat))? else {
-        unreachable!()
-    };
-    Ok(match reply {
-        Ok(()) => Answer::Left(seat),
-        Err(refusal) => Answer::LeaveRefused(StepRefusal::Leave(refusal).number()),
-    })
+        Reply::Next(Err(refusal)) => Answer::NextRefused(StepRefusal::Next(refusal).number()),
+        Reply::Seek(Ok(())) => Answer::Seated { seat, position },
+        Reply::Seek(Err(refusal)) => Answer::SeekRefused(StepRefusal::Seek(refusal).number()),
+        Reply::Leave(Ok(())) => Answer::Left(seat),
+        Reply::Leave(Err(refusal)) => Answer::LeaveRefused(StepRefusal::Leave(refusal).number()),
+    }
 }
 
 // Where a viewer begins.
@@ -183,8 +141,8 @@ fn start_of(start: drill_script::Start) -> Start {
 
 // `pixel N X Y`: a place outside the screen is a bad line, whatever N is.
 fn pixel(desk: &mut Desk<FusedDisk>, count: u64, x: u16, y: u16) -> Answer {
-    let (width, height) = desk.header().size();
-    if x >= width || y >= height {
+    let size = desk.header().size();
+    if x >= size.width || y >= size.height {
         return Answer::Bad;
     }
     match desk.screen_at(count) {
