@@ -7,6 +7,13 @@ use disk::Disk;
 use flusher_core::Book;
 use gated_journal::Header;
 use std::alloc::Global;
+use terms::ScreenSize;
+
+/// The size of a screen of one place.
+pub const ONE_PLACE: ScreenSize = ScreenSize {
+    width: 1,
+    height: 1,
+};
 
 /// A desk over a new recording of one place, with a key interval of 4 and the name 'x'; none where
 /// memory is wanting, the device fails, or the disk has bytes.
@@ -14,7 +21,7 @@ pub fn desk_of_one_place<D: Disk + Drop>(alloc: Global, disk: D) -> Option<Desk<
     ensures width { IfSome result (λ desk. desk.head.width ≡ 1) }
     ensures height { IfSome result (λ desk. desk.head.height ≡ 1) }
 {
-    let header = Header::new(alloc, 1, 1, 4, b"x").ok()?;
+    let header = Header::new(alloc, ONE_PLACE, 4, b"x").ok()?;
     match Book::create(alloc, disk, header) {
         Ok(book) => Some(Desk::new(book)),
         Err(_) => None,

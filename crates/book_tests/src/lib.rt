@@ -1,9 +1,9 @@
-//! Tests of the crates of a recording, from its disk up to the shared book, and of viewers' sessions.
+//! Tests of the crates of a recording, from its disk up to the shared book.
 #![tactic(auto)]
 
 mod desk;
 
-pub use desk::desk_of_one_place;
+pub use desk::{ONE_PLACE, desk_of_one_place};
 
 #[cfg(test)]
 mod tests;

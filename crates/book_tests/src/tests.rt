@@ -1,7 +1,5 @@
-//! What no clause says: devices, readers and writers that fail, workers beside each other, and what
-//! a viewer is answered.
+//! What no clause says: devices, readers and writers that fail, and workers beside each other.
 
 mod fbs_files;
 mod recordings;
 mod shared;
-mod viewers;

@@ -4,7 +4,7 @@ ghost use Rattle.std.specs.Prelude.{◌≡◌, IfSome};
 ghost use Rattle.flusher_core.specs.State.{accepted_count};
 
 use super::{UPDATE, confirm, find};
-use crate::desk_of_one_place;
+use crate::{ONE_PLACE, desk_of_one_place};
 use broadcast::{Desk, NextRefusal, Start};
 use disk::{Disk, FailingDisk, MemoryDisk, Switch};
 use flusher_core::{FlushRefusal, HostRefusal};
@@ -135,7 +135,7 @@ impl<'a, M: Mark, R: Clock> HostSource<Ticket<M>> for Updates<'a, M, R> {
             self.gates.hold_until(Order::Meeting, sending, 1);
         }
         self.given += 1;
-        match HostMessage::from_bytes(self.alloc, 1, 1, &UPDATE) {
+        match HostMessage::from_bytes(self.alloc, ONE_PLACE, &UPDATE) {
             Ok(message) => Some((0, message)),
             Err(_) => {
                 self.gates.lacks();

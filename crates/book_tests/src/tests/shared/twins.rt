@@ -4,6 +4,7 @@ ghost use Rattle.std.specs.Prelude.{◌≡◌, IfOk};
 ghost use Rattle.flusher_core.specs.State.{accepted_count};
 
 use super::{UPDATE, confirm, find, new_desk};
+use crate::ONE_PLACE;
 use Line::{At, Bell, Body, Gate, Key, Leave, Live, Next, Seek, Take, Update};
 use broadcast::{Desk, Seat, Start};
 use disk::{Disk, FailingDisk, MemoryDisk, Switch};
@@ -87,8 +88,8 @@ fn host<D: Disk, M: Mark, R: Wait>(
     requires sized { (M.head.width ≡ 1) × (M.head.height ≡ 1) }
     ensures head { desk.new.head ≡ desk.old.head }
 {
-    let answer = desk.host(0, HostMessage::from_bytes(alloc, 1, 1, bytes)?);
-    let twin = shared.host(rt, 0, HostMessage::from_bytes(alloc, 1, 1, bytes)?);
+    let answer = desk.host(0, HostMessage::from_bytes(alloc, ONE_PLACE, bytes)?);
+    let twin = shared.host(rt, 0, HostMessage::from_bytes(alloc, ONE_PLACE, bytes)?);
     match (answer, twin) {
         (Ok(number), Ok(ticket)) => {
             let is_same = number == ticket.number();

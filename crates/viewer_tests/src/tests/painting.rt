@@ -12,13 +12,18 @@ use replay::Slice;
 use rfb_wire::HostMessage;
 use std::alloc::Global;
 use std::test::Fail;
-use terms::Area;
+use terms::{Area, ScreenSize};
 use viewer_session::Session;
 
 // The screen's size: of four tiles, three of which aren't whole.
 const WIDTH: u16 = 20;
 
 const HEIGHT: u16 = 18;
+
+const SIZE: ScreenSize = ScreenSize {
+    width: WIDTH,
+    height: HEIGHT,
+};
 
 const BLACK: Color = Color { r: 0, g: 0, b: 0 };
 
@@ -270,10 +275,10 @@ fn go_on(
     ensures down { OnOk result (screen.new.height ≡ HEIGHT) }
 {
     let update = any_update(alloc, seed)?;
-    let message = HostMessage::from_bytes(alloc, WIDTH, HEIGHT, &update)?;
+    let message = HostMessage::from_bytes(alloc, SIZE, &update)?;
     screen.paint(&message);
     if below(seed, 8) == 0 {
-        let mut start = Screen::black(alloc, WIDTH, HEIGHT)?;
+        let mut start = Screen::black(alloc, SIZE)?;
         start.set(screen);
         session.advance(&Slice {
             first: 7,
@@ -372,7 +377,7 @@ fn begun(alloc: Global) -> Result<Box<Session>, Fail>
     ensures width { IfOk result (λ s. s.value.view.screen.width ≡ WIDTH) }
     ensures height { IfOk result (λ s. s.value.view.screen.height ≡ HEIGHT) }
 {
-    let mut session = new_session(alloc, WIDTH, HEIGHT, b"painted")?;
+    let mut session = new_session(alloc, SIZE, b"painted")?;
     answered(alloc, &mut session, &HANDSHAKE)?;
     Ok(session)
 }
@@ -383,7 +388,7 @@ fn painted(rt: HostRuntime) -> Result<(), Fail> {
     let alloc = rt.alloc();
     let mut seed = 1;
     let mut session = begun(alloc)?;
-    let mut screen = Screen::black(alloc, WIDTH, HEIGHT)?;
+    let mut screen = Screen::black(alloc, SIZE)?;
     let mut viewer = Viewer {
         pixels: vec![in alloc; BLACK; 360]?,
         format: PixelFormat::host(),

@@ -2,13 +2,14 @@
 
 ghost use Rattle.std.specs.Prelude.{◌≡◌, ◌<◌, ◌^◌, IfOk, length};
 
+use crate::row;
 use key_index::Stamped;
 use painter::Screen;
 use replay::Slice;
 use rfb_wire::HostMessage;
 use std::alloc::Global;
 use std::test::Fail;
-use terms::{FormatFault, WireFault};
+use terms::{FormatFault, ScreenSize, WireFault};
 use viewer_session::{Session, SessionFault};
 
 mod painting;
@@ -36,13 +37,13 @@ const COPIED: [u8; 20] = *b"\0\0\0\x01\0\x01\0\0\0\x02\0\x01\0\0\0\x01\0\0\0\0";
 const FIRST: [u8; 10] = *b"\x03\0\0\0\0\0\0\x01\0\x01";
 
 // A session, boxed, so that a test that ends early doesn't take it apart.
-fn new_session(alloc: Global, width: u16, height: u16, name: &[u8]) -> Result<Box<Session>, Fail>
+fn new_session(alloc: Global, size: ScreenSize, name: &[u8]) -> Result<Box<Session>, Fail>
     requires name { length name.now < 2 ^ 32 }
-    ensures width { IfOk result (λ s. s.value.view.screen.width ≡ width) }
-    ensures height { IfOk result (λ s. s.value.view.screen.height ≡ height) }
+    ensures width { IfOk result (λ s. s.value.view.screen.width ≡ size.width) }
+    ensures height { IfOk result (λ s. s.value.view.screen.height ≡ size.height) }
     ensures position { IfOk result (λ s. s.value.view.position ≡ 0) }
 {
-    Ok(Box::new(alloc, Session::new(alloc, width, height, name)?)?)
+    Ok(Box::new(alloc, Session::new(alloc, size, name)?)?)
 }
 
 // A screen that one update has painted.
@@ -50,8 +51,8 @@ fn painted_once(alloc: Global, width: u16, update: &[u8]) -> Result<Screen, Fail
     ensures width { IfOk result (λ screen. screen.width ≡ width) }
     ensures height { IfOk result (λ screen. screen.height ≡ 1) }
 {
-    let message = HostMessage::from_bytes(alloc, width, 1, update)?;
-    let mut screen = Screen::black(alloc, width, 1)?;
+    let message = HostMessage::from_bytes(alloc, row(width), update)?;
+    let mut screen = Screen::black(alloc, row(width))?;
     screen.paint(&message);
     Ok(screen)
 }
@@ -63,7 +64,7 @@ fn started(alloc: Global, width: u16, update: &[u8]) -> Result<Box<Session>, Fai
     ensures height { IfOk result (λ s. s.value.view.screen.height ≡ 1) }
 {
     let start = painted_once(alloc, width, update)?;
-    let mut session = new_session(alloc, width, 1, b"r")?;
+    let mut session = new_session(alloc, row(width), b"r")?;
     session.advance(&Slice {
         first: 1,
         start: Some(start),
@@ -117,7 +118,7 @@ fn handshakes(rt: HostRuntime) -> Result<(), Fail> {
         ),
     ];
     for (piece, heard, told) in rows {
-        let mut session = new_session(alloc, 2, 1, b"r")?;
+        let mut session = new_session(alloc, row(2), b"r")?;
         assert!(rt; put_out(alloc, &mut session)?.as_slice() == &GREETING[..12]);
         assert!(rt; feed(&mut session, piece) == heard && feed(&mut session, b"") == heard);
         for answer in [told, b""] {
@@ -153,48 +154,46 @@ fn faults(rt: HostRuntime) -> Result<(), Fail> {
     Ok(())
 }
 
-// What stands in an answer from a place on, to a viewer that sent these lists and asks for so many
-// columns, of which the first one is red. The number of the encoding: no list, and an empty one; Raw,
-// RRE and Hextile first; unknown ones in front; CopyRect alone, and in front; and one list behind
-// another. Then seventeen columns, which stand in two tiles: a rectangle for each.
+// What a viewer is answered that sent these lists, and asks for a row of so many columns, of which the
+// first one is red.
+fn answered_in_row(alloc: Global, width: u8, lists: &[u8]) -> Result<Vec<u8>, Fail> {
+    let mut session = started(alloc, u16::from(width), &RED)?;
+    feed(&mut session, lists)?;
+    feed(&mut session, &[3, 0, 0, 0, 0, 0, 0, width, 0, 1])?;
+    put_out(alloc, &mut session)
+}
+
+// The encoding of the rectangle: with no list, and an empty one; with Raw, RRE and Hextile first; with
+// unknown ones in front; with CopyRect alone, and in front; and with one list behind another.
 #[test]
-fn encodings_and_tiles(rt: HostRuntime) -> Result<(), Fail> {
-    let rows: [(u8, &[u8], usize, &[u8]); 11] = [
-        (16, b"", 12, b"\0\0\0\0"),
-        (16, b"\x02\0\0\0", 12, b"\0\0\0\0"),
-        (16, b"\x02\0\0\x02\0\0\0\0\0\0\0\x05", 12, b"\0\0\0\0"),
-        (16, b"\x02\0\0\x02\0\0\0\x02\0\0\0\x05", 12, b"\0\0\0\x02"),
-        (16, b"\x02\0\0\x02\0\0\0\x05\0\0\0\0", 12, b"\0\0\0\x05"),
-        (
-            16,
-            b"\x02\0\0\x03\xff\xff\xff\x11\0\0\0\x10\0\0\0\x02",
-            12,
-            b"\0\0\0\x02",
-        ),
-        (16, b"\x02\0\0\x01\0\0\0\x01", 12, b"\0\0\0\0"),
-        (16, b"\x02\0\0\x02\0\0\0\x01\0\0\0\x05", 12, b"\0\0\0\x05"),
-        (
-            16,
-            b"\x02\0\0\x01\0\0\0\x05\x02\0\0\x01\0\0\0\x02",
-            12,
-            b"\0\0\0\x02",
-        ),
-        (
-            17,
-            b"",
-            0,
-            b"\0\0\0\x02\0\0\0\0\0\x10\0\x01\0\0\0\0\0\0\xff\0",
-        ),
-        (17, b"", 80, b"\0\x10\0\0\0\x01\0\x01\0\0\0\0\0\0\0\0"),
+fn encodings(rt: HostRuntime) -> Result<(), Fail> {
+    let rows: [(&[u8], u8); 9] = [
+        (b"", 0),
+        (b"\x02\0\0\0", 0),
+        (b"\x02\0\0\x02\0\0\0\0\0\0\0\x05", 0),
+        (b"\x02\0\0\x02\0\0\0\x02\0\0\0\x05", 2),
+        (b"\x02\0\0\x02\0\0\0\x05\0\0\0\0", 5),
+        (b"\x02\0\0\x03\xff\xff\xff\x11\0\0\0\x10\0\0\0\x02", 2),
+        (b"\x02\0\0\x01\0\0\0\x01", 0),
+        (b"\x02\0\0\x02\0\0\0\x01\0\0\0\x05", 5),
+        (b"\x02\0\0\x01\0\0\0\x05\x02\0\0\x01\0\0\0\x02", 2),
     ];
-    for (width, lists, place, told) in rows {
-        let mut session = started(rt.alloc(), u16::from(width), &RED)?;
-        feed(&mut session, lists)?;
-        feed(&mut session, &[3, 0, 0, 0, 0, 0, 0, width, 0, 1])?;
-        let answer = put_out(rt.alloc(), &mut session)?;
-        let rest = answer.get(place..).unwrap_or_default();
-        assert!(rt; rest.starts_with(told), "{lists:?}");
+    for (lists, encoding) in rows {
+        let answer = answered_in_row(rt.alloc(), 16, lists)?;
+        let told = answer.get(12..).unwrap_or_default();
+        assert!(rt; told.starts_with(&[0, 0, 0, encoding]), "{lists:?}");
     }
+    Ok(())
+}
+
+// Seventeen columns stand in two tiles: a rectangle for each, and the second one behind 80 bytes.
+#[test]
+fn tiles(rt: HostRuntime) -> Result<(), Fail> {
+    let answer = answered_in_row(rt.alloc(), 17, b"")?;
+    let first = b"\0\0\0\x02\0\0\0\0\0\x10\0\x01\0\0\0\0\0\0\xff\0";
+    let second = b"\0\x10\0\0\0\x01\0\x01\0\0\0\0\0\0\0\0";
+    assert!(rt; answer.starts_with(first.as_slice()));
+    assert!(rt; answer.get(80..).unwrap_or_default() == second.as_slice());
     Ok(())
 }
 
@@ -204,7 +203,7 @@ fn go_on(alloc: Global, session: &mut Session, width: u16, update: &[u8]) -> Res
     requires height { session.old.view.screen.height ≡ 1 }
     requires position { session.old.view.position ≡ 1 }
 {
-    let message = HostMessage::from_bytes(alloc, width, 1, update)?;
+    let message = HostMessage::from_bytes(alloc, row(width), update)?;
     let messages = Vec::from_array(alloc, [Stamped { time: 0, message }])?;
     session.advance(&Slice {
         first: 1,

@@ -1,5 +1,5 @@
 use Rattle.std.proofs.Common.{◌≡◌}
-use Rattle.book_tests.proofs.tests.viewers.painting.painted.Given as goal
+use Rattle.viewer_tests.proofs.tests.painting.painted.Given as goal
 
 -- both keep their size
 abbrev pub invariant-loop : goal.invariant-loop
