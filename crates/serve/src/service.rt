@@ -2,10 +2,11 @@
 
 use crate::committing::Committing;
 use crate::no_turnstile::NoTurnstile;
-use crate::stopped::{Stopped, refuse};
+use crate::refusing::refuse;
 use connections::{Ends, Event, Host, HostEnd, Messages, Refusal, Room, Stopwatch, first_refusal};
 use disk::Disk;
 use flusher_core::{HostRefusal, TakeRefusal};
+use recorder_opening::Stopped;
 use shared_book::{FlusherEnd, Mark, Shared, run_flusher, run_host};
 use sockets::{Stop, wait_for_stop};
 use std::io::Write;

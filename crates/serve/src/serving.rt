@@ -3,12 +3,12 @@
 ghost use Rattle.std.specs.Prelude.{◌≡◌};
 ghost use Rattle.flusher_core.specs.State.{accepted_count};
 
-use crate::opening::{Opened, Opening, Source};
+use crate::refusing::refuse;
 use crate::service::{Service, run_threads};
-use crate::stopped::{Stopped, refuse};
 use broadcast::Desk;
 use connections::{Event, Plan, Refusal, Room, Telling};
 use file_disk::LastError;
+use recorder_opening::{Opened, Opening, Source, Stopped};
 use shared_book::{Mark, Shared, Token};
 use sockets::Bell;
 use std::fs::File;

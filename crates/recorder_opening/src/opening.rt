@@ -106,12 +106,12 @@ impl<
             Found::Empty(file) => Some(file),
             Found::Nothing => None,
         };
-        let Some(((width, height), name)) = host.and_then(|host| host.screen()) else {
+        let Some((size, name)) = host.and_then(|host| host.screen()) else {
             return Err(Stopped::Refused(Refusal::File));
         };
         let plan = self.plan;
         let alloc = self.rt.alloc();
-        match Header::with_format(alloc, plan.format, width, height, plan.key_interval, name) {
+        match Header::with_format(alloc, plan.format, size, plan.key_interval, name) {
             Ok(header) => Ok(self.create(header)?),
             Err(_) => Err(Stopped::out_of_memory()),
         }

@@ -3,7 +3,6 @@
 use connections::Refusal;
 use std::alloc::AllocError;
 use std::io;
-use std::io::Write;
 
 /// How a recorder ends that isn't done.
 pub enum Stopped {
@@ -37,10 +36,4 @@ impl From<io::Error> for Stopped {
     fn from(error: io::Error) -> Stopped {
         Stopped::Failed(error)
     }
-}
-
-/// Says why the recorder is refused.
-pub fn refuse<E: Write>(refusal: Refusal, err: &mut E) -> io::Result<()> {
-    writeln!(err, "recorderd: serve refused {refusal}")?;
-    err.flush()
 }

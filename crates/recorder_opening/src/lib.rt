@@ -1,0 +1,11 @@
+//! What `recorderd serve` begins with: the recording, the host, and where viewers come.
+#![tactic(auto)]
+
+mod beginning;
+mod opening;
+mod recording;
+mod stopped;
+
+pub use opening::{Opened, Opening, Source};
+pub use recording::Identity;
+pub use stopped::Stopped;
