@@ -1,6 +1,7 @@
 //! Desks for tests.
 
 ghost use Rattle.std.specs.Prelude.{◌≡◌, IfSome};
+ghost use Rattle.pixel_format.specs.declared.kind.Format.TheVariants.{One};
 
 use broadcast::Desk;
 use disk::Disk;
@@ -18,6 +19,7 @@ pub const ONE_PLACE: ScreenSize = ScreenSize {
 /// A desk over a new recording of one place, with a key interval of 4 and the name 'x'; none where
 /// memory is wanting, the device fails, or the disk has bytes.
 pub fn desk_of_one_place<D: Disk + Drop>(alloc: Global, disk: D) -> Option<Desk<D>>
+    ensures format { IfSome result (λ desk. desk.head.format ≡ One) }
     ensures width { IfSome result (λ desk. desk.head.width ≡ 1) }
     ensures height { IfSome result (λ desk. desk.head.height ≡ 1) }
 {

@@ -1,5 +1,5 @@
 -- What is kept of seats.
-use Rattle.std.proofs.Common.{◌≡◌, ◌≢◌, ℕ, zero, suc, ◌+◌, ◌<◌, ◌≤◌, List, [], ◌∷◌, length, drop, Some, refl, sym, ◌∙◌, ap, subst, arith}
+use Rattle.std.proofs.Common.{◌≡◌, ◌≢◌, ℕ, zero, suc, ◌+◌, ◌<◌, ◌≤◌, List, [], ◌∷◌, ◌++◌, length, drop, Some, refl, sym, ◌∙◌, ap, subst, arith}
 use Rattle.std.specs.Prelude.{Option, None, slice_index_or}
 use Rattle.std.specs.List.{slice_get}
 use Rattle.broadcast.specs.declared.seat.Place.{Place}
@@ -100,3 +100,9 @@ pub index_is : (seats : List (Option Place)) (n : ℕ) → slice_index_or seats 
 index_is [] n = refl
 index_is (s ∷ seats) zero = refl
 index_is (s ∷ seats) (suc n) = index_is seats n
+
+-- one free seat more
+pub free_more : (seats : List (Option Place)) → AreFree seats → AreFree (seats ++ None ∷ [])
+free_more [] free = tt
+free_more (None ∷ seats) free = free_more seats free
+free_more ((Some p) ∷ seats) free = absurd free

@@ -2,52 +2,43 @@
 
 ghost use Rattle.std.specs.Prelude.{◌≡◌, ◌<◌, List, Option, IfSome, MatchOption, Some, None, length};
 ghost use Rattle.pixel_format.specs.Limits.{limits};
-ghost use Rattle.pixel_format.specs.declared.kind.Format.TheVariants.{One};
 
 use crate::seat::Place;
 use arrayvec::ArrayVec;
+use pixel_format::Format;
 use std::marker::Model;
 
-// How many seats a desk has, as the limits say: written out, since a type's length takes no call.
-const SEATS: usize = 64;
+// The most seats that any format allows: written out, since a type's length takes no call.
+const MOST_SEATS: usize = 256;
 
 /// The seats of a desk, by their numbers. Contracts see the list of what is kept of each.
 #[derive(Drop)]
 pub struct Seats {
-    places: ArrayVec<Option<Place>, SEATS>,
+    places: ArrayVec<Option<Place>, MOST_SEATS>,
 }
 
 impl Model for Seats {
-    ghost use Rattle.std.specs.Prelude.{◌≡◌, List, Option, length};
-    ghost use Rattle.pixel_format.specs.Limits.{limits};
-    ghost use Rattle.pixel_format.specs.declared.kind.Format.TheVariants.{One};
+    ghost use Rattle.std.specs.Prelude.{List, Option};
     ghost use Rattle.broadcast.specs.declared.seat.Place.{Place};
 
     ghost Value = { List (Option Place) };
 
     ghost view = { λ s. s.places.items };
-
-    ghost invariant = { λ s. length s.places.items ≡ (limits One).seats };
 }
 
 impl Seats {
     ghost use Rattle.broadcast.specs.Seats.{seat_at, with_seat, first_free, AreFree};
 
-    /// All free.
-    pub fn new() -> Seats
+    /// As many as a recording of this format allows, all free.
+    pub fn new(format: Format) -> Seats
         ensures free { AreFree result }
-        ensures all { length result ≡ (limits One).seats }
+        ensures all { length result ≡ (limits format).seats }
     {
-        Seats {
-            places: ArrayVec::from([None; SEATS]),
+        let mut places = ArrayVec::new();
+        for _ in 0..format.limits().seats {
+            places.push(None);
         }
-    }
-
-    /// Does nothing: its contract is how many seats there are.
-    pub fn known(&self)
-        ensures { length self.now ≡ (limits One).seats }
-    {
-        let _ = &self.places;
+        Seats { places }
     }
 
     /// What is kept of a seat.
@@ -65,7 +56,7 @@ impl Seats {
     /// The number of the first free seat.
     pub fn first_free(&self) -> Option<u32>
         ensures free { result ≡ first_free self.now }
-        ensures within { IfSome result (λ n. n < (limits One).seats) }
+        ensures within { IfSome result (λ n. n < length self.now) }
     {
         for number in 0..self.places.len() {
             if self.places[number].is_none() {
@@ -77,7 +68,7 @@ impl Seats {
 
     /// Keeps this of a seat.
     pub fn set(&mut self, number: u32, place: Option<Place>)
-        requires { number < (limits One).seats }
+        requires { number < length self.old }
         ensures { self.new ≡ with_seat self.old number place }
     {
         self.places[number as usize] = place;

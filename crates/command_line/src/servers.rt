@@ -61,7 +61,7 @@ fn audience(word: Option<&str>) -> Option<Audience> {
     match word {
         Some("any") => Some(Audience::Any),
         _ => {
-            let seats = Format::One.limits().seats as u64;
+            let seats = Format::Two.limits().seats as u64;
             Some(Audience::Count(within(word, 1, seats, 1)? as u32))
         }
     }

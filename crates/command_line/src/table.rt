@@ -190,7 +190,7 @@ const COMMANDS: [CommandWords; 13] = [
             Value(
                 "viewers",
                 "N",
-                "How many viewers are waited for, 1 to 64, or any: whoever comes [default: 1]",
+                "How many viewers are waited for, 1 to 256, or any: whoever comes [default: 1]",
             ),
             Value(
                 "from",

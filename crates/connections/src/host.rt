@@ -8,6 +8,7 @@ use crate::refusal::{HostEnd, Refusal};
 use crate::room::Room;
 use crate::telling::{Event, Telling};
 use host_session::{HostFault, HostSession};
+use pixel_format::Format;
 use rfb_wire::HostMessage;
 use shared_book::{HostSource, Mark, Ticket};
 use sockets::{pause, time_left, watch_over, write_within};
@@ -35,11 +36,13 @@ pub struct Host {
 }
 
 impl Host {
-    /// Connects to a host of this size, where one is expected, and ends its handshake, which may
-    /// take 30 seconds. What fails is told.
+    /// Connects to a host whose messages are for a recording of this format, and which is of this
+    /// size, where one is expected, and ends its handshake, which may take 30 seconds. What fails is
+    /// told.
     pub fn connect<R: Net<Stream = TcpStream> + AllocGlobal + Clock + Eprint + Wait>(
         rt: &R,
         address: &str,
+        format: Format,
         expected: Option<ScreenSize>,
         telling: &Telling,
     ) -> Result<Host, Refusal> {
@@ -50,7 +53,7 @@ impl Host {
                 return Err(Refusal::Net);
             }
         };
-        let mut host = match Host::over(rt.alloc(), stream, expected) {
+        let mut host = match Host::over(rt.alloc(), stream, format, expected) {
             Ok(host) => host,
             Err(error) => {
                 telling.tell_failure(rt, "connect to host", address, &error);
@@ -65,14 +68,19 @@ impl Host {
         Ok(host)
     }
 
-    fn over(alloc: Global, stream: TcpStream, expected: Option<ScreenSize>) -> io::Result<Host> {
+    fn over(
+        alloc: Global,
+        stream: TcpStream,
+        format: Format,
+        expected: Option<ScreenSize>,
+    ) -> io::Result<Host> {
         watch_over(&stream)?;
         let mut buffer = Vec::new(alloc);
         buffer.resize(PIECE, 0)?;
         Ok(Host {
             alloc,
             stream,
-            session: HostSession::new(alloc, expected),
+            session: HostSession::in_format(alloc, format, expected),
             buffer,
             waiting: Vec::new(alloc),
             end: None,
@@ -225,7 +233,7 @@ pub struct Messages<'a, M: Mark, R: Clock + Eprint + Wait> {
 }
 
 impl<'a, M: Mark, R: Clock + Eprint + Wait> Messages<'a, M, R> {
-    /// Those of a host, whose screen has the recording's size.
+    /// Those of a host, whose screen has the recording's size and whose messages have its format.
     pub fn new(
         rt: &'a R,
         host: Host,
@@ -245,14 +253,16 @@ impl<'a, M: Mark, R: Clock + Eprint + Wait> Messages<'a, M, R> {
 }
 
 impl<'a, M: Mark, R: Clock + Eprint + Wait> HostSource<Ticket<M>> for Messages<'a, M, R> {
+    ghost format = { λ m. M.head.format };
+
     ghost width = { λ m. M.head.width };
 
     ghost height = { λ m. M.head.height };
 
     fn next(&mut self) -> Option<(u32, HostMessage)> {
         match self.host.next(self.rt, self.room) {
-            // The session has the recording's size, so that each message has it.
-            Some(message) if message.size() == self.room.size => {
+            // The session has the recording's size and format, so that each message has them.
+            Some(message) if self.room.is_for(&message) => {
                 self.handed = message.bytes().len() as u64;
                 Some((self.stopwatch.now(self.rt), message))
             }

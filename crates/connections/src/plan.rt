@@ -1,8 +1,5 @@
 //! What is to be served, and for how long.
 
-ghost use Rattle.std.specs.Prelude.{◌≡◌, ◌≤◌, ℕ, Some};
-ghost use Rattle.reception.specs.State.{viewers_of};
-
 use broadcast::Start;
 use pixel_format::Format;
 use playing::{Pace, Program};
@@ -12,9 +9,9 @@ use sockets::Stop;
 /// How many viewers are served.
 #[derive(Clone, Copy, Debug, PartialEq, Eq)]
 pub enum Audience {
-    /// So many, 1 to 64, each of which is waited for.
+    /// So many, 1 to 256, each of which is waited for.
     Count(u32),
-    /// Whoever comes, up to 64 at a time. Nobody is waited for.
+    /// Whoever comes, as many at a time as there are seats. Nobody is waited for.
     Any,
 }
 
@@ -74,12 +71,10 @@ pub struct Plan<'a> {
 }
 
 impl Plan<'_> {
-    /// What the recorder waits for before it ends: for 64 viewers at most.
-    pub fn term(&self) -> Term
-        ensures { (n : ℕ) → viewers_of result ≡ Some n → n ≤ 64 }
-    {
+    /// What the recorder waits for before it ends.
+    pub fn term(&self) -> Term {
         match self.audience {
-            Audience::Count(all) => Term::Viewers(all.min(64)),
+            Audience::Count(all) => Term::Viewers(all),
             Audience::Any if self.host.is_some() => Term::Recording,
             Audience::Any => Term::Stop,
         }

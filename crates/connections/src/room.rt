@@ -1,14 +1,15 @@
 //! What the threads of a recorder share beside its book.
 
-ghost use Rattle.std.specs.Prelude.{◌≡◌, ◌≤◌, ◌<◌, ◌^◌, ℕ, Some, length};
-ghost use Rattle.reception.specs.State.{viewers_of};
+ghost use Rattle.std.specs.Prelude.{◌≡◌, ◌<◌, ◌^◌, IsTrue, length};
 
 use crate::plan::{Beginning, Plan};
 use crate::telling::{Event, Telling};
 use broadcast::Start;
 use file_disk::LastError;
+use pixel_format::RecordedScreen;
 use playing::Program;
 use reception::{Arrival, Backlog, Reception, Term};
+use rfb_wire::HostMessage;
 use shared_book::Mark;
 use sockets::Bell;
 use std::alloc::Global;
@@ -16,7 +17,6 @@ use std::marker::PhantomData;
 use std::sync::atomic::{AtomicBool, AtomicU64, Ordering};
 use std::sync::{Condvar, Mutex, Wait};
 use std::time::{Clock, Duration};
-use terms::ScreenSize;
 
 /// Who watches, under a lock. Whoever waits here waits for the recorder to close or to be done, or
 /// for a viewer to have left, and is woken at each of them.
@@ -27,12 +27,10 @@ pub struct Hall {
 }
 
 impl Hall {
-    /// One that nobody came to yet.
-    pub fn new(term: Term) -> Hall
-        requires { (n : ℕ) → viewers_of term ≡ Some n → n ≤ 64 }
-    {
+    /// One that nobody came to yet, with so many seats.
+    pub fn new(term: Term, seats: u32) -> Hall {
         Hall {
-            reception: Mutex::new(Reception::new(term)),
+            reception: Mutex::new(Reception::new(term, seats)),
             changed: Condvar::new(),
         }
     }
@@ -172,12 +170,12 @@ struct Recorded {
     bytes: AtomicU64,
 }
 
-/// What all threads of a recorder share: the recording's size and name, where viewers begin, who
+/// What all threads of a recorder share: the recording's screen and name, where viewers begin, who
 /// watches, what waits, how far the recording is committed, and what the system said of its file.
 #[derive(Drop)]
 pub struct Room<M: Mark> {
     pub alloc: Global,
-    pub size: ScreenSize,
+    pub screen: RecordedScreen,
     pub name: Vec<u8>,
     pub from: Start,
     /// How the recording is played, where it is in its own time.
@@ -193,15 +191,15 @@ pub struct Room<M: Mark> {
     recorded: Recorded,
     is_stopped: AtomicBool,
     of: PhantomData<M>,
-    ghost sized: { (size.width ≡ M.head.width) × (size.height ≡ M.head.height) },
+    ghost sized: { (screen.format ≡ M.head.format) × (screen.size.width ≡ M.head.width) × (screen.size.height ≡ M.head.height) },
     ghost named: { length name.items < 2 ^ 32 },
 }
 
 impl<M: Mark> Room<M> {
-    /// The room of a recording of this size and name, of which so much is committed.
+    /// The room of a recording of this screen and name, of which so much is committed.
     pub fn new(
         alloc: Global,
-        size: ScreenSize,
+        screen: RecordedScreen,
         name: Vec<u8>,
         plan: &Plan<'_>,
         beginning: Beginning,
@@ -210,17 +208,17 @@ impl<M: Mark> Room<M> {
         last_error: LastError,
         committed: u64,
     ) -> Room<M>
-        requires sized { (size.width ≡ M.head.width) × (size.height ≡ M.head.height) }
+        requires sized { (screen.format ≡ M.head.format) × (screen.size.width ≡ M.head.width) × (screen.size.height ≡ M.head.height) }
         requires named { length name.items < 2 ^ 32 }
     {
         Room {
             alloc,
-            size,
+            screen,
             name,
             from: beginning.start,
             program: beginning.program,
             is_alone: plan.host.is_none(),
-            hall: Hall::new(plan.term()),
+            hall: Hall::new(plan.term(), screen.format.limits().seats as u32),
             intake: Intake::new(),
             bell,
             telling,
@@ -233,6 +231,13 @@ impl<M: Mark> Room<M> {
             is_stopped: AtomicBool::new(false),
             of: PhantomData,
         }
+    }
+
+    /// Whether a message is for this recording: of its size and format.
+    pub fn is_for(&self, message: &HostMessage) -> bool
+        ensures { IsTrue result → (message.now.format ≡ M.head.format) × (message.now.width ≡ M.head.width) × (message.now.height ≡ M.head.height) }
+    {
+        message.size() == self.screen.size && message.format() == self.screen.format
     }
 
     /// Asks the recorder to end.

@@ -61,7 +61,7 @@ fn step_of(alloc: Global, desk: &Desk<FusedDisk>, line: DeskLine) -> Result<Step
 {
     Ok(match line {
         DeskLine::Host { time, bytes } => {
-            match HostMessage::from_bytes(alloc, desk.header().size(), &bytes) {
+            match HostMessage::from_bytes_in(alloc, desk.header().screen(), &bytes) {
                 Ok(message) => Step::Host(time, message),
                 Err(fault) => return Err(Answer::BytesRefused(fault.number())),
             }

@@ -45,8 +45,8 @@ with red, green and blue of 8 bits at 16, 8 and 0.
 Another program wrote it; this recorder reads files as it writes them.";
 
 const OTHER_SIZE: &str = "\
-The screen in the FBS file has a side of 0 or of more than 8,192, or more than
-2^23 pixels. Another program wrote it, or the file was changed.";
+The screen in the FBS file has a side of 0 or of more than 16,384, or more than
+2^25 pixels. Another program wrote it, or the file was changed.";
 
 const BAD_MESSAGE: &str = "\
 A message in the FBS file is refused: `recorderd explain wire W` says why.

@@ -16,7 +16,7 @@ The host sent what it wasn't asked for, or another program wrote the FBS file.
 Messages before it stand. Use or update a VNC server that keeps to RFB 3.8.";
 
 const TOO_LONG: &str = "\
-An update is longer than 67,108,864 bytes.
+An update is longer than 67,108,864 bytes, in format 2 than 268,435,456.
 The host's server is faulty, or another program wrote the FBS file.
 Messages before it stand. Use another server, or a smaller screen.";
 
@@ -64,8 +64,8 @@ The screen was resized since, or PATH is a recording of another host.
 Nothing was written: record into a new file, or give the screen its old size.";
 
 const TOO_LARGE: &str = "\
-The host's screen is too large: a side of more than 8,192, or more than 2^23
-pixels; or a side is 0. Set the screen to a smaller size at the host.";
+The host's screen is too large: a side of more than 16,384, or more than 2^25
+pixels, in format 1 8,192 and 2^23; or a side is 0. Set the screen to a smaller size at the host.";
 
 /// The texts of `wire`, from 1 on.
 pub const WIRE: [&str; 9] = [

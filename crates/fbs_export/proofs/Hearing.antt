@@ -9,6 +9,7 @@ use Rattle.terms.specs.declared.wire_fault.WireFault.{WireFault}
 use Rattle.terms.specs.declared.wire_fault.WireFault.TheVariants as wire
 use Rattle.client_wire.specs.Stream.{Part, bytes_of, IsPart, Reads, FaultOf, Goes, Stops, StandsFor, given_of}
 use Rattle.client_wire.proofs.Streams.{flat_append, all_append, gives_none, waits_begins_none, empty_list}
+use Rattle.pixel_format.specs.declared.kind.Format.TheVariants.{Two}
 use Rattle.rfb_wire.specs.Grammar.{message_at, message_limit, Message}
 use Rattle.rfb_wire.specs.Host.{Host}
 use Rattle.rfb_wire.specs.Reader.{Reader}
@@ -41,19 +42,20 @@ unless_memory (wire.BadFormat f) P other p = p
 unless_memory wire.NoMemory P other p = absurd (other refl)
 
 -- more messages in front
-reads_behind : (w h : ℕ) (parts new : List (Part Message)) (body x rest : List ℕ) → AllByRecursion (IsPart (message_at message_limit w h)) parts → body ≡ flat_map bytes_of parts ++ x
-    → Reads (message_at message_limit w h) x new rest → Reads (message_at message_limit w h) body (parts ++ new) rest
+reads_behind : (w h : ℕ) (parts new : List (Part Message)) (body x rest : List ℕ) → AllByRecursion (IsPart (message_at (message_limit Two) w h)) parts → body ≡ flat_map bytes_of parts ++ x
+    → Reads (message_at (message_limit Two) w h) x new rest → Reads (message_at (message_limit Two) w h) body (parts ++ new) rest
 reads_behind w h parts new body x rest each is r = record {
-  each = all_append (IsPart (message_at message_limit w h)) parts new each r.each;
+  each = all_append (IsPart (message_at (message_limit Two) w h)) parts new each r.each;
   stream_is = is ∙ ap (λ z. flat_map bytes_of parts ++ z) r.stream_is ∙ sym (append_assoc (flat_map bytes_of parts) (flat_map bytes_of new) rest)
       ∙ ap (λ z. z ++ rest) (sym (flat_append bytes_of parts new));
 }
 
 -- the opening ends in a piece, and messages follow
 pub begins_to_hear : {T : Type 0} (keeps : T → List Stamped → List Host → Type 0) (c : Stream T) (r : Reader) (waiting : List Host) (times s front piece : List ℕ) → IsOpened r.width r.height (name_in c.opening.name) front → length times ≤ length front
-    → keeps c.tally [] waiting → r.fault ≡ None → s ≡ front ++ piece → Goes (message_at message_limit r.width r.height) (given r.width r.height) r.kept r.passed [] waiting piece
+    → r.format ≡ Two → keeps c.tally [] waiting → r.fault ≡ None → s ≡ front ++ piece → Goes (message_at (message_limit Two) r.width r.height) (given Two r.width r.height) r.kept r.passed [] waiting piece
     → Hears keeps c r times s
-begins_to_hear keeps c r waiting times s front piece opened before heard going is goes = record {
+begins_to_hear keeps c r waiting times s front piece opened before format heard going is goes = record {
+  format_is = format;
   at = length front;
   body = piece;
   opened = λ more. ap (λ z. opening_at (z ++ more)) is ∙ ap opening_at (append_assoc front piece more) ∙ opened (piece ++ more);
@@ -62,7 +64,7 @@ begins_to_hear keeps c r waiting times s front piece opened before heard going i
   lead = [];
   since = piece;
   each = tt;
-  lead_waits = message-empty message_limit r.width r.height;
+  lead_waits = message-empty (message_limit Two) r.width r.height;
   body_is = refl;
   timed = omega (arith, before);
   waiting = waiting;
@@ -72,15 +74,17 @@ begins_to_hear keeps c r waiting times s front piece opened before heard going i
 }
 
 -- a piece more
-pub hears_on : {T : Type 0} (keeps : T → List Stamped → List Host → Type 0) (c new : Stream T) (r after : Reader) (fresh : List Host) (times s piece : List ℕ) → (a : Hears keeps c r times s) → after.width ≡ r.width → after.height ≡ r.height
+pub hears_on : {T : Type 0} (keeps : T → List Stamped → List Host → Type 0) (c new : Stream T) (r after : Reader) (fresh : List Host) (times s piece : List ℕ) → (a : Hears keeps c r times s) → after.format ≡ r.format → after.width ≡ r.width → after.height ≡ r.height
     → new.opening ≡ c.opening → ((told : List Stamped) → (waiting : List Host) → keeps c.tally told waiting → keeps new.tally told (waiting ++ fresh)) → after.fault ≡ None
-    → ((rest : List ℕ) → StandsFor r.kept r.passed rest → Goes (message_at message_limit r.width r.height) (given r.width r.height) after.kept after.passed [] fresh (rest ++ piece))
+    → ((rest : List ℕ) → StandsFor r.kept r.passed rest → Goes (message_at (message_limit r.format) r.width r.height) (given r.format r.width r.height) after.kept after.passed [] fresh (rest ++ piece))
     → Hears keeps new after times (s ++ piece)
-hears_on keeps c new r after fresh times s piece a wide high opening told going goes =
+hears_on keeps c new r after fresh times s piece a format wide high opening told going goes =
+    let goes_in_two = rw a.format_is at goes in
     let all : List Host = a.waiting ++ fresh in
-    let on : Goes (message_at message_limit r.width r.height) (given r.width r.height) after.kept after.passed [] all ((a.lead ++ a.since) ++ piece) =
-    goes_on (message_at message_limit r.width r.height) (given r.width r.height) r.kept r.passed after.kept after.passed a.waiting fresh (a.lead ++ a.since) piece a.goes (goes a.goes.rest a.goes.stands) in
+    let on : Goes (message_at (message_limit Two) r.width r.height) (given Two r.width r.height) after.kept after.passed [] all ((a.lead ++ a.since) ++ piece) =
+    goes_on (message_at (message_limit Two) r.width r.height) (given Two r.width r.height) r.kept r.passed after.kept after.passed a.waiting fresh (a.lead ++ a.since) piece a.goes (goes_in_two a.goes.rest a.goes.stands) in
     rw (wide, high, opening) (record {
+      format_is = format ∙ a.format_is;
       at = a.at;
       body = a.body ++ piece;
       opened = λ more. ap opening_at (append_assoc s piece more) ∙ a.opened (piece ++ more) ∙ ap (Got (record { width = r.width; height = r.height; name = name_in c.opening.name })) (sym (append_assoc a.body piece more));
@@ -95,12 +99,12 @@ hears_on keeps c new r after fresh times s piece a wide high opening told going 
       waiting = all;
       messages_are = told (stamped r.width r.height (drop a.at times) a.parts) a.waiting a.messages_are;
       no_fault = going;
-      goes = subst (λ z. Goes (message_at message_limit r.width r.height) (given r.width r.height) after.kept after.passed [] all z) (append_assoc a.lead a.since piece) on;
+      goes = subst (λ z. Goes (message_at (message_limit Two) r.width r.height) (given Two r.width r.height) after.kept after.passed [] all z) (append_assoc a.lead a.since piece) on;
     })
 
 -- a fault in a piece
 pub hears_fault : {T : Type 0} (keeps : T → List Stamped → List Host → Type 0) (c : Stream T) (fresh : List Host) (r : Reader) (times s piece : List ℕ) (f : FbsFault) → (a : Hears keeps c r times s)
-    → OfMessage f (λ w. (rest : List ℕ) → StandsFor r.kept r.passed rest → Stops (message_at message_limit r.width r.height) (given r.width r.height) w [] fresh (rest ++ piece))
+    → OfMessage f (λ w. (rest : List ℕ) → StandsFor r.kept r.passed rest → Stops (message_at (message_limit r.format) r.width r.height) (given r.format r.width r.height) w [] fresh (rest ++ piece))
     → IsDataFault (s ++ piece) f
 hears_fault keeps c fresh r times s piece faults.NotFbs a p = p
 hears_fault keeps c fresh r times s piece faults.Truncated a p = p
@@ -109,11 +113,12 @@ hears_fault keeps c fresh r times s piece faults.Security a p = absurd p
 hears_fault keeps c fresh r times s piece faults.Format a p = absurd p
 hears_fault keeps c fresh r times s piece faults.Size a p = absurd p
 hears_fault keeps c fresh r times s piece (faults.Message w) a p =
-    let read = message_at message_limit r.width r.height in
-    let b : Stops (message_at message_limit r.width r.height) (given r.width r.height) w [] fresh (a.goes.rest ++ piece) = p.1 a.goes.rest a.goes.stands in
-    let bad : message_at message_limit r.width r.height b.rest ≡ Bad w = unless_memory w (message_at message_limit r.width r.height b.rest ≡ Bad w) p.0 b.fault in
-    let x : FaultOf (message_at message_limit r.width r.height) ((a.lead ++ a.since) ++ piece) w =
-    stops_in (message_at message_limit r.width r.height) (given r.width r.height) r.kept r.passed a.waiting fresh (a.lead ++ a.since) piece w a.goes b bad in
+    let stops = rw a.format_is at p.1 in
+    let read = message_at (message_limit Two) r.width r.height in
+    let b : Stops (message_at (message_limit Two) r.width r.height) (given Two r.width r.height) w [] fresh (a.goes.rest ++ piece) = stops a.goes.rest a.goes.stands in
+    let bad : message_at (message_limit Two) r.width r.height b.rest ≡ Bad w = unless_memory w (message_at (message_limit Two) r.width r.height b.rest ≡ Bad w) p.0 b.fault in
+    let x : FaultOf (message_at (message_limit Two) r.width r.height) ((a.lead ++ a.since) ++ piece) w =
+    stops_in (message_at (message_limit Two) r.width r.height) (given Two r.width r.height) r.kept r.passed a.waiting fresh (a.lead ++ a.since) piece w a.goes b bad in
     let is : a.body ++ piece ≡ flat_map bytes_of a.parts ++ ((a.lead ++ a.since) ++ piece) = ap (λ z. z ++ piece) a.body_is ∙ append_assoc (flat_map bytes_of a.parts) (a.lead ++ a.since) piece in
     record {
       opening = record { width = r.width; height = r.height; name = name_in c.opening.name };
@@ -131,7 +136,7 @@ hears_fault keeps c fresh r times s piece faults.Read a p = p
 
 -- a fault in the piece in which the opening ends
 pub begins_with_fault : (f : FbsFault) (w h : ℕ) (name front piece s : List ℕ) (old hosts : List Host) → IsOpened w h name front → s ≡ front ++ piece
-    → OfMessage f (λ g. (rest : List ℕ) → StandsFor [] 0 rest → Stops (message_at message_limit w h) (given w h) g old hosts (rest ++ piece)) → IsDataFault s f
+    → OfMessage f (λ g. (rest : List ℕ) → StandsFor [] 0 rest → Stops (message_at (message_limit Two) w h) (given Two w h) g old hosts (rest ++ piece)) → IsDataFault s f
 begins_with_fault faults.NotFbs w h name front piece s old hosts opened is p = p
 begins_with_fault faults.Truncated w h name front piece s old hosts opened is p = p
 begins_with_fault faults.Version w h name front piece s old hosts opened is p = absurd p
@@ -139,8 +144,8 @@ begins_with_fault faults.Security w h name front piece s old hosts opened is p =
 begins_with_fault faults.Format w h name front piece s old hosts opened is p = absurd p
 begins_with_fault faults.Size w h name front piece s old hosts opened is p = absurd p
 begins_with_fault (faults.Message g) w h name front piece s old hosts opened is p =
-    let b : Stops (message_at message_limit w h) (given w h) g old hosts piece = p.1 [] (record { skipped = []; count = refl; is = refl }) in
-    let bad : message_at message_limit w h b.rest ≡ Bad g = unless_memory g (message_at message_limit w h b.rest ≡ Bad g) p.0 b.fault in
+    let b : Stops (message_at (message_limit Two) w h) (given Two w h) g old hosts piece = p.1 [] (record { skipped = []; count = refl; is = refl }) in
+    let bad : message_at (message_limit Two) w h b.rest ≡ Bad g = unless_memory g (message_at (message_limit Two) w h b.rest ≡ Bad g) p.0 b.fault in
     record {
       opening = record { width = w; height = h; name = name };
       body = piece;
@@ -161,13 +166,14 @@ block_ends keeps c new r times s n t a long opening stamps_all =
     let size = ap (λ z. length z) a.body_is in
     let sizes : length a.body ≡ length (flat_map bytes_of a.parts) + (length a.lead + length a.since) =
     omega (arith, size, length-append (flat_map bytes_of a.parts) (a.lead ++ a.since), length-append a.lead a.since) in
-    let all_of_them : Reads (message_at message_limit w h) a.body (a.parts ++ new_parts) g.rest = reads_behind w h a.parts new_parts a.body (a.lead ++ a.since) g.rest a.each a.body_is g.gives.reads in
+    let all_of_them : Reads (message_at (message_limit Two) w h) a.body (a.parts ++ new_parts) g.rest = reads_behind w h a.parts new_parts a.body (a.lead ++ a.since) g.rest a.each a.body_is g.gives.reads in
     let size' = ap (λ z. length z) all_of_them.stream_is in
-    let stamps : stamped w h (drop a.at (times ++ replicate n t)) (a.parts ++ new_parts) ≡ stamped w h (drop a.at times) a.parts ++ at_time t (flat_map (λ p. given w h p.message p.bytes) new_parts) =
+    let stamps : stamped w h (drop a.at (times ++ replicate n t)) (a.parts ++ new_parts) ≡ stamped w h (drop a.at times) a.parts ++ at_time t (flat_map (λ p. given Two w h p.message p.bytes) new_parts) =
     block_stamped w h times a.at n t a.parts new_parts a.lead a.since g.rest a.timed (omega (arith, sizes, a.timed, a.length_is, long)) a.lead_waits a.each g.gives.reads.each g.gives.reads.stream_is in
     let told : List Stamped = stamped w h (drop a.at times) a.parts in
     let all_told : told ++ at_time t a.waiting ≡ stamped w h (drop a.at (times ++ replicate n t)) (a.parts ++ new_parts) = ap (λ z. told ++ at_time t z) g.gives.given ∙ sym stamps in
     rw opening (record {
+      format_is = a.format_is;
       at = a.at;
       body = a.body;
       opened = a.opened;
@@ -184,7 +190,7 @@ block_ends keeps c new r times s n t a long opening stamps_all =
       no_fault = a.no_fault;
       goes = record {
         rest = g.rest;
-        gives = gives_none (message_at message_limit w h) (given w h) [] [] (g.rest ++ []) g.rest refl (append-nil g.rest);
+        gives = gives_none (message_at (message_limit Two) w h) (given Two w h) [] [] (g.rest ++ []) g.rest refl (append-nil g.rest);
         stands = g.stands;
         waits = g.waits;
       };
@@ -201,18 +207,18 @@ pub opening_waits : {T : Type 0} (keeps : T → List Stamped → List Host → T
 opening_waits keeps c times s o = waits_in c.opening.name c.opening.head.items s o.opening
 
 -- an unfinished message begins with no whole one
-no_more : (w h : ℕ) (lead rest : List ℕ) (new : List (Part Message)) → message_at message_limit w h lead ≡ More → AllByRecursion (IsPart (message_at message_limit w h)) new
+no_more : (w h : ℕ) (lead rest : List ℕ) (new : List (Part Message)) → message_at (message_limit Two) w h lead ≡ More → AllByRecursion (IsPart (message_at (message_limit Two) w h)) new
     → lead ≡ flat_map bytes_of new ++ rest → lead ≡ rest
 no_more w h lead rest [] waits all e = e
 no_more w h lead rest (p ∷ new) waits all e =
-    absurd (waits_begins_none (message_at message_limit w h) (message_local message_limit w h) lead waits p (flat_map bytes_of new ++ rest) all.0 (e ∙ append_assoc p.bytes (flat_map bytes_of new) rest))
+    absurd (waits_begins_none (message_at (message_limit Two) w h) (message_local (message_limit Two) w h) lead waits p (flat_map bytes_of new ++ rest) all.0 (e ∙ append_assoc p.bytes (flat_map bytes_of new) rest))
 
 -- and nothing is given of it
-none_given : (w h : ℕ) (lead rest : List ℕ) (new : List (Part Message)) → message_at message_limit w h lead ≡ More → AllByRecursion (IsPart (message_at message_limit w h)) new
-    → lead ≡ flat_map bytes_of new ++ rest → given_of (given w h) new ≡ []
+none_given : (w h : ℕ) (lead rest : List ℕ) (new : List (Part Message)) → message_at (message_limit Two) w h lead ≡ More → AllByRecursion (IsPart (message_at (message_limit Two) w h)) new
+    → lead ≡ flat_map bytes_of new ++ rest → given_of (given Two w h) new ≡ []
 none_given w h lead rest [] waits all e = refl
 none_given w h lead rest (p ∷ new) waits all e =
-    absurd (waits_begins_none (message_at message_limit w h) (message_local message_limit w h) lead waits p (flat_map bytes_of new ++ rest) all.0 (e ∙ append_assoc p.bytes (flat_map bytes_of new) rest))
+    absurd (waits_begins_none (message_at (message_limit Two) w h) (message_local (message_limit Two) w h) lead waits p (flat_map bytes_of new ++ rest) all.0 (e ∙ append_assoc p.bytes (flat_map bytes_of new) rest))
 
 -- whole blocks end in a message that isn't whole
 pub told_by : {T : Type 0} (keeps : T → List Stamped → List Host → Type 0) (c : Stream T) (r : Reader) (told : Told T) (times s : List ℕ) → (a : Hears keeps c r times s) → length times ≡ length s → told.size.width ≡ r.width → told.size.height ≡ r.height

@@ -5,7 +5,7 @@ use Rattle.std.proofs.lemmas.Bool.{cases_lt, le-ltb}
 use Rattle.std.proofs.lemmas.List.{drop-append-le}
 use Rattle.terms.specs.Reading.{Reading, Got, More, Bad, ◌>>=◌, field, guard, IsLocal}
 use Rattle.terms.specs.Number.{u16_at, u32_at}
-use Rattle.pixel_format.specs.declared.kind.Format.TheVariants.{One}
+use Rattle.pixel_format.specs.declared.kind.Format.TheVariants.{Two}
 use Rattle.pixel_format.specs.Limits.{limits, is_size}
 use Rattle.terms.proofs.Readings.{bind_got, bind_local, field-whole, field_got, field_local, guard_local}
 use Rattle.terms.specs.declared.wire_fault.WireFault.{WireFault}
@@ -57,9 +57,9 @@ format_local w h bytes more =
 size_local : IsLocal size_then
 unfolding size_then
 size_local bytes more =
-    let next : List ℕ → List ℕ → Reading Opening FbsFault = λ size rest. guard (is_size (limits One) (u16_at size 0) (u16_at size 2)) faults.Size (format_then (u16_at size 0) (u16_at size 2) rest) in
+    let next : List ℕ → List ℕ → Reading Opening FbsFault = λ size rest. guard (is_size (limits Two) (u16_at size 0) (u16_at size 2)) faults.Size (format_then (u16_at size 0) (u16_at size 2) rest) in
     bind_local (field 4 bytes) (field 4 (bytes ++ more)) more next next (field_local FbsFault 4 bytes more)
-    (λ size rest. guard_local (is_size (limits One) (u16_at size 0) (u16_at size 2)) faults.Size (format_then (u16_at size 0) (u16_at size 2) rest) (format_then (u16_at size 0) (u16_at size 2) (rest ++ more)) more
+    (λ size rest. guard_local (is_size (limits Two) (u16_at size 0) (u16_at size 2)) faults.Size (format_then (u16_at size 0) (u16_at size 2) rest) (format_then (u16_at size 0) (u16_at size 2) (rest ++ more)) more
     (format_local (u16_at size 0) (u16_at size 2) rest more))
 
 security_local : IsLocal security_then
@@ -82,10 +82,10 @@ tells_once stream times a b x y =
     let both : Got a.opening x.body ≡ Got b.opening y.body = sym x.opens ∙ y.opens in
     let opening : a.opening ≡ b.opening = cc in
     let body : x.body ≡ y.body = cc in
-    let local = message_local message_limit a.opening.width a.opening.height in
-    let reads = subst (λ (o : Opening). Reads (message_at message_limit o.width o.height) y.body y.parts y.rest) (sym opening) y.reads in
-    let waits = subst (λ (o : Opening). message_at message_limit o.width o.height y.rest ≡ More) (sym opening) y.waits in
-    let read = message_at message_limit a.opening.width a.opening.height in
+    let local = message_local (message_limit Two) a.opening.width a.opening.height in
+    let reads = subst (λ (o : Opening). Reads (message_at (message_limit Two) o.width o.height) y.body y.parts y.rest) (sym opening) y.reads in
+    let waits = subst (λ (o : Opening). message_at (message_limit Two) o.width o.height y.rest ≡ More) (sym opening) y.waits in
+    let read = message_at (message_limit Two) a.opening.width a.opening.height in
     let one = one_reading read local x.body y.body x.parts y.parts x.rest y.rest body x.reads (waits_begins_none read local x.rest x.waits) reads (waits_begins_none read local y.rest waits) in
     let parts : x.parts ≡ y.parts = one.0 in
     let messages : a.messages ≡ b.messages = rw (x.messages_are, opening, body, parts) (sym y.messages_are) in
@@ -204,10 +204,10 @@ no_bad_message file s bad x f =
     let both : Got o (h.body ++ goes.more) ≡ Got s.opening x.tells.body = sym opens ∙ ap opening_at (sym goes.is) ∙ x.tells.opens in
     let same : o ≡ s.opening = cc in
     let body : h.body ++ goes.more ≡ x.tells.body = cc in
-    let read = message_at message_limit o.width o.height in
-    let local = message_local message_limit o.width o.height in
-    let reads = subst (λ (z : Opening). Reads (message_at message_limit z.width z.height) x.tells.body x.tells.parts x.tells.rest) (sym same) x.tells.reads in
-    let waits = subst (λ (z : Opening). message_at message_limit z.width z.height x.tells.rest ≡ More) (sym same) x.tells.waits in
+    let read = message_at (message_limit Two) o.width o.height in
+    let local = message_local (message_limit Two) o.width o.height in
+    let reads = subst (λ (z : Opening). Reads (message_at (message_limit Two) z.width z.height) x.tells.body x.tells.parts x.tells.rest) (sym same) x.tells.reads in
+    let waits = subst (λ (z : Opening). message_at (message_limit Two) z.width z.height x.tells.rest ≡ More) (sym same) x.tells.waits in
     let longer = local h.fault.rest goes.more in
     let fault : FaultOf read x.tells.body bad = record {
       parts = h.fault.parts;

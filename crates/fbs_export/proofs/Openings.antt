@@ -10,9 +10,9 @@ use Rattle.terms.specs.Number.{u32_bytes}
 use Rattle.rfb_wire.specs.Written.{two_bytes}
 use Rattle.gated_journal.specs.Recording.{Head, IsHead}
 use Rattle.fbs_export.specs.declared.fault.FbsFault.{FbsFault}
-use Rattle.pixel_format.specs.declared.kind.Format.TheVariants.{One}
+use Rattle.pixel_format.specs.declared.kind.Format.TheVariants.{Two}
 use Rattle.pixel_format.specs.Limits.{limits, IsSize}
-use Rattle.pixel_format.proofs.Sizes.{size_is}
+use Rattle.pixel_format.proofs.Sizes.{size_is, size_in_two}
 use Rattle.fbs_export.specs.Opening.{opening_at, security_then, size_then, format_then, name_at, named, is_host, version}
 use Rattle.fbs_export.specs.Export.{opening_text}
 use Rattle.fbs_export.proofs.Blocks.{number_again}
@@ -43,7 +43,7 @@ first_number w h = omega arith
 second_number : (w h : ℕ) → u16_at (two_bytes w ++ two_bytes h) 2 ≡ h
 second_number w h = omega arith
 
-size_is_read : (w h : ℕ) (name more : List ℕ) → IsSize (limits One) w h → length name ≤ 1024
+size_is_read : (w h : ℕ) (name more : List ℕ) → IsSize (limits Two) w h → length name ≤ 1024
     → size_then ((two_bytes w ++ two_bytes h) ++ (format_bytes host_format ++ (u32_bytes (length name) ++ (name ++ more)))) ≡ Got (record { width = w; height = h; name = name }) more
 unfolding size_then
 size_is_read w h name more size short =
@@ -51,10 +51,10 @@ size_is_read w h name more size short =
       field-whole {E = FbsFault} 4 (two_bytes w ++ two_bytes h) (format_bytes host_format ++ (u32_bytes (length name) ++ (name ++ more))) refl,
       first_number w h,
       second_number w h,
-      size_is (limits One) w h size,
+      size_is (limits Two) w h size,
     ) (format_is_read w h name more short)
 
-security_is_read : (w h : ℕ) (name more : List ℕ) → IsSize (limits One) w h → length name ≤ 1024
+security_is_read : (w h : ℕ) (name more : List ℕ) → IsSize (limits Two) w h → length name ≤ 1024
     → security_then (u32_bytes 1 ++ ((two_bytes w ++ two_bytes h) ++ (format_bytes host_format ++ (u32_bytes (length name) ++ (name ++ more))))) ≡ Got (record { width = w; height = h; name = name }) more
 unfolding security_then
 security_is_read w h name more size short =
@@ -66,7 +66,7 @@ pub opening_is_read : (h : Head) (more : List ℕ) → IsHead h
 unfolding opening_at opening_text
 opening_is_read h more is =
     rw (field-whole {E = FbsFault} 12 version (u32_bytes 1 ++ ((two_bytes h.width ++ two_bytes h.height) ++ (format_bytes host_format ++ (u32_bytes (length h.name) ++ (h.name ++ more))))) refl)
-    (security_is_read h.width h.height h.name more is.size is.name)
+    (security_is_read h.width h.height h.name more (size_in_two h.format h.width h.height is.size) is.name)
 
 pub no_opening : opening_at [] ≡ More
 unfolding opening_at

@@ -8,6 +8,7 @@ use Rattle.std.specs.List.{flat_map, AllByRecursion}
 use Rattle.terms.specs.Reading.{Got}
 use Rattle.pixel_format.specs.Canvas.{Picture}
 use Rattle.client_wire.specs.Stream.{Part, IsPart, bytes_of}
+use Rattle.pixel_format.specs.declared.kind.Format.TheVariants.{Two}
 use Rattle.rfb_wire.specs.Grammar.{message_at, message_limit, Message, Recorded}
 use Rattle.rfb_wire.specs.Host.{host_of}
 use Rattle.rfb_wire.specs.declared.message.Rectangle.{Rectangle}
@@ -46,7 +47,7 @@ module _ (h : Head) (is : IsHead h) (screen : List ℕ) (rects : List Rectangle)
   abbrev said : Said
   said = record {
     opening = record { width = h.width; height = h.height; name = h.name };
-    messages = record { time = 0; message = host_of h.width h.height screen rects } ∷ less_first first ms;
+    messages = record { time = 0; message = host_of Two h.width h.height screen rects } ∷ less_first first ms;
     rest = 0;
   }
 
@@ -66,7 +67,7 @@ module _ (h : Head) (is : IsHead h) (screen : List ℕ) (rects : List Rectangle)
   times_are : length (opening_text h ++ body) - length body ≡ length (opening_text h)
   times_are = omega (arith, length-append (opening_text h) body)
 
-  tells : message_at message_limit h.width h.height screen ≡ Got (Recorded rects) [] → 0 < length screen → AllByRecursion (IsStampedFor h.width h.height) ms
+  tells : message_at (message_limit Two) h.width h.height screen ≡ Got (Recorded rects) [] → 0 < length screen → AllByRecursion (IsStampedFor h.format h.width h.height) ms
       → Tells (data_of blocks) (times_of blocks) said
   tells reads some all = record {
     body = body;
@@ -74,22 +75,22 @@ module _ (h : Head) (is : IsHead h) (screen : List ℕ) (rects : List Rectangle)
     parts = parts;
     rest = [];
     reads = record {
-      each = (reads, host_parts_read h.width h.height ms all);
+      each = (reads, host_parts_read h.format h.width h.height ms all);
       stream_is = ap (λ z. screen ++ z) (same_data first ms) ∙ sym (append-nil (flat_map bytes_of parts));
     };
-    waits = message-empty message_limit h.width h.height;
+    waits = message-empty (message_limit Two) h.width h.height;
     messages_are = rw (
       times_are,
       behind_times (length (opening_text h)) 0 (times_of (part_of 0 screen ∷ message_parts first ms)),
       last_time_of (length screen) 0 (times_of (message_parts first ms)) some,
       behind_times (length screen) 0 (times_of (message_parts first ms)),
-      ← same_times h.width h.height first ms all,
+      ← same_times h.format h.width h.height first ms all,
     ) refl;
     rest_is = refl;
   }
 
-  pub summary_is : length screen < 2 ^ 32 → 0 < length screen → message_at message_limit h.width h.height screen ≡ Got (Recorded rects) []
-      → AllByRecursion (IsStampedFor h.width h.height) ms → AllByRecursion (IsPart block_at) (message_parts first ms) → IsSummary (start ++ text) said
+  pub summary_is : length screen < 2 ^ 32 → 0 < length screen → message_at (message_limit Two) h.width h.height screen ≡ Got (Recorded rects) []
+      → AllByRecursion (IsStampedFor h.format h.width h.height) ms → AllByRecursion (IsPart block_at) (message_parts first ms) → IsSummary (start ++ text) said
   summary_is short some reads all each = record { blocks = blocks; laid = laid short each; tells = tells reads some all }
 
 pub all_take : {A : Type 0} (P : A → Type 0) (n : ℕ) (xs : List A) → AllByRecursion P xs → AllByRecursion P (take n xs)

@@ -7,6 +7,7 @@ use Rattle.std.proofs.Math.Seq.{drop-append-add}
 use Rattle.terms.specs.Reading.{More}
 use Rattle.client_wire.specs.Stream.{Part, bytes_of, IsPart, BeginsNone, given_of}
 use Rattle.client_wire.proofs.Streams.{waits_begins_none}
+use Rattle.pixel_format.specs.declared.kind.Format.TheVariants.{Two}
 use Rattle.rfb_wire.specs.Grammar.{message_at, message_limit, Message}
 use Rattle.rfb_wire.specs.Host.{Host}
 use Rattle.rfb_wire.specs.Stream.{given}
@@ -22,19 +23,19 @@ drop_both n xs ys enough =
 
 module _ (w h : ℕ) where
   abbrev Is : Part Message → Type 0
-  Is = IsPart (message_at message_limit w h)
+  Is = IsPart (message_at (message_limit Two) w h)
 
   abbrev bytes_in : List (Part Message) → List ℕ
   bytes_in parts = flat_map bytes_of parts
 
   abbrev hosts_in : List (Part Message) → List Host
-  hosts_in parts = given_of (given w h) parts
+  hosts_in parts = given_of (given Two w h) parts
 
-  none_begins_wait : (lead : List ℕ) → message_at message_limit w h lead ≡ More → BeginsNone (message_at message_limit w h) lead
-  none_begins_wait lead waits = waits_begins_none (message_at message_limit w h) (message_local message_limit w h) lead waits
+  none_begins_wait : (lead : List ℕ) → message_at (message_limit Two) w h lead ≡ More → BeginsNone (message_at (message_limit Two) w h) lead
+  none_begins_wait lead waits = waits_begins_none (message_at (message_limit Two) w h) (message_local (message_limit Two) w h) lead waits
 
   -- the first message is longer than what stood unfinished
-  longer : (lead since rest : List ℕ) (p : Part Message) → message_at message_limit w h lead ≡ More → Is p → lead ++ since ≡ p.bytes ++ rest → length lead < length p.bytes
+  longer : (lead since rest : List ℕ) (p : Part Message) → message_at (message_limit Two) w h lead ≡ More → Is p → lead ++ since ≡ p.bytes ++ rest → length lead < length p.bytes
   longer lead since rest p waits is e = elim (cases_lt (length lead) (length p.bytes)) [
     | inl less ↦ less
     | inr more ↦
@@ -45,13 +46,13 @@ module _ (w h : ℕ) where
   ]
 
   some_part : (p : Part Message) → Is p → 0 < length p.bytes
-  some_part p is = longer [] p.bytes [] p (message-empty message_limit w h) is (sym (append-nil p.bytes))
+  some_part p is = longer [] p.bytes [] p (message-empty (message_limit Two) w h) is (sym (append-nil p.bytes))
 
   stamped_append : (times : List ℕ) (parts new : List (Part Message))
       → stamped w h times (parts ++ new) ≡ stamped w h times parts ++ stamped w h (drop (length (bytes_in parts)) times) new
   stamped_append times [] new = refl
   stamped_append times (p ∷ parts) new =
-      let first : List Stamped = at_time (slice_index times (length p.bytes - 1)) (given w h p.message p.bytes) in
+      let first : List Stamped = at_time (slice_index times (length p.bytes - 1)) (given Two w h p.message p.bytes) in
       let behind : drop (length (bytes_in parts)) (drop (length p.bytes) times) ≡ drop (length (bytes_in (p ∷ parts))) times =
       drop_drop_at (length (bytes_in parts)) (length p.bytes) times (length (bytes_in (p ∷ parts))) (omega (arith, length-append p.bytes (bytes_in parts))) in
       ap (λ z. first ++ z) (stamped_append (drop (length p.bytes) times) parts new)
@@ -77,7 +78,7 @@ module _ (w h : ℕ) where
 
   -- behind an unfinished message, all that becomes whole has the block's time
   stamped_new : (times : List ℕ) (m t : ℕ) (lead since rest : List ℕ) (new : List (Part Message)) → length times ≡ length lead → length since ≡ m
-      → message_at message_limit w h lead ≡ More → AllByRecursion Is new → lead ++ since ≡ bytes_in new ++ rest → stamped w h (times ++ replicate m t) new ≡ at_time t (hosts_in new)
+      → message_at (message_limit Two) w h lead ≡ More → AllByRecursion Is new → lead ++ since ≡ bytes_in new ++ rest → stamped w h (times ++ replicate m t) new ≡ at_time t (hosts_in new)
   stamped_new times m t lead since rest [] same long waits all e = refl
   stamped_new times m t lead since rest (p ∷ new) same long waits all e =
       let n : ℕ = length p.bytes in
@@ -89,12 +90,12 @@ module _ (w h : ℕ) where
       get_or-append_right times (replicate m t) (length times) (n - 1) 0 refl (omega (arith, same, less)) ∙ get_or-replicate m (n - 1 - length times) t 0 (omega (arith, same, less, sizes, long)) in
       let behind : drop n (times ++ replicate m t) ≡ replicate (m - (n - length times)) t = drop_both n times (replicate m t) (omega (arith, same, less)) ∙ drop-replicate (n - length times) m t in
       let others : stamped w h (replicate (m - (n - length times)) t) new ≡ at_time t (hosts_in new) =
-      stamped_new [] (m - (n - length times)) t [] (bytes_in new ++ rest) rest new refl (omega (arith, sizes, same, long, less)) (message-empty message_limit w h) all.1 refl in
-      rw (last, behind, others) (sym (at_time_append t (given w h p.message p.bytes) (hosts_in new)))
+      stamped_new [] (m - (n - length times)) t [] (bytes_in new ++ rest) rest new refl (omega (arith, sizes, same, long, less)) (message-empty (message_limit Two) w h) all.1 refl in
+      rw (last, behind, others) (sym (at_time_append t (given Two w h p.message p.bytes) (hosts_in new)))
 
   -- a block of this time ends
   pub block_stamped : (times : List ℕ) (at n t : ℕ) (parts new : List (Part Message)) (lead since rest : List ℕ) → length (bytes_in parts) + length lead ≡ length times - at
-      → length since ≡ n - (at - length times) → message_at message_limit w h lead ≡ More → AllByRecursion Is parts → AllByRecursion Is new → lead ++ since ≡ bytes_in new ++ rest
+      → length since ≡ n - (at - length times) → message_at (message_limit Two) w h lead ≡ More → AllByRecursion Is parts → AllByRecursion Is new → lead ++ since ≡ bytes_in new ++ rest
       → stamped w h (drop at (times ++ replicate n t)) (parts ++ new) ≡ stamped w h (drop at times) parts ++ at_time t (hosts_in new)
   block_stamped times at n t parts new lead since rest timed long waits each all e =
       let m : ℕ = n - (at - length times) in

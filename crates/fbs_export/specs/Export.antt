@@ -4,6 +4,7 @@ use Rattle.std.specs.Prelude.{map}
 use Rattle.rfb_wire.specs.Host.{Host}
 use Rattle.fbs_export.specs.Summary.{Said}
 use Rattle.pixel_format.specs.declared.Color.{Color}
+use Rattle.pixel_format.specs.declared.kind.Format.TheVariants.{Two}
 use Rattle.pixel_format.specs.Canvas.{Picture}
 use Rattle.pixel_format.specs.Format.{host_format}
 use Rattle.pixel_format.specs.Written.{format_bytes}
@@ -72,19 +73,26 @@ export_text h messages from to = start
     ++ (block_text 0 (screen_text h.width h.height (painted (hosts_of (take from messages))))
     ++ messages_from messages from to))
 
--- the message that brings up the screen
+-- the message that brings up the screen, as it is read of a file
 abbrev pub screen_host : ℕ → ℕ → Picture → Host
 screen_host w h picture = record {
+  format = Two;
   width = w;
   height = h;
   bytes = screen_text w h picture;
   rectangles = raw_rectangle (record { x = 0; y = 0; w = w; h = h }) ∷ [];
 }
 
-abbrev pub less_first : ℕ → List Stamped → List Stamped
-less_first first ms = map (λ s. record { time = s.time - first; message = s.message }) ms
+-- A message as it is read of a file, which says nothing of a recording's format: it is given in
+-- format 2, and by its size, its bytes and its rectangles it is the same.
+abbrev pub as_read : Host → Host
+as_read m = record m { format = Two }
 
--- what an exported text says
+-- messages as they are read of a file, their times less the first one's
+abbrev pub less_first : ℕ → List Stamped → List Stamped
+less_first first ms = map (λ s. record { time = s.time - first; message = as_read s.message }) ms
+
+-- what an exported text says, of a recording of either format
 abbrev pub exported : Head → List Stamped → ℕ → ℕ → Said
 exported h messages from to = record {
   opening = record { width = h.width; height = h.height; name = h.name };

@@ -1,12 +1,13 @@
 -- The opening of the stream of an FBS file: a version, a security type, and a ServerInit (RFC 6143,
--- section 7.3.2) in the host format. Each part is judged once it is whole, in the order of the parts.
+-- section 7.3.2) in the host format, for a screen within the limits of format 2. Each part is
+-- judged once it is whole, in the order of the parts.
 use Rattle.std.specs.Prelude.{ℕ, Bool, ◌&&◌, nat_eq, List, [], ◌∷◌, take, slice_index, slice_range}
 use Rattle.std.specs.Str.{bytes_eq}
 use Rattle.terms.specs.Reading.{Reading, Got, ◌>>=◌, field, guard}
 use Rattle.pixel_format.specs.Written.{is_flag}
 use Rattle.terms.specs.Number.{u16_at, u32_at}
 use Rattle.pixel_format.specs.Limits.{limits, is_size}
-use Rattle.pixel_format.specs.declared.kind.Format.TheVariants.{One}
+use Rattle.pixel_format.specs.declared.kind.Format.TheVariants.{Two}
 use Rattle.fbs_export.specs.declared.fault.FbsFault.{FbsFault}
 use Rattle.fbs_export.specs.declared.fault.FbsFault.TheVariants as faults
 
@@ -47,7 +48,7 @@ format_then w h bytes = field 16 bytes >>= λ format rest. guard (is_host format
 
 unfoldable pub size_then : List ℕ → Reading Opening FbsFault
 size_then bytes = field 4 bytes >>= λ size rest.
-    guard (is_size (limits One) (u16_at size 0) (u16_at size 2)) faults.Size (format_then (u16_at size 0) (u16_at size 2) rest)
+    guard (is_size (limits Two) (u16_at size 0) (u16_at size 2)) faults.Size (format_then (u16_at size 0) (u16_at size 2) rest)
 
 unfoldable pub security_then : List ℕ → Reading Opening FbsFault
 security_then bytes = field 4 bytes >>= λ security rest. guard (nat_eq (u32_at security 0) 1) faults.Security (size_then rest)

@@ -7,6 +7,7 @@ use Rattle.terms.specs.Reading.{Got, More, Bad}
 use Rattle.client_wire.specs.Stream.{Part, bytes_of, IsPart, Goes}
 use Rattle.terms.specs.declared.wire_fault.WireFault.TheVariants as wire
 use Rattle.terms.specs.declared.wire_fault.WireFault.{WireFault}
+use Rattle.pixel_format.specs.declared.kind.Format.TheVariants.{Two}
 use Rattle.rfb_wire.specs.Grammar.{message_at, message_limit, Message}
 use Rattle.rfb_wire.specs.Host.{Host}
 use Rattle.rfb_wire.specs.Reader.{Reader}
@@ -78,9 +79,10 @@ pub record Opens {T : Type 0} (keeps : T → List Stamped → List Host → Type
   pub before : length times ≤ length s
 
 -- The opening is whole. The messages of former blocks are stamped; at the end of those blocks stood
--- an unfinished message, and with what came since, its messages wait and the reader stands for the
--- rest. The tally stands for those messages.
+-- an unfinished message, and with what came since, its messages wait and the reader, which is one
+-- of format 2, stands for the rest. The tally stands for those messages.
 pub record Hears {T : Type 0} (keeps : T → List Stamped → List Host → Type 0) (c : Stream T) (r : Reader) (times s : List ℕ) : Type 0 where
+  pub format_is : r.format ≡ Two
   pub at : ℕ
   pub body : List ℕ
   pub opened : (more : List ℕ) → opening_at (s ++ more) ≡ Got (record { width = r.width; height = r.height; name = name_in c.opening.name }) (body ++ more)
@@ -88,14 +90,14 @@ pub record Hears {T : Type 0} (keeps : T → List Stamped → List Host → Type
   pub parts : List (Part Message)
   pub lead : List ℕ
   pub since : List ℕ
-  pub each : AllByRecursion (IsPart (message_at message_limit r.width r.height)) parts
-  pub lead_waits : message_at message_limit r.width r.height lead ≡ More
+  pub each : AllByRecursion (IsPart (message_at (message_limit Two) r.width r.height)) parts
+  pub lead_waits : message_at (message_limit Two) r.width r.height lead ≡ More
   pub body_is : body ≡ flat_map bytes_of parts ++ (lead ++ since)
   pub timed : length (flat_map bytes_of parts) + length lead ≡ length times - at
   pub waiting : List Host
   pub messages_are : keeps c.tally (stamped r.width r.height (drop at times) parts) waiting
   pub no_fault : r.fault ≡ None
-  pub goes : Goes (message_at message_limit r.width r.height) (given r.width r.height) r.kept r.passed [] waiting (lead ++ since)
+  pub goes : Goes (message_at (message_limit Two) r.width r.height) (given Two r.width r.height) r.kept r.passed [] waiting (lead ++ since)
 
 -- the reader of a stream, of which the bytes of former blocks have these times
 abbrev pub Stands : {T : Type 0} → (T → List Stamped → List Host → Type 0) → Stream T → List ℕ → List ℕ → Type 0

@@ -1,8 +1,10 @@
--- What an FBS file says: a summary, or its first fault.
+-- What an FBS file says: a summary, or its first fault. A file says nothing of a recording's
+-- format: its messages are read by the limits of format 2, and given in that format.
 use Rattle.std.specs.Prelude.{◌≡◌, ◌≢◌, ◌⊎◌, ℕ, ◌-◌, List, [], ◌∷◌, ◌++◌, length, take, drop, map, slice_index, false}
 use Rattle.terms.specs.Reading.{Got, More, Bad}
 use Rattle.client_wire.specs.Stream.{Part, Reads, FaultOf}
 use Rattle.terms.specs.declared.wire_fault.WireFault.{WireFault}
+use Rattle.pixel_format.specs.declared.kind.Format.TheVariants.{Two}
 use Rattle.rfb_wire.specs.Grammar.{message_at, message_limit, Message}
 use Rattle.rfb_wire.specs.Host.{Host}
 use Rattle.rfb_wire.specs.Stream.{given}
@@ -27,7 +29,7 @@ at_time t hosts = map (λ m. record { time = t; message = m }) hosts
 abbrev pub stamped : ℕ → ℕ → List ℕ → List (Part Message) → List Stamped
 stamped width height times [] = []
 stamped width height times (p ∷ parts) =
-    at_time (slice_index times (length p.bytes - 1)) (given width height p.message p.bytes)
+    at_time (slice_index times (length p.bytes - 1)) (given Two width height p.message p.bytes)
     ++ stamped width height (drop (length p.bytes) times) parts
 
 -- The stream is an opening and messages, and waits for more; `times` are those of its bytes.
@@ -36,8 +38,8 @@ pub record Tells (stream times : List ℕ) (s : Said) : Type 0 where
   pub opens : opening_at stream ≡ Got s.opening body
   pub parts : List (Part Message)
   pub rest : List ℕ
-  pub reads : Reads (message_at message_limit s.opening.width s.opening.height) body parts rest
-  pub waits : message_at message_limit s.opening.width s.opening.height rest ≡ More
+  pub reads : Reads (message_at (message_limit Two) s.opening.width s.opening.height) body parts rest
+  pub waits : message_at (message_limit Two) s.opening.width s.opening.height rest ≡ More
   pub messages_are : s.messages ≡ stamped s.opening.width s.opening.height (drop (length stream - length body) times) parts
   pub rest_is : s.rest ≡ length rest
 
@@ -52,7 +54,7 @@ pub record MessageFault (stream : List ℕ) (f : WireFault) : Type 0 where
   pub opening : Opening
   pub body : List ℕ
   pub opens : opening_at stream ≡ Got opening body
-  pub fault : FaultOf (message_at message_limit opening.width opening.height) body f
+  pub fault : FaultOf (message_at (message_limit Two) opening.width opening.height) body f
 
 -- an opening, messages, and a rest, with no fault
 pub record Waits (stream : List ℕ) : Type 0 where
@@ -61,8 +63,8 @@ pub record Waits (stream : List ℕ) : Type 0 where
   pub opens : opening_at stream ≡ Got opening body
   pub parts : List (Part Message)
   pub rest : List ℕ
-  pub reads : Reads (message_at message_limit opening.width opening.height) body parts rest
-  pub waits : message_at message_limit opening.width opening.height rest ≡ More
+  pub reads : Reads (message_at (message_limit Two) opening.width opening.height) body parts rest
+  pub waits : message_at (message_limit Two) opening.width opening.height rest ≡ More
 
 -- A front of the file, also one that ends inside a block, has data of which P holds. So what is in
 -- the data comes before whatever stands behind them in the file.

@@ -188,8 +188,10 @@ fn read_file<R: Read, T: Tally>(alloc: Global, file: &mut R, tally: T) -> Result
 }
 
 /// What a file says that a reader gives. The first fault in the file is answered, as soon as its
-/// bytes have come; each failure of the reader is `Read`. Beside the messages that are told, the
-/// bytes of one message are kept at most. A reader that asks a system for its bytes is best
+/// bytes have come; each failure of the reader is `Read`. A file says nothing of a recording's
+/// format: its screen and its messages are judged by the limits of format 2, which allow all that
+/// those of format 1 do, and the messages are given in format 2. Beside the messages that are told,
+/// the bytes of one message are kept at most. A reader that asks a system for its bytes is best
 /// buffered: each block is read in three pieces or more.
 pub fn check<R: Read>(alloc: Global, file: &mut R) -> Result<Summary, FbsFault>
     ensures ok { IfOk result (λ s. IfSome (R.remaining file.old) (λ bytes. IsSummary bytes s)) }

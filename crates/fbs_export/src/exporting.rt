@@ -223,10 +223,11 @@ pub fn first_exported<D: Disk>(index: &Indexed<D>, block: u64, to: u64) -> Resul
 }
 
 /// Writes the messages from the start of a block on, below number `to`, as an FBS file, with the
-/// opening and the screen that they are painted over; gives their number. Refused before anything
-/// is written as by [`first_exported`]. Where the device or the writer fails, or memory runs out, a
-/// beginning of the file was written; a write that takes nothing is a writer's fault. The recording
-/// is only read, a message at a time.
+/// opening and the screen that they are painted over; gives their number. The recording may be of
+/// either format, of which the file says nothing. Refused before anything is written as by
+/// [`first_exported`]. Where the device or the writer fails, or memory runs out, a beginning of the
+/// file was written; a write that takes nothing is a writer's fault. The recording is only read, a
+/// message at a time.
 pub fn export<D: Disk, W: Write>(
     alloc: Global,
     index: &mut Indexed<D>,

@@ -27,10 +27,10 @@ pub enum FbsFault {
     /// The stream's pixel format is not the host format.
     #[error("another pixel format")]
     Format,
-    /// The screen's size is outside the limits.
+    /// The screen's size is outside the limits of format 2.
     #[error("a size outside the limits")]
     Size,
-    /// A message is refused.
+    /// A message is refused, by the limits of format 2.
     #[error("{0}")]
     Message(WireFault),
     /// Want of memory.

@@ -76,7 +76,8 @@ fn judge_size(bytes: &[u8]) -> Result<Option<Announced>, FbsFault>
         width: u16::from_be_bytes([sides[0], sides[1]]),
         height: u16::from_be_bytes([sides[2], sides[3]]),
     };
-    if !Format::One.limits().allow(size) {
+    // A file says nothing of a recording's format, and what format 1 allows, format 2 does too.
+    if !Format::Two.limits().allow(size) {
         return Err(FbsFault::Size);
     }
     judge_format(size, rest)

@@ -14,12 +14,13 @@ ghost use Rattle.rfb_wire.specs.Grammar.{message_at, message_limit};
 use crate::fault::FbsFault;
 use crate::opening::OpeningReader;
 use crate::tally::Tally;
+use pixel_format::{Format, RecordedScreen};
 use rfb_wire::{HostMessage, ServerReader};
 use std::alloc::Global;
 use terms::{NoMemory, ScreenSize, WireFault};
 
-/// What is read of a stream: its opening, and once this is whole, the messages behind it, which a
-/// tally is told. Those of the block that comes wait for its time.
+/// What is read of a stream: its opening, and once this is whole, the messages behind it, in format
+/// 2, which a tally is told. Those of the block that comes wait for its time.
 #[derive(Drop)]
 pub struct Stream<T> {
     alloc: Global,
@@ -45,14 +46,15 @@ fn hear(
     hosts: &mut Vec<HostMessage>,
 ) -> Result<(), FbsFault>
     ensures goes { OnOk result ((rest : List ℕ) → StandsFor reader.old.kept reader.old.passed rest
-        → Goes (message_at message_limit reader.old.width reader.old.height) (given reader.old.width reader.old.height) reader.new.kept reader.new.passed
+        → Goes (message_at (message_limit reader.old.format) reader.old.width reader.old.height) (given reader.old.format reader.old.width reader.old.height) reader.new.kept reader.new.passed
         hosts.old.items hosts.new.items (rest ++ piece.now)) }
     ensures fault { IfErr result (λ f. reader.old.fault ≡ None → OfMessage f (λ w. (rest : List ℕ)
         → StandsFor reader.old.kept reader.old.passed rest
-        → Stops (message_at message_limit reader.old.width reader.old.height) (given reader.old.width reader.old.height) w
+        → Stops (message_at (message_limit reader.old.format) reader.old.width reader.old.height) (given reader.old.format reader.old.width reader.old.height) w
         hosts.old.items hosts.new.items (rest ++ piece.now))) }
     ensures going { OnOk result (reader.new.fault ≡ None) }
-    ensures size { (reader.new.width ≡ reader.old.width) × (reader.new.height ≡ reader.old.height) }
+    ensures screen { (reader.new.format ≡ reader.old.format)
+        × (reader.new.width ≡ reader.old.width) × (reader.new.height ≡ reader.old.height) }
 {
     match reader.feed(piece, hosts) {
         Ok(()) => Ok(()),
@@ -95,7 +97,11 @@ impl<T: Tally> Stream<T> {
         let Some(whole) = self.opening.take(piece)? else {
             return Ok(());
         };
-        let mut reader = ServerReader::new(self.alloc, whole.size);
+        let screen = RecordedScreen {
+            format: Format::Two,
+            size: whole.size,
+        };
+        let mut reader = ServerReader::in_format(self.alloc, screen);
         let mut hosts = Vec::new(self.alloc);
         hear(&mut reader, &piece[whole.taken..], &mut hosts)?;
         tell(hosts, &mut self.tally)?;

@@ -5,8 +5,8 @@ use std::marker::Model;
 use terms::ScreenSize;
 
 /// What a file says: the size of the screen in places, the name, of a longer one its first 1,024
-/// bytes, the recorded messages with their times, and the number of bytes of an unfinished last
-/// message.
+/// bytes, the recorded messages, which are of format 2, with their times in milliseconds, and the
+/// number of bytes of an unfinished last message.
 #[derive(Drop)]
 pub struct Summary {
     pub size: ScreenSize,

@@ -1,6 +1,6 @@
 -- What follows from a whole field: one equation for each stage.
 use Rattle.std.proofs.Common.{◌≡◌, ℕ, ◌+◌, ◌-◌, ◌<◌, List, ◌++◌, length, slice_index, nat_lt, ◌≤◌, Bool, true, false, refl, ap, ◌∙◌, drop, arith, inl, inr, length-append}
-use Rattle.std.specs.Prelude.{min, Option}
+use Rattle.std.specs.Prelude.{min}
 use Rattle.std.specs.Str.{bytes_eq}
 use Rattle.std.proofs.lemmas.Bool.{ltb-true, ltb-false, le-ltb, lt-ltb}
 use Rattle.std.proofs.Math.Seq.{drop-append-add}
@@ -13,87 +13,88 @@ use Rattle.terms.specs.Talk.{Talk, silent, say, hear}
 use Rattle.terms.specs.Number.{u16_at, u32_at}
 use Rattle.host_session.specs.Handshake.{Told, Refusal, version, text_limit, offers_security_none, reason_at, failure_at, rest_of_name, name_at, head_at, sized, size_at, judged, outcome_at, offered, types_at, counted, count_at, versioned, handshake_at, first_requests}
 use Rattle.host_session.specs.Stage.{wants_of, resume}
+use Rattle.host_session.specs.declared.expected.ExpectedScreen.{ExpectedScreen}
 use Rattle.terms.specs.declared.screen_size.ScreenSize.{ScreenSize}
 
 hear_whole : (n : ℕ) (f more : List ℕ) (next : List ℕ → List ℕ → Talk Told Refusal) → length f ≡ n → hear (field {E = Refusal} n (f ++ more)) next ≡ next f more
 hear_whole n f more next whole = rw (field-whole {E = Refusal} n f more whole) refl
 
-pub version_goes : (expected : Option ScreenSize) (f more : List ℕ) (same : Bool) → length f ≡ 12 → bytes_eq f version ≡ same
+pub version_goes : (expected : ExpectedScreen) (f more : List ℕ) (same : Bool) → length f ≡ 12 → bytes_eq f version ≡ same
     → resume expected stages.Version (f ++ more) ≡ versioned expected same more
 unfolding resume handshake_at
 version_goes expected f more same whole is =
     hear_whole 12 f more (λ f rest. versioned expected (bytes_eq f version) rest) whole ∙ ap (λ b. versioned expected b more) is
 
-pub count_goes : (expected : Option ScreenSize) (f more : List ℕ) (n : ℕ) → length f ≡ 1 → slice_index f 0 ≡ n
+pub count_goes : (expected : ExpectedScreen) (f more : List ℕ) (n : ℕ) → length f ≡ 1 → slice_index f 0 ≡ n
     → resume expected stages.Count (f ++ more) ≡ counted expected n more
 unfolding resume count_at
 count_goes expected f more n whole is =
     hear_whole 1 f more (λ f rest. counted expected (slice_index f 0) rest) whole ∙ ap (λ b. counted expected b more) is
 
-pub types_go : (expected : Option ScreenSize) (f more : List ℕ) (n : ℕ) (offers : Bool) → length f ≡ n → offers_security_none f ≡ offers
+pub types_go : (expected : ExpectedScreen) (f more : List ℕ) (n : ℕ) (offers : Bool) → length f ≡ n → offers_security_none f ≡ offers
     → resume expected (stages.Types n) (f ++ more) ≡ offered expected offers more
 unfolding resume types_at
 types_go expected f more n offers whole is =
     hear_whole n f more (λ f rest. offered expected (offers_security_none f) rest) whole ∙ ap (λ b. offered expected b more) is
 
-pub outcome_goes : (expected : Option ScreenSize) (f more : List ℕ) (n : ℕ) → length f ≡ 4 → u32_at f 0 ≡ n
+pub outcome_goes : (expected : ExpectedScreen) (f more : List ℕ) (n : ℕ) → length f ≡ 4 → u32_at f 0 ≡ n
     → resume expected stages.Outcome (f ++ more) ≡ judged expected n more
 unfolding resume outcome_at
 outcome_goes expected f more n whole is =
     hear_whole 4 f more (λ f rest. judged expected (u32_at f 0) rest) whole ∙ ap (λ b. judged expected b more) is
 
-pub length_goes : (expected : Option ScreenSize) (f more : List ℕ) (n : ℕ) → length f ≡ 4 → u32_at f 0 ≡ n
+pub length_goes : (expected : ExpectedScreen) (f more : List ℕ) (n : ℕ) → length f ≡ 4 → u32_at f 0 ≡ n
     → resume expected stages.ReasonLength (f ++ more) ≡ resume expected (stages.Reason n) more
 unfolding resume failure_at
 length_goes expected f more n whole is =
     hear_whole 4 f more (λ f rest. reason_at (min (u32_at f 0) text_limit) rest) whole ∙ ap (λ b. reason_at (min b text_limit) more) is
 
-pub reason_goes : (expected : Option ScreenSize) (f more : List ℕ) (n : ℕ) → length f ≡ min n text_limit
+pub reason_goes : (expected : ExpectedScreen) (f more : List ℕ) (n : ℕ) → length f ≡ min n text_limit
     → resume expected (stages.Reason n) (f ++ more) ≡ silent (Bad (record { fault = faults.Failed; reason = f }))
 unfolding resume reason_at
 reason_goes expected f more n whole =
     hear_whole (min n text_limit) f more (λ text rest. silent (Bad (record { fault = faults.Failed; reason = text }))) whole
 
-pub size_goes : (expected : Option ScreenSize) (f more : List ℕ) (width height : ℕ) → length f ≡ 4 → u16_at f 0 ≡ width → u16_at f 2 ≡ height
+pub size_goes : (expected : ExpectedScreen) (f more : List ℕ) (width height : ℕ) → length f ≡ 4 → u16_at f 0 ≡ width → u16_at f 2 ≡ height
     → resume expected stages.Size (f ++ more) ≡ sized expected width height more
 unfolding resume size_at
 size_goes expected f more width height whole w h =
     hear_whole 4 f more (λ f rest. sized expected (u16_at f 0) (u16_at f 2) rest) whole ∙ rw (w, h) refl
 
-pub head_goes : (expected : Option ScreenSize) (f more : List ℕ) (size : ScreenSize) (n : ℕ) → length f ≡ 20 → u32_at f 16 ≡ n
+pub head_goes : (expected : ExpectedScreen) (f more : List ℕ) (size : ScreenSize) (n : ℕ) → length f ≡ 20 → u32_at f 16 ≡ n
     → resume expected (stages.Head size) (f ++ more) ≡ resume expected (stages.Name size n) more
 unfolding resume head_at
 head_goes expected f more size n whole is =
     hear_whole 20 f more (λ f rest. name_at size.width size.height (u32_at f 16) rest) whole ∙ ap (λ b. name_at size.width size.height b more) is
 
-pub name_goes : (expected : Option ScreenSize) (f more : List ℕ) (size : ScreenSize) (n left : ℕ) → length f ≡ min n text_limit → n - min n text_limit ≡ left
+pub name_goes : (expected : ExpectedScreen) (f more : List ℕ) (size : ScreenSize) (n left : ℕ) → length f ≡ min n text_limit → n - min n text_limit ≡ left
     → resume expected (stages.Name size n) (f ++ more) ≡ rest_of_name size.width size.height f left more
 unfolding resume name_at
 name_goes expected f more size n left whole is =
     hear_whole (min n text_limit) f more (λ name rest. rest_of_name size.width size.height name (n - min n text_limit) rest) whole ∙ ap (λ b. rest_of_name size.width size.height f b more) is
 
 -- the stages by which the tests go on
-pub resume_count : (expected : Option ScreenSize) (more : List ℕ) → resume expected stages.Count more ≡ count_at expected more
+pub resume_count : (expected : ExpectedScreen) (more : List ℕ) → resume expected stages.Count more ≡ count_at expected more
 unfolding resume
 resume_count expected more = refl
 
-pub resume_types : (expected : Option ScreenSize) (n : ℕ) (more : List ℕ) → resume expected (stages.Types n) more ≡ types_at expected n more
+pub resume_types : (expected : ExpectedScreen) (n : ℕ) (more : List ℕ) → resume expected (stages.Types n) more ≡ types_at expected n more
 unfolding resume
 resume_types expected n more = refl
 
-pub resume_outcome : (expected : Option ScreenSize) (more : List ℕ) → resume expected stages.Outcome more ≡ outcome_at expected more
+pub resume_outcome : (expected : ExpectedScreen) (more : List ℕ) → resume expected stages.Outcome more ≡ outcome_at expected more
 unfolding resume
 resume_outcome expected more = refl
 
-pub resume_length : (expected : Option ScreenSize) (more : List ℕ) → resume expected stages.ReasonLength more ≡ failure_at more
+pub resume_length : (expected : ExpectedScreen) (more : List ℕ) → resume expected stages.ReasonLength more ≡ failure_at more
 unfolding resume
 resume_length expected more = refl
 
-pub resume_size : (expected : Option ScreenSize) (more : List ℕ) → resume expected stages.Size more ≡ size_at expected more
+pub resume_size : (expected : ExpectedScreen) (more : List ℕ) → resume expected stages.Size more ≡ size_at expected more
 unfolding resume
 resume_size expected more = refl
 
-pub resume_head : (expected : Option ScreenSize) (size : ScreenSize) (more : List ℕ) → resume expected (stages.Head size) more ≡ head_at size.width size.height more
+pub resume_head : (expected : ExpectedScreen) (size : ScreenSize) (more : List ℕ) → resume expected (stages.Head size) more ≡ head_at size.width size.height more
 unfolding resume
 resume_head expected size more = refl
 
@@ -101,7 +102,7 @@ resume_head expected size more = refl
 hear_short : (n : ℕ) (bytes : List ℕ) (next : List ℕ → List ℕ → Talk Told Refusal) → length bytes < n → hear (field {E = Refusal} n bytes) next ≡ silent More
 hear_short n bytes next short = rw (field-short {E = Refusal} n bytes short) refl
 
-pub resume-short : (expected : Option ScreenSize) (stage : Stage) (bytes : List ℕ) → length bytes < wants_of stage → resume expected stage bytes ≡ silent More
+pub resume-short : (expected : ExpectedScreen) (stage : Stage) (bytes : List ℕ) → length bytes < wants_of stage → resume expected stage bytes ≡ silent More
 unfolding resume handshake_at count_at types_at outcome_at failure_at reason_at size_at head_at name_at
 resume-short expected stages.Version bytes short = hear_short 12 bytes (λ f rest. versioned expected (bytes_eq f version) rest) short
 resume-short expected stages.Count bytes short = hear_short 1 bytes (λ f rest. counted expected (slice_index f 0) rest) short

@@ -14,12 +14,12 @@ use Rattle.host_session.specs.Take.{told_at}
 use Rattle.host_session.specs.Session.{Gets, IsListening, Stands, EndsAfter, AreGiven, told_by}
 use Rattle.host_session.specs.Conversation.{IsInMessages, WaitsForMore, IsConversation, IsRefusal, AreOfStream}
 use Rattle.host_session.proofs.Sessions.{handshake_is, say_last}
-use Rattle.terms.specs.declared.screen_size.ScreenSize.{ScreenSize}
+use Rattle.host_session.specs.declared.expected.ExpectedScreen.{ExpectedScreen}
 
 -- the messages of a stream behind its handshake
-in_messages : (limit : ℕ) (expected : Option ScreenSize) (w h : ℕ) (name stream : List ℕ) (messages : List Host) (tail : List ℕ)
-    → (g : Gets limit expected w h name stream messages tail) → IsInMessages limit expected stream messages (told_at w h name) g.answers tail
-in_messages limit expected w h name stream messages tail g =
+in_messages : (expected : ExpectedScreen) (w h : ℕ) (name stream : List ℕ) (messages : List Host) (tail : List ℕ)
+    → (g : Gets expected w h name stream messages tail) → IsInMessages expected stream messages (told_at w h name) g.answers tail
+in_messages expected w h name stream messages tail g =
     let told : Told = told_at w h name in
     record {
       rest = g.rest;
@@ -29,49 +29,49 @@ in_messages limit expected w h name stream messages tail g =
       messages_are = g.gives.given;
     }
 
-waits : (limit : ℕ) (expected : Option ScreenSize) (kept : List ℕ) (r : Reader) (stream : List ℕ) (messages : List Host) (said : List ℕ)
-    → IsListening limit expected kept r stream messages said → WaitsForMore limit expected stream messages said (told_at r.width r.height kept)
-waits limit expected kept r stream messages said is = record {
+waits : (expected : ExpectedScreen) (kept : List ℕ) (r : Reader) (stream : List ℕ) (messages : List Host) (said : List ℕ)
+    → IsListening expected kept r stream messages said → WaitsForMore expected stream messages said (told_at r.width r.height kept)
+waits expected kept r stream messages said is = record {
   answers = is.follows.gets.answers;
   tail = is.tail;
-  behind = in_messages limit expected r.width r.height kept stream messages is.tail is.follows.gets;
+  behind = in_messages expected r.width r.height kept stream messages is.tail is.follows.gets;
   waits = is.waits;
   said_is = is.follows.said_is;
 }
 
-pub means : (limit : ℕ) (expected : Option ScreenSize) (position : Position) (kept : List ℕ) (reader : Option Reader) (stream : List ℕ) (messages : List Host) (said : List ℕ)
-    → Stands limit expected position kept reader stream messages said → IsConversation limit expected stream (told_by reader kept) messages said
-means limit expected position kept None stream messages said is = record { reads = is.reads; none = is.none }
-means limit expected position kept (Some r) stream messages said is = waits limit expected kept r stream messages said is
+pub means : (expected : ExpectedScreen) (position : Position) (kept : List ℕ) (reader : Option Reader) (stream : List ℕ) (messages : List Host) (said : List ℕ)
+    → Stands expected position kept reader stream messages said → IsConversation expected stream (told_by reader kept) messages said
+means expected position kept None stream messages said is = record { reads = is.reads; none = is.none }
+means expected position kept (Some r) stream messages said is = waits expected kept r stream messages said is
 
-pub ends_means : (limit : ℕ) (expected : Option ScreenSize) (kept : List ℕ) (reader : Option Reader) (stream : List ℕ) (messages : List Host) (said : List ℕ) (f : HostFault)
-    → EndsAfter limit expected kept reader stream messages said f → IsRefusal limit expected stream (told_by reader kept) messages said f (reason_of f kept)
-ends_means limit expected kept None stream messages said f is = record {
+pub ends_means : (expected : ExpectedScreen) (kept : List ℕ) (reader : Option Reader) (stream : List ℕ) (messages : List Host) (said : List ℕ) (f : HostFault)
+    → EndsAfter expected kept reader stream messages said f → IsRefusal expected stream (told_by reader kept) messages said f (reason_of f kept)
+ends_means expected kept None stream messages said f is = record {
   reads = ap (handshake_at expected) (sym (append-nil stream)) ∙ sym (handshake_is expected (stream ++ [])) ∙ is.fails.link []
       ∙ say_last said (Bad (record { fault = f; reason = reason_of f kept }));
   none = is.none;
 }
-ends_means limit expected kept (Some r) stream messages said (faults.Wire w) is = record {
+ends_means expected kept (Some r) stream messages said (faults.Wire w) is = record {
   answers = is.follows.gets.answers;
   tail = is.tail;
-  behind = in_messages limit expected r.width r.height kept stream messages is.tail is.follows.gets;
+  behind = in_messages expected r.width r.height kept stream messages is.tail is.follows.gets;
   wire = w;
   is = refl;
   fault = is.fault;
   said_is = is.follows.said_is;
   no_reason = refl;
 }
-ends_means limit expected kept (Some r) stream messages said faults.Version is = absurd is
-ends_means limit expected kept (Some r) stream messages said faults.NoneNotOffered is = absurd is
-ends_means limit expected kept (Some r) stream messages said faults.Failed is = absurd is
-ends_means limit expected kept (Some r) stream messages said faults.SizeDiffers is = absurd is
-ends_means limit expected kept (Some r) stream messages said faults.TooLarge is = absurd is
+ends_means expected kept (Some r) stream messages said faults.Version is = absurd is
+ends_means expected kept (Some r) stream messages said faults.NoneNotOffered is = absurd is
+ends_means expected kept (Some r) stream messages said faults.Failed is = absurd is
+ends_means expected kept (Some r) stream messages said faults.SizeDiffers is = absurd is
+ends_means expected kept (Some r) stream messages said faults.TooLarge is = absurd is
 
-pub given_means : (limit : ℕ) (expected : Option ScreenSize) (kept : List ℕ) (reader : Option Reader) (stream : List ℕ) (messages : List Host)
-    → AreGiven limit expected kept reader stream messages → AreOfStream limit expected stream (told_by reader kept) messages
-given_means limit expected kept None stream messages is = is
-given_means limit expected kept (Some r) stream messages is = record {
+pub given_means : (expected : ExpectedScreen) (kept : List ℕ) (reader : Option Reader) (stream : List ℕ) (messages : List Host)
+    → AreGiven expected kept reader stream messages → AreOfStream expected stream (told_by reader kept) messages
+given_means expected kept None stream messages is = is
+given_means expected kept (Some r) stream messages is = record {
   answers = is.gets.answers;
   tail = is.tail;
-  behind = in_messages limit expected r.width r.height kept stream messages is.tail is.gets;
+  behind = in_messages expected r.width r.height kept stream messages is.tail is.gets;
 }

@@ -1,6 +1,5 @@
 -- What becomes of pieces.
 use Rattle.std.proofs.Common.{◌≡◌, ℕ, List, [], ◌++◌, take, drop, refl, sym, ap, ◌∙◌, append_assoc}
-use Rattle.std.specs.Prelude.{Option}
 use Rattle.std.proofs.lemmas.List.{append-nil, take-append-drop}
 use Rattle.client_wire.proofs.Fronts.{unless_memory as unless_wire_memory, unless_memory_map as unless_wire_memory_map}
 use Rattle.host_session.specs.declared.fault.HostFault.{HostFault}
@@ -14,7 +13,7 @@ use Rattle.host_session.specs.Take.{Says}
 use Rattle.terms.specs.Talk.{Talk, say, silent}
 use Rattle.host_session.specs.Handshake.{Told, Refusal}
 use Rattle.terms.specs.Reading.{Got}
-use Rattle.terms.specs.declared.screen_size.ScreenSize.{ScreenSize}
+use Rattle.host_session.specs.declared.expected.ExpectedScreen.{ExpectedScreen}
 
 pub unless_memory : (f : HostFault) (P : Type 0) → P → UnlessMemory f P
 unless_memory (faults.Wire f) P p = unless_wire_memory f P p
@@ -25,7 +24,7 @@ unless_memory faults.SizeDiffers P p = p
 unless_memory faults.TooLarge P p = p
 
 -- a field that is whole within a piece, and refused
-pub field_fails : (expected : Option ScreenSize) (position : Position) (stage : Stage) (kept piece field after : List ℕ) (n : ℕ) (f : HostFault)
+pub field_fails : (expected : ExpectedScreen) (position : Position) (stage : Stage) (kept piece field after : List ℕ) (n : ℕ) (f : HostFault)
     → position ≡ positions.Field stage → after ≡ kept ++ take n piece → field ≡ after
     → ((more : List ℕ) → resume expected stage (field ++ more) ≡ failed f field)
     → Fails expected position kept piece [] f after
@@ -42,7 +41,7 @@ field_fails expected position stage kept piece field after n f is whole same bad
 say_more : (a b : List ℕ) (t : Talk Told Refusal) → say a (say b t) ≡ say (a ++ b) t
 say_more a b t = rw (append_assoc a b t.said) refl
 
-pub leads_none : (expected : Option ScreenSize) (position : Position) (kept due : List ℕ)
+pub leads_none : (expected : ExpectedScreen) (position : Position) (kept due : List ℕ)
     → Says (λ said. Leads expected position kept [] said position kept) due due
 leads_none expected position kept due = record { said = []; due = sym (append-nil due); is = record { link = λ more. refl } }
 
@@ -56,12 +55,13 @@ says_more due then later a b both = record {
 }
 
 -- what the first turn leads to, and what the second makes of that
-linked : (expected : Option ScreenSize) (old : Position) (before front more rest first : List ℕ) {t u : Talk Told Refusal}
+linked : (expected : ExpectedScreen) (old : Position) (before front more rest first : List ℕ) {t u : Talk Told Refusal}
     → position_at expected old before (front ++ (more ++ rest)) ≡ say first t → t ≡ u → position_at expected old before ((front ++ more) ++ rest) ≡ say first u
 linked expected old before front more rest first one two = ap (position_at expected old before) (append_assoc front more rest) ∙ one ∙ ap (say first) two
 
--- A turn that leads on, and one from there to what is reached behind it, whatever comes: so do both.
-two_turns : {Q R : List ℕ → Type 0} (expected : Option ScreenSize) (old mid : Position) (before between front more due then later : List ℕ) (reached : List ℕ → Talk Told Refusal)
+-- A turn that leads on, and one from there to what is reached behind it, whatever comes: so do
+-- both.
+two_turns : {Q R : List ℕ → Type 0} (expected : ExpectedScreen) (old mid : Position) (before between front more due then later : List ℕ) (reached : List ℕ → Talk Told Refusal)
     → Says (λ said. Leads expected old before front said mid between) due then → Says Q then later
     → ((said : List ℕ) → Q said → (rest : List ℕ) → position_at expected mid between (more ++ rest) ≡ say said (reached rest))
     → ((said : List ℕ) → ((rest : List ℕ) → position_at expected old before ((front ++ more) ++ rest) ≡ say said (reached rest)) → R said)
@@ -70,14 +70,14 @@ two_turns expected old mid before between front more due then later reached a b 
     says_more due then later a b (λ first second one two. is (first ++ second)
     (λ rest. linked expected old before front more rest first (one.link (more ++ rest)) (links second two rest) ∙ say_more first second (reached rest)))
 
-pub leads_more : (expected : Option ScreenSize) (old mid new : Position) (before between after front more due then later : List ℕ)
+pub leads_more : (expected : ExpectedScreen) (old mid new : Position) (before between after front more due then later : List ℕ)
     → Says (λ said. Leads expected old before front said mid between) due then
     → Says (λ said. Leads expected mid between more said new after) then later
     → Says (λ said. Leads expected old before (front ++ more) said new after) due later
 leads_more expected old mid new before between after front more due then later a b =
     two_turns expected old mid before between front more due then later (position_at expected new after) a b (λ said step. step.link) (λ said link. record { link = link })
 
-pub leads_end : (expected : Option ScreenSize) (old mid : Position) (before between front more due then later requests : List ℕ) (told : Told)
+pub leads_end : (expected : ExpectedScreen) (old mid : Position) (before between front more due then later requests : List ℕ) (told : Told)
     → Says (λ said. Leads expected old before front said mid between) due then
     → Says (λ said. Ends expected mid between more (said ++ requests) told) then later
     → Says (λ said. Ends expected old before (front ++ more) (said ++ requests) told) due later
@@ -86,7 +86,7 @@ leads_end expected old mid before between front more due then later requests tol
     two_turns expected old mid before between front more due then later (λ rest. say requests (told_at rest)) a b (λ said step rest. step.link rest ∙ sym (say_more said requests (told_at rest)))
     (λ said link. record { link = λ rest. link rest ∙ say_more said requests (told_at rest) })
 
-pub leads_fail : (expected : Option ScreenSize) (old mid : Position) (before between front more due then later : List ℕ) (f : HostFault) (field : List ℕ)
+pub leads_fail : (expected : ExpectedScreen) (old mid : Position) (before between front more due then later : List ℕ) (f : HostFault) (field : List ℕ)
     → Says (λ said. Leads expected old before front said mid between) due then
     → Says (λ said. Fails expected mid between more said f field) then later
     → Says (λ said. Fails expected old before (front ++ more) said f field) due later

@@ -1,6 +1,6 @@
 -- The handshake of a host's stream, as it is heard and answered (RFC 6143, sections 7.1 to 7.3, in
 -- version 3.8).
-use Rattle.std.specs.Prelude.{ℕ, ◌-◌, ◌*◌, min, List, [], ◌∷◌, ◌++◌, slice_index, nat_eq, Bool, true, false, ◌&&◌, ◌||◌, Option, Some, None, if◌then◌else◌}
+use Rattle.std.specs.Prelude.{ℕ, ◌-◌, min, List, [], ◌∷◌, ◌++◌, slice_index, nat_eq, Bool, true, false, ◌&&◌, ◌||◌, Option, Some, None, if◌then◌else◌}
 use Rattle.std.specs.Str.{bytes_eq}
 use Rattle.pixel_format.specs.Format.{host_format}
 use Rattle.terms.specs.Reading.{Got, Bad, field}
@@ -11,8 +11,8 @@ use Rattle.host_session.specs.declared.fault.HostFault.TheVariants as faults
 use Rattle.terms.specs.Talk.{Talk, silent, say, hear}
 use Rattle.terms.specs.Number.{u16_at, u32_at}
 use Rattle.pixel_format.specs.Limits.{limits, is_size}
-use Rattle.pixel_format.specs.declared.kind.Format.TheVariants.{One}
 use Rattle.terms.specs.declared.screen_size.ScreenSize.{ScreenSize}
+use Rattle.host_session.specs.declared.expected.ExpectedScreen.{ExpectedScreen}
 
 -- what a host says of its screen
 pub record Told : Type 0 where
@@ -80,39 +80,40 @@ name_at width height n bytes = hear (field (min n text_limit) bytes) (λ name re
 unfoldable pub head_at : ℕ → ℕ → List ℕ → Talk Told Refusal
 head_at width height bytes = hear (field 20 bytes) (λ f rest. name_at width height (u32_at f 16) rest)
 
--- a size, and what follows
-abbrev pub sized : Option ScreenSize → ℕ → ℕ → List ℕ → Talk Told Refusal
+-- A size, and what follows: first the limits of the format are judged, and then the size that is
+-- expected.
+abbrev pub sized : ExpectedScreen → ℕ → ℕ → List ℕ → Talk Told Refusal
 sized expected width height rest =
-    if is_size (limits One) width height then (if is_expected expected width height then head_at width height rest else refused faults.SizeDiffers)
+    if is_size (limits expected.format) width height then (if is_expected expected.size width height then head_at width height rest else refused faults.SizeDiffers)
     else refused faults.TooLarge
 
 -- ServerInit: width, height, format, name (section 7.3.2)
-unfoldable pub size_at : Option ScreenSize → List ℕ → Talk Told Refusal
+unfoldable pub size_at : ExpectedScreen → List ℕ → Talk Told Refusal
 size_at expected bytes = hear (field 4 bytes) (λ f rest. sized expected (u16_at f 0) (u16_at f 2) rest)
 
-abbrev pub judged : Option ScreenSize → ℕ → List ℕ → Talk Told Refusal
+abbrev pub judged : ExpectedScreen → ℕ → List ℕ → Talk Told Refusal
 judged expected number rest = if nat_eq number 0 then say (1 ∷ []) (size_at expected rest) else failure_at rest
 
 -- SecurityResult (section 7.1.3); ClientInit, with the shared-flag, answers it (section 7.3.1)
-unfoldable pub outcome_at : Option ScreenSize → List ℕ → Talk Told Refusal
+unfoldable pub outcome_at : ExpectedScreen → List ℕ → Talk Told Refusal
 outcome_at expected bytes = hear (field 4 bytes) (λ f rest. judged expected (u32_at f 0) rest)
 
-abbrev pub offered : Option ScreenSize → Bool → List ℕ → Talk Told Refusal
+abbrev pub offered : ExpectedScreen → Bool → List ℕ → Talk Told Refusal
 offered expected offers rest = if offers then say (1 ∷ []) (outcome_at expected rest) else refused faults.NoneNotOffered
 
 -- so many security types (section 7.1.2)
-unfoldable pub types_at : Option ScreenSize → ℕ → List ℕ → Talk Told Refusal
+unfoldable pub types_at : ExpectedScreen → ℕ → List ℕ → Talk Told Refusal
 types_at expected n bytes = hear (field n bytes) (λ types rest. offered expected (offers_security_none types) rest)
 
-abbrev pub counted : Option ScreenSize → ℕ → List ℕ → Talk Told Refusal
+abbrev pub counted : ExpectedScreen → ℕ → List ℕ → Talk Told Refusal
 counted expected n rest = if nat_eq n 0 then failure_at rest else types_at expected n rest
 
-unfoldable pub count_at : Option ScreenSize → List ℕ → Talk Told Refusal
+unfoldable pub count_at : ExpectedScreen → List ℕ → Talk Told Refusal
 count_at expected bytes = hear (field 1 bytes) (λ f rest. counted expected (slice_index f 0) rest)
 
-abbrev pub versioned : Option ScreenSize → Bool → List ℕ → Talk Told Refusal
+abbrev pub versioned : ExpectedScreen → Bool → List ℕ → Talk Told Refusal
 versioned expected same rest = if same then say version (count_at expected rest) else refused faults.Version
 
 -- the version (section 7.1.1), and all that follows
-unfoldable pub handshake_at : Option ScreenSize → List ℕ → Talk Told Refusal
+unfoldable pub handshake_at : ExpectedScreen → List ℕ → Talk Told Refusal
 handshake_at expected bytes = hear (field 12 bytes) (λ f rest. versioned expected (bytes_eq f version) rest)

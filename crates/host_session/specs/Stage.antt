@@ -1,5 +1,5 @@
 -- Where a session stands in a host's handshake.
-use Rattle.std.specs.Prelude.{◌≡◌, ℕ, ◌<◌, ◌≤◌, ◌^◌, min, List, [], ◌∷◌, ◌++◌, length, Option}
+use Rattle.std.specs.Prelude.{◌≡◌, ℕ, ◌<◌, ◌≤◌, ◌^◌, min, List, [], ◌∷◌, ◌++◌, length}
 use Rattle.terms.specs.Reading.{Got, Bad}
 use Rattle.host_session.specs.declared.fault.HostFault.{HostFault}
 use Rattle.host_session.specs.declared.fault.HostFault.TheVariants as faults
@@ -12,7 +12,7 @@ use Rattle.host_session.specs.declared.stage.AfterField.{AfterField}
 use Rattle.host_session.specs.declared.stage.Answer.TheVariants as answers
 use Rattle.terms.specs.Talk.{Talk, silent, say}
 use Rattle.host_session.specs.Handshake.{Told, Refusal, text_limit, version, handshake_at, count_at, types_at, outcome_at, failure_at, reason_at, size_at, head_at, name_at, rest_of_name}
-use Rattle.terms.specs.declared.screen_size.ScreenSize.{ScreenSize}
+use Rattle.host_session.specs.declared.expected.ExpectedScreen.{ExpectedScreen}
 
 -- how many bytes of the field are kept
 abbrev pub wants_of : Stage → ℕ
@@ -48,7 +48,7 @@ IsFurther rank (positions.Field stage) = rank_of stage < rank
 IsFurther rank (positions.Rest size left) = left < 2 ^ 32
 
 -- what the bytes say from the stage's field on
-unfoldable pub resume : Option ScreenSize → Stage → List ℕ → Talk Told Refusal
+unfoldable pub resume : ExpectedScreen → Stage → List ℕ → Talk Told Refusal
 resume expected stages.Version bytes = handshake_at expected bytes
 resume expected stages.Count bytes = count_at expected bytes
 resume expected (stages.Types n) bytes = types_at expected n bytes
@@ -60,7 +60,7 @@ resume expected (stages.Head size) bytes = head_at size.width size.height bytes
 resume expected (stages.Name size n) bytes = name_at size.width size.height n bytes
 
 -- what the bytes that come next say, behind those that are kept
-abbrev pub position_at : Option ScreenSize → Position → List ℕ → List ℕ → Talk Told Refusal
+abbrev pub position_at : ExpectedScreen → Position → List ℕ → List ℕ → Talk Told Refusal
 position_at expected (positions.Field stage) kept more = resume expected stage (kept ++ more)
 position_at expected (positions.Rest size left) kept more = rest_of_name size.width size.height kept left more
 
@@ -89,25 +89,25 @@ abbrev pub failed : HostFault → List ℕ → Talk Told Refusal
 failed f field = silent (Bad (record { fault = f; reason = reason_of f field }))
 
 -- this follows from the whole field of a stage, whatever comes
-abbrev pub IsStep : Option ScreenSize → Stage → List ℕ → AfterField → Type 0
+abbrev pub IsStep : ExpectedScreen → Stage → List ℕ → AfterField → Type 0
 IsStep expected stage field step = (more : List ℕ)
     → resume expected stage (field ++ more) ≡ say (answer_bytes step.answer) (position_at expected step.position (kept_behind step.position field) more)
 
 -- or this fault
-abbrev pub IsFault : Option ScreenSize → Stage → List ℕ → HostFault → Type 0
+abbrev pub IsFault : ExpectedScreen → Stage → List ℕ → HostFault → Type 0
 IsFault expected stage field f = (more : List ℕ) → resume expected stage (field ++ more) ≡ failed f field
 
 -- From a position on, these bytes are answered with these and lead to another position, whatever
 -- comes.
-pub record Leads (expected : Option ScreenSize) (old : Position) (before bytes said : List ℕ) (new : Position) (after : List ℕ) : Type 0 where
+pub record Leads (expected : ExpectedScreen) (old : Position) (before bytes said : List ℕ) (new : Position) (after : List ℕ) : Type 0 where
   pub link : (more : List ℕ) → position_at expected old before (bytes ++ more) ≡ say said (position_at expected new after more)
 
 -- They lead to the handshake's end, where this is told.
-pub record Ends (expected : Option ScreenSize) (old : Position) (before bytes said : List ℕ) (told : Told) : Type 0 where
+pub record Ends (expected : ExpectedScreen) (old : Position) (before bytes said : List ℕ) (told : Told) : Type 0 where
   pub link : (more : List ℕ) → position_at expected old before (bytes ++ more) ≡ say said (silent (Got told more))
 
 -- They lead to a fault.
-pub record Fails (expected : Option ScreenSize) (old : Position) (before bytes said : List ℕ) (f : HostFault) (field : List ℕ) : Type 0 where
+pub record Fails (expected : ExpectedScreen) (old : Position) (before bytes said : List ℕ) (f : HostFault) (field : List ℕ) : Type 0 where
   pub link : (more : List ℕ) → position_at expected old before (bytes ++ more) ≡ say said (failed f field)
 
 -- the field isn't more than whole

@@ -3,8 +3,9 @@
 ghost use Rattle.std.specs.Prelude.{◌≡◌, ℕ, ◌≤◌, List, [], length, IfOk, IfErr, Option};
 ghost use Rattle.host_session.specs.Stage.{wants_of, IsWithin};
 ghost use Rattle.host_session.specs.Take.{IsTaking, IsTaken, IsRefused};
-ghost use Rattle.terms.specs.declared.screen_size.ScreenSize.{ScreenSize};
+ghost use Rattle.host_session.specs.declared.expected.ExpectedScreen.{ExpectedScreen};
 
+use crate::expected::ExpectedScreen;
 use crate::fault::HostFault;
 use crate::stage::{Position, Stage, behind};
 use std::alloc::Global;
@@ -50,7 +51,7 @@ impl Handshake {
     // Takes bytes of a piece up to the end of a field.
     fn take_in_field(
         &mut self,
-        expected: Option<ScreenSize>,
+        expected: ExpectedScreen,
         stage: Stage,
         piece: &[u8],
         due: &mut Vec<u8>,
@@ -79,7 +80,7 @@ impl Handshake {
     // Takes bytes of a piece up to the name's end.
     fn take_in_rest(&mut self, size: ScreenSize, left: u32, piece: &[u8]) -> Taking
         requires position { self.old.position ≡ Position.Rest size left }
-        ensures taking { (expected : Option ScreenSize) → (due : List ℕ)
+        ensures taking { (expected : ExpectedScreen) → (due : List ℕ)
             → IsTaking expected self.old self.new piece.now due due result }
     {
         if piece.len() < left as usize {
@@ -98,7 +99,7 @@ impl Handshake {
     // Takes bytes of a piece up to the end of what comes next.
     fn take_some(
         &mut self,
-        expected: Option<ScreenSize>,
+        expected: ExpectedScreen,
         piece: &[u8],
         due: &mut Vec<u8>,
     ) -> Result<Taking, HostFault>
@@ -117,7 +118,7 @@ impl Handshake {
     /// Takes a piece, up to the handshake's end.
     pub fn take(
         &mut self,
-        expected: Option<ScreenSize>,
+        expected: ExpectedScreen,
         piece: &[u8],
         due: &mut Vec<u8>,
     ) -> Result<Option<Whole>, HostFault>

@@ -1,6 +1,7 @@
 //! The recorder's side of a VNC host's connection (RFC 6143, version 3.8), without a socket.
 #![tactic(auto)]
 
+mod expected;
 mod fault;
 mod handshake;
 mod laws;

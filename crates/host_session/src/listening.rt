@@ -1,7 +1,6 @@
 //! A host's messages, heard in pieces and answered.
 
 ghost use Rattle.std.specs.Prelude.{◌≡◌, None, IfErr, OnOk};
-ghost use Rattle.rfb_wire.specs.Grammar.{message_limit};
 ghost use Rattle.host_session.specs.Fault.{UnlessMemory};
 ghost use Rattle.host_session.specs.Listening.{Listens, StopsListening, ListensToSome};
 
@@ -19,13 +18,14 @@ pub fn listen(
 ) -> Result<(), HostFault>
     requires { reader.old.fault ≡ None }
     ensures going { OnOk result (reader.new.fault ≡ None) }
-    ensures size { (reader.new.width ≡ reader.old.width) × (reader.new.height ≡ reader.old.height) }
-    ensures goes { OnOk result (Listens message_limit reader.old reader.new piece.now
+    ensures screen { (reader.new.format ≡ reader.old.format)
+        × (reader.new.width ≡ reader.old.width) × (reader.new.height ≡ reader.old.height) }
+    ensures goes { OnOk result (Listens reader.old reader.new piece.now
         out.old.items out.new.items due.old.items due.new.items) }
     ensures faults { IfErr result (λ f. UnlessMemory f
-        (StopsListening message_limit reader.old f piece.now
+        (StopsListening reader.old f piece.now
         out.old.items out.new.items due.old.items due.new.items)) }
-    ensures some { ListensToSome message_limit reader.old piece.now out.old.items out.new.items }
+    ensures some { ListensToSome reader.old piece.now out.old.items out.new.items }
 {
     let start = out.len();
     let heard = reader.feed(piece, out);

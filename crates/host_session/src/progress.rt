@@ -1,17 +1,17 @@
 //! A host's stream, heard in pieces and answered.
 
 ghost use Rattle.std.specs.Prelude.{◌≡◌, ℕ, List, ◌++◌, [], None, IfOk, IfErr, OnOk, Option};
-ghost use Rattle.rfb_wire.specs.Grammar.{message_limit};
 ghost use Rattle.rfb_wire.specs.Host.{Host};
-ghost use Rattle.terms.specs.declared.screen_size.ScreenSize.{ScreenSize};
+ghost use Rattle.host_session.specs.declared.expected.ExpectedScreen.{ExpectedScreen};
 
+use crate::expected::ExpectedScreen;
 use crate::fault::HostFault;
 use crate::handshake::Handshake;
 use crate::listening::listen;
 use crate::request::write_first_requests;
+use pixel_format::RecordedScreen;
 use rfb_wire::{HostMessage, ServerReader};
 use std::alloc::Global;
-use terms::ScreenSize;
 
 /// Where a session stands in the stream: in the handshake, or behind it.
 #[derive(Drop)]
@@ -27,8 +27,7 @@ impl Exchange {
     /// The start of a stream.
     pub fn new(alloc: Global) -> Exchange
         ensures going { IsGoingAt result }
-        ensures stands { (expected : Option ScreenSize)
-            → StandsAt message_limit expected result [] [] [] }
+        ensures stands { (expected : ExpectedScreen) → StandsAt expected result [] [] [] }
     {
         Exchange {
             handshake: Handshake::new(alloc),
@@ -41,7 +40,7 @@ impl Exchange {
     fn take_handshake(
         &mut self,
         alloc: Global,
-        expected: Option<ScreenSize>,
+        expected: ExpectedScreen,
         piece: &[u8],
         due: &mut Vec<u8>,
     ) -> Result<Option<usize>, HostFault>
@@ -56,7 +55,11 @@ impl Exchange {
             return Ok(None);
         };
         write_first_requests(whole.size, due)?;
-        self.reader = Some(ServerReader::new(alloc, whole.size));
+        let screen = RecordedScreen {
+            format: expected.format,
+            size: whole.size,
+        };
+        self.reader = Some(ServerReader::in_format(alloc, screen));
         Ok(Some(whole.taken))
     }
 
@@ -65,7 +68,7 @@ impl Exchange {
     pub fn feed(
         &mut self,
         alloc: Global,
-        expected: Option<ScreenSize>,
+        expected: ExpectedScreen,
         piece: &[u8],
         due: &mut Vec<u8>,
         out: &mut Vec<HostMessage>,
@@ -73,12 +76,12 @@ impl Exchange {
         requires going { IsGoingAt self.old }
         ensures going { OnOk result (IsGoingAt self.new) }
         ensures goes { OnOk result ((stream sent : List ℕ) → (messages : List Host)
-            → StandsAt message_limit expected self.old stream messages (sent ++ due.old.items)
-            → AdvancesTo message_limit expected self.new (stream ++ piece.now) messages
+            → StandsAt expected self.old stream messages (sent ++ due.old.items)
+            → AdvancesTo expected self.new (stream ++ piece.now) messages
             (sent ++ due.new.items) out.old.items out.new.items) }
         ensures faults { IfErr result (λ f. (stream sent : List ℕ) → (messages : List Host)
-            → StandsAt message_limit expected self.old stream messages (sent ++ due.old.items)
-            → HaltsAt message_limit expected self.new (stream ++ piece.now) messages
+            → StandsAt expected self.old stream messages (sent ++ due.old.items)
+            → HaltsAt expected self.new (stream ++ piece.now) messages
             (sent ++ due.new.items) f out.old.items out.new.items) }
     {
         if let Some(mut reader) = self.reader.take() {

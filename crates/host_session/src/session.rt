@@ -1,14 +1,15 @@
 //! The session with a host.
 
 ghost use Rattle.std.specs.Prelude.{◌≡◌, ℕ, List, ◌++◌, [], IfErr, OnOk, OnErr, None, Some, Ok, Err};
-ghost use Rattle.rfb_wire.specs.Grammar.{message_limit};
 ghost use Rattle.rfb_wire.specs.Host.{Host};
 ghost use Rattle.host_session.specs.declared.fault.HostFault.{HostFault};
 ghost use Rattle.host_session.specs.Fault.{UnlessMemory};
 ghost use Rattle.host_session.specs.Session.{IsAfter, Fed, Stopped, told_by, size_of, name_of, reason_in};
 
+use crate::expected::ExpectedScreen;
 use crate::fault::HostFault;
 use crate::progress::Exchange;
+use pixel_format::Format;
 use rfb_wire::HostMessage;
 use std::alloc::Global;
 use std::marker::Model;
@@ -37,7 +38,7 @@ fn make_due(heard: Result<(), HostFault>, said: &[u8], due: &mut Vec<u8>) -> Res
 #[derive(Drop)]
 pub struct HostSession {
     alloc: Global,
-    expected: Option<ScreenSize>,
+    expected: ExpectedScreen,
     progress: Exchange,
     due: Vec<u8>,
     fault: Option<HostFault>,
@@ -49,7 +50,8 @@ impl Model for HostSession {
     ghost Value = { Session };
 
     ghost view = { λ s. record {
-      expected = s.expected;
+      format = s.expected.format;
+      expected = s.expected.size;
       position = s.progress.handshake.position;
       kept = s.progress.handshake.kept.items;
       reader = s.progress.reader;
@@ -62,17 +64,33 @@ impl Model for HostSession {
 }
 
 impl HostSession {
-    /// A session at the start of a host's stream. Where a size is expected, in places, a host of
-    /// another size is refused.
+    /// A session at the start of a host's stream, for a recording of format 1. Where a size is
+    /// expected, in places, a host of another size is refused.
     pub fn new(alloc: Global, expected: Option<ScreenSize>) -> HostSession
-        ensures after { IsAfter message_limit result [] [] [] }
+        ensures after { IsAfter result [] [] [] }
         ensures due { result.due ≡ [] }
+        ensures format { result.format ≡ Format.One }
+        ensures expected { result.expected ≡ expected }
+        ensures going { result.fault ≡ None }
+    {
+        HostSession::in_format(alloc, Format::One, expected)
+    }
+
+    /// The same, for a recording of any format. A host is refused where its size is outside the
+    /// limits of that format, or an update has more bytes than they allow.
+    pub fn in_format(alloc: Global, format: Format, expected: Option<ScreenSize>) -> HostSession
+        ensures after { IsAfter result [] [] [] }
+        ensures due { result.due ≡ [] }
+        ensures format { result.format ≡ format }
         ensures expected { result.expected ≡ expected }
         ensures going { result.fault ≡ None }
     {
         HostSession {
             alloc,
-            expected,
+            expected: ExpectedScreen {
+                format,
+                size: expected,
+            },
             progress: Exchange::new(alloc),
             due: Vec::new(alloc),
             fault: None,
@@ -87,15 +105,13 @@ impl HostSession {
         // Whatever stream the session has got, it has got the piece too, and goes on: the messages
         // of all that stream are given, and what is due to it is due.
         ensures goes { OnOk result ((stream sent : List ℕ) → (messages : List Host)
-            → IsAfter message_limit self.old stream messages sent
-            → Fed message_limit self.new (stream ++ piece.now) messages sent
-            out.old.items out.new.items) }
+            → IsAfter self.old stream messages sent
+            → Fed self.new (stream ++ piece.now) messages sent out.old.items out.new.items) }
         // A fault stands in the stream, and the messages before it are given and answered.
         ensures faults { IfErr result (λ f. self.old.fault ≡ None
             → (stream sent : List ℕ) → (messages : List Host)
-            → IsAfter message_limit self.old stream messages sent
-            → Stopped message_limit self.new (stream ++ piece.now) messages sent f
-            out.old.items out.new.items) }
+            → IsAfter self.old stream messages sent
+            → Stopped self.new (stream ++ piece.now) messages sent f out.old.items out.new.items) }
         // Where memory ran out, just what was due before is due.
         ensures memory { result ≡ Err (HostFault.Wire WireFault.NoMemory)
             → self.new.due ≡ self.old.due }
@@ -103,6 +119,7 @@ impl HostSession {
         ensures stopped { IfErr result (λ f. self.new.fault ≡ Some f) }
         ensures for_good { (f : HostFault) → self.old.fault ≡ Some f
             → (result ≡ Err f) × (self.new ≡ self.old) × (out.new.items ≡ out.old.items) }
+        ensures format { self.new.format ≡ self.old.format }
         ensures expected { self.new.expected ≡ self.old.expected }
     {
         if let Some(fault) = self.fault {
@@ -126,8 +143,8 @@ impl HostSession {
             × (self.new ≡ record self.old { due = [] })) }
         ensures err { OnErr result ((out.new.items ≡ out.old.items) × (self.new ≡ self.old)) }
         ensures after { OnOk result ((stream sent : List ℕ) → (messages : List Host)
-            → IsAfter message_limit self.old stream messages sent
-            → IsAfter message_limit self.new stream messages (sent ++ self.old.due)) }
+            → IsAfter self.old stream messages sent
+            → IsAfter self.new stream messages (sent ++ self.old.due)) }
     {
         out.extend_from_slice(&self.due)?;
         self.due.clear();

@@ -4,10 +4,10 @@ ghost use Rattle.std.specs.Prelude.{◌≡◌, ℕ, ◌+◌, ◌<◌, ◌≤◌,
 ghost use Rattle.host_session.specs.Handshake.{is_expected, offers_security_none, text_limit};
 ghost use Rattle.host_session.specs.Stage.{wants_of, rank_of, answer_bytes, IsStep, IsFault, IsFurther};
 ghost use Rattle.terms.specs.Number.{u32_at};
-ghost use Rattle.terms.specs.declared.screen_size.ScreenSize.{ScreenSize};
+ghost use Rattle.host_session.specs.declared.expected.ExpectedScreen.{ExpectedScreen};
 
+use crate::expected::ExpectedScreen;
 use crate::fault::HostFault;
-use pixel_format::Format;
 use terms::{NoMemory, ScreenSize};
 
 /// A field of the handshake.
@@ -136,10 +136,10 @@ fn number_at(field: &[u8], at: usize) -> u32
 // Another version than 003.008 is refused (RFC 6143, section 7.1.1).
 fn behind_version(field: &[u8]) -> Result<AfterField, HostFault>
     requires { length field.now ≡ 12 }
-    ensures goes { IfOk result (λ s. (expected : Option ScreenSize)
+    ensures goes { IfOk result (λ s. (expected : ExpectedScreen)
         → IsStep expected Stage.Version field.now s) }
     ensures falls { IfOk result (λ s. IsFurther 9 s.position) }
-    ensures faults { IfErr result (λ f. (expected : Option ScreenSize)
+    ensures faults { IfErr result (λ f. (expected : ExpectedScreen)
         → IsFault expected Stage.Version field.now f) }
 {
     if field != VERSION.as_slice() {
@@ -151,7 +151,7 @@ fn behind_version(field: &[u8]) -> Result<AfterField, HostFault>
 // No security types are followed by a reason (RFC 6143, section 7.1.2).
 fn behind_count(field: &[u8]) -> AfterField
     requires { length field.now ≡ 1 }
-    ensures goes { (expected : Option ScreenSize) → IsStep expected Stage.Count field.now result }
+    ensures goes { (expected : ExpectedScreen) → IsStep expected Stage.Count field.now result }
     ensures falls { IsFurther 8 result.position }
 {
     if field[0] == 0 {
@@ -163,10 +163,10 @@ fn behind_count(field: &[u8]) -> AfterField
 // Of the types None is chosen, and the others aren't looked at.
 fn behind_types(count: u8, field: &[u8]) -> Result<AfterField, HostFault>
     requires { length field.now ≡ count }
-    ensures goes { IfOk result (λ s. (expected : Option ScreenSize)
+    ensures goes { IfOk result (λ s. (expected : ExpectedScreen)
         → IsStep expected (Stage.Types count) field.now s) }
     ensures falls { IfOk result (λ s. IsFurther 7 s.position) }
-    ensures faults { IfErr result (λ f. (expected : Option ScreenSize)
+    ensures faults { IfErr result (λ f. (expected : ExpectedScreen)
         → IsFault expected (Stage.Types count) field.now f) }
 {
     if !offers(field) {
@@ -178,8 +178,7 @@ fn behind_types(count: u8, field: &[u8]) -> Result<AfterField, HostFault>
 // A failure is followed by a reason (RFC 6143, section 7.1.3), and else ClientInit answers.
 fn behind_outcome(field: &[u8]) -> AfterField
     requires { length field.now ≡ 4 }
-    ensures goes { (expected : Option ScreenSize)
-        → IsStep expected Stage.Outcome field.now result }
+    ensures goes { (expected : ExpectedScreen) → IsStep expected Stage.Outcome field.now result }
     ensures falls { IsFurther 6 result.position }
 {
     if number_at(field, 0) != 0 {
@@ -188,8 +187,8 @@ fn behind_outcome(field: &[u8]) -> AfterField
     answered(Answer::One, Stage::Size)
 }
 
-// The limits are judged first, and then the size that is expected.
-fn behind_size(expected: Option<ScreenSize>, field: &[u8]) -> Result<AfterField, HostFault>
+// The limits of the format are judged first, and then the size that is expected.
+fn behind_size(expected: ExpectedScreen, field: &[u8]) -> Result<AfterField, HostFault>
     requires { length field.now ≡ 4 }
     ensures goes { IfOk result (λ s. IsStep expected Stage.Size field.now s) }
     ensures falls { IfOk result (λ s. IsFurther 5 s.position) }
@@ -199,10 +198,10 @@ fn behind_size(expected: Option<ScreenSize>, field: &[u8]) -> Result<AfterField,
         width: u16::from_be_bytes([field[0], field[1]]),
         height: u16::from_be_bytes([field[2], field[3]]),
     };
-    if !Format::One.limits().allow(size) {
+    if !expected.format.limits().allow(size) {
         return Err(HostFault::TooLarge);
     }
-    if !expects(expected, size) {
+    if !expects(expected.size, size) {
         return Err(HostFault::SizeDiffers);
     }
     Ok(next(Stage::Head { size }))
@@ -211,7 +210,7 @@ fn behind_size(expected: Option<ScreenSize>, field: &[u8]) -> Result<AfterField,
 // What is beyond the name's first bytes is read over.
 fn behind_name(size: ScreenSize, count: u32, field: &[u8]) -> AfterField
     requires { length field.now ≡ min count text_limit }
-    ensures goes { (expected : Option ScreenSize)
+    ensures goes { (expected : ExpectedScreen)
         → IsStep expected (Stage.Name size count) field.now result }
     ensures falls { IsFurther 3 result.position }
 {
@@ -225,11 +224,7 @@ fn behind_name(size: ScreenSize, count: u32, field: &[u8]) -> AfterField
 }
 
 /// What follows from the whole field of a stage.
-pub fn behind(
-    expected: Option<ScreenSize>,
-    stage: Stage,
-    field: &[u8],
-) -> Result<AfterField, HostFault>
+pub fn behind(expected: ExpectedScreen, stage: Stage, field: &[u8]) -> Result<AfterField, HostFault>
     requires { length field.now ≡ wants_of stage }
     ensures goes { IfOk result (λ s. IsStep expected stage field.now s) }
     ensures falls { IfOk result (λ s. IsFurther (rank_of stage) s.position) }

@@ -5,7 +5,8 @@ use Rattle.pixel_format.specs.declared.Color.{Color}
 use Rattle.pixel_format.specs.Format.{Format, host_format, pixel_bytes}
 use Rattle.pixel_format.specs.Pixel.{converted}
 use Rattle.pixel_format.specs.Limits.{limits}
-use Rattle.pixel_format.specs.declared.kind.Format.TheVariants.{One}
+use Rattle.pixel_format.specs.declared.kind.Format.{Format as RecordingFormat}
+use Rattle.pixel_format.proofs.Sizes.{are_limits}
 use Rattle.terms.specs.Appending.{Appends}
 use Rattle.terms.specs.declared.area.Area.{Area}
 use Rattle.terms.specs.declared.screen_size.ScreenSize.{ScreenSize}
@@ -29,17 +30,17 @@ use Rattle.painter.proofs.Updates.{paints_colors, encoding_kept}
 from_none : (n : ℕ) → 0 + n ≡ n
 from_none n = omega arith
 
-key_of : (screen : Framebuffer) (colors : List Color) (e : Encoding) (bytes one : List ℕ) (m : Host) → AreColorsOf screen (whole_area screen.width screen.height) colors
-    → (e ≡ encodings.Raw) ⊎ (e ≡ encodings.Hextile) → bytes ≡ parts_head 1 ++ one → IsRectangle host_format (whole_area screen.width screen.height) colors e one → length bytes ≤ message_limit
-    → ((n : Host) → IsFor message_limit screen.width screen.height n → n.bytes ≡ bytes → m ≡ n) → IsKey screen.width screen.height (color_at screen) m
-key_of screen colors e bytes one m are kind is rectangle short only =
+key_of : (format : RecordingFormat) (screen : Framebuffer) (colors : List Color) (e : Encoding) (bytes one : List ℕ) (m : Host) → AreColorsOf screen (whole_area screen.width screen.height) colors
+    → (e ≡ encodings.Raw) ⊎ (e ≡ encodings.Hextile) → bytes ≡ parts_head 1 ++ one → IsRectangle host_format (whole_area screen.width screen.height) colors e one → length bytes ≤ message_limit format
+    → ((n : Host) → IsFor format screen.width screen.height n → n.bytes ≡ bytes → m ≡ n) → IsKey screen.width screen.height (color_at screen) m
+key_of format screen colors e bytes one m are kind is rectangle short only =
     let w = screen.width in
     let h = screen.height in
     let inside : LiesWithin w h (whole_area w h) = record { columns = omega arith; rows = omega arith } in
-    let p = paints_colors w h (whole_area w h) colors e bytes one is rectangle inside short in
-    let n : Host = host_of w h bytes (p.rectangle ∷ []) in
-    let kept = encoding_kept w h (whole_area w h) colors e bytes one is rectangle inside short in
-    let same : m ≡ n = only n (record { width_is = refl; height_is = refl; recorded = p.recorded }) refl in
+    let p = paints_colors format w h (whole_area w h) colors e bytes one is rectangle inside short in
+    let n : Host = host_of format w h bytes (p.rectangle ∷ []) in
+    let kept = encoding_kept format w h (whole_area w h) colors e bytes one is rectangle inside short in
+    let same : m ≡ n = only n (record { format_is = refl; width_is = refl; height_is = refl; recorded = p.recorded }) refl in
     let key : IsKey w h (color_at screen) n = record {
       width_is = refl;
       height_is = refl;
@@ -86,17 +87,17 @@ alone : (P : List ℕ → Type 0) (empty bytes : List ℕ) → empty ≡ [] → 
 alone P empty bytes first a = subst P (sym (a.is ∙ ap (λ l. l ++ a.bytes) first)) a.are
 
 -- the same, in the words of the calls that make it
-pub key_made : (screen : Framebuffer) (size : ScreenSize) → size ≡ record { width = screen.width; height = screen.height } → screen.width * screen.height ≤ (limits One).area
+pub key_made : (format : RecordingFormat) (screen : Framebuffer) (size : ScreenSize) → size ≡ record { width = screen.width; height = screen.height } → screen.width * screen.height ≤ (limits format).area
     → AreColorsOf screen (whole_area screen.width screen.height) (area_colors screen (whole_area screen.width screen.height))
     → (empty bytes told : List ℕ) → empty ≡ [] → Appends (whole_update screen size) empty bytes → told ≡ bytes
-    → (m : Host) → ((n : Host) → IsFor message_limit size.width size.height n → n.bytes ≡ told → m ≡ n) → IsKey screen.width screen.height (color_at screen) m
-key_made screen size is few are empty bytes told first updated are_told m one =
+    → (m : Host) → ((n : Host) → IsFor format size.width size.height n → n.bytes ≡ told → m ≡ n) → IsKey screen.width screen.height (color_at screen) m
+key_made format screen size is few are empty bytes told first updated are_told m one =
     let area = whole_area screen.width screen.height in
     let Q : ScreenSize → Type 0 = λ s. whole_update screen s bytes in
     let sent = single host_format screen area encodings.Hextile bytes (subst Q is (alone (whole_update screen size) empty bytes first updated)) in
     let update : IsUpdateFor host_format area (area_colors screen area) encodings.Hextile bytes =
     subst (λ l. IsUpdateFor host_format area l encodings.Hextile bytes) (same_colors (area_colors screen area)) sent in
-    let short : length bytes ≤ message_limit = omega (arith, no_longer host_format area (area_colors screen area) encodings.Hextile bytes update, few) in
-    let S : ScreenSize → Type 0 = λ s. (n : Host) → IsFor message_limit s.width s.height n → n.bytes ≡ told → m ≡ n in
+    let short : length bytes ≤ message_limit format = omega (arith, (are_limits format).key, no_longer host_format area (area_colors screen area) encodings.Hextile bytes update, few) in
+    let S : ScreenSize → Type 0 = λ s. (n : Host) → IsFor format s.width s.height n → n.bytes ≡ told → m ≡ n in
     let only = subst S is one in
-    key_of screen (area_colors screen area) update.is.encoding bytes update.rectangle m are (kind_of update.is.encoding update.is.encoding_is) update.bytes_are update.is.is short (λ n for equal. only n for (equal ∙ sym are_told))
+    key_of format screen (area_colors screen area) update.is.encoding bytes update.rectangle m are (kind_of update.is.encoding update.is.encoding_is) update.bytes_are update.is.is short (λ n for equal. only n for (equal ∙ sym are_told))

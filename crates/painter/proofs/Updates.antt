@@ -2,6 +2,8 @@
 use Rattle.std.proofs.Common.{◌≡◌, ℕ, ◌+◌, ◌-◌, ◌*◌, ◌/◌, ◌%◌, ◌≤◌, List, [], ◌∷◌, ◌++◌, length, take, inl, refl, sym, ap, subst, ◌∙◌, arith}
 use Rattle.std.specs.Prelude.{slice_range}
 use Rattle.std.proofs.lemmas.List.{append-nil, drop_at, take_all}
+use Rattle.pixel_format.proofs.Sizes.{are_limits}
+use Rattle.pixel_format.specs.declared.kind.Format.{Format}
 use Rattle.pixel_format.specs.declared.Color.{Color}
 use Rattle.pixel_format.specs.Format.{host_format}
 use Rattle.pixel_format.specs.Canvas.{Picture}
@@ -59,9 +61,9 @@ is_rectangle width height area colors e body inside shows = record {
   end_is = refl;
 }
 
-is_message : (width height : ℕ) (area : Area) (colors : List Color) (e : Encoding) (bytes one : List ℕ) → bytes ≡ parts_head 1 ++ one → (r : IsRectangleIn host_format area colors e one)
-    → LiesWithin width height area → length bytes ≤ message_limit → IsMessage message_limit width height bytes (rectangle_of area e r.body ∷ [])
-is_message width height area colors e bytes one is r inside short =
+is_message : (format : Format) (width height : ℕ) (area : Area) (colors : List Color) (e : Encoding) (bytes one : List ℕ) → bytes ≡ parts_head 1 ++ one → (r : IsRectangleIn host_format area colors e one)
+    → LiesWithin width height area → length bytes ≤ message_limit format → IsMessage (message_limit format) width height bytes (rectangle_of area e r.body ∷ [])
+is_message format width height area colors e bytes one is r inside short =
     let first : List ℕ = rectangle_head area (number_of e) ++ r.body in
     record {
       kind = inl (
@@ -76,7 +78,7 @@ is_message width height area colors e bytes one is r inside short =
         },
         short,
       );
-      short = omega (arith, short);
+      short = omega (arith, short, (are_limits format).text);
     }
 
 -- the data of the rectangle
@@ -91,20 +93,20 @@ one_painted : (bytes : List ℕ) (r : Rectangle) (before : Picture) → painted_
 unfolding painted_rectangles
 one_painted bytes r before = refl
 
-pub paints_colors : (width height : ℕ) (area : Area) (colors : List Color) (e : Encoding) (bytes one : List ℕ) → bytes ≡ parts_head 1 ++ one → IsRectangleIn host_format area colors e one
-    → LiesWithin width height area → length bytes ≤ message_limit → PaintsColors width height area colors bytes
-paints_colors width height area colors e bytes one is r inside short =
+pub paints_colors : (format : Format) (width height : ℕ) (area : Area) (colors : List Color) (e : Encoding) (bytes one : List ℕ) → bytes ≡ parts_head 1 ++ one → IsRectangleIn host_format area colors e one
+    → LiesWithin width height area → length bytes ≤ message_limit format → PaintsColors format width height area colors bytes
+paints_colors format width height area colors e bytes one is r inside short =
     let rectangle = rectangle_of area e r.body in
     record {
       rectangle = rectangle;
       area_is = refl;
-      recorded = message_is_read message_limit width height bytes (rectangle ∷ []) (is_message width height area colors e bytes one is r inside short);
+      recorded = message_is_read (message_limit format) width height bytes (rectangle ∷ []) (is_message format width height area colors e bytes one is r inside short);
       paints = λ before.
           let painted = one_painted bytes rectangle before ∙ ap (λ (z : List ℕ). painted_data host_format e area z before) (data_of area colors e bytes one is r) in
           subst (λ (p : Picture). HasColors area colors before p) (sym painted) (has_colors host_format area e r.body colors before r.shows);
     }
 
-pub encoding_kept : (width height : ℕ) (area : Area) (colors : List Color) (e : Encoding) (bytes one : List ℕ) (is : bytes ≡ parts_head 1 ++ one) (r : IsRectangleIn host_format area colors e one)
-    (inside : LiesWithin width height area) (short : length bytes ≤ message_limit) → (paints_colors width height area colors e bytes one is r inside short).rectangle.encoding ≡ e
+pub encoding_kept : (format : Format) (width height : ℕ) (area : Area) (colors : List Color) (e : Encoding) (bytes one : List ℕ) (is : bytes ≡ parts_head 1 ++ one) (r : IsRectangleIn host_format area colors e one)
+    (inside : LiesWithin width height area) (short : length bytes ≤ message_limit format) → (paints_colors format width height area colors e bytes one is r inside short).rectangle.encoding ≡ e
 unfolding paints_colors
-encoding_kept width height area colors e bytes one is r inside short = refl
+encoding_kept format width height area colors e bytes one is r inside short = refl

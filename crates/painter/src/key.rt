@@ -2,13 +2,12 @@
 
 ghost use Rattle.std.specs.Prelude.{◌≡◌, ◌↔◌, ◌+◌, ◌*◌, ◌≤◌, length, IfOk, IsTrue};
 ghost use Rattle.pixel_format.specs.Limits.{limits};
-ghost use Rattle.pixel_format.specs.declared.kind.Format.TheVariants.{One};
 ghost use Rattle.painter.specs.Framebuffer.{SameSize, color_at};
 ghost use Rattle.painter.specs.Key.{IsKey, IsWhole};
 
 use crate::screen::Screen;
 use crate::update::ScreenPart;
-use pixel_format::PixelFormat;
+use pixel_format::{Format, PixelFormat, RecordedScreen};
 use rfb_wire::{Encoding, HostMessage, Rectangle};
 use std::alloc::{AllocError, Global};
 use terms::{Area, NoMemory, ScreenSize};
@@ -24,11 +23,13 @@ fn is_whole(size: ScreenSize, rectangle: Rectangle) -> bool
 }
 
 impl Screen {
-    /// An update that paints the screen over whatever stood there (RFC 6143, section 7.6.1): one
-    /// rectangle over the whole screen, in Hextile where that is shorter than Raw and else in Raw. It
-    /// has at most 16 bytes and 4 more for each place. It is for a screen within the limits.
-    pub fn key(&self, alloc: Global) -> Result<HostMessage, NoMemory>
-        requires { self.now.width * self.now.height ≤ (limits One).area }
+    /// An update that paints the screen over whatever stood there (RFC 6143, section 7.6.1), for a
+    /// recording of this format: one rectangle over the whole screen, in Hextile where that is
+    /// shorter than Raw and else in Raw. It has at most 16 bytes and 4 more for each place. It is for
+    /// a screen within the limits of the format.
+    pub fn key(&self, alloc: Global, format: Format) -> Result<HostMessage, NoMemory>
+        requires { self.now.width * self.now.height ≤ (limits format).area }
+        ensures format { IfOk result (λ m. m.format ≡ format) }
         ensures key { IfOk result (IsKey self.now.width self.now.height (color_at self.now)) }
         ensures short { IfOk result (λ m. length m.bytes ≤ 16 + 4 * (self.now.width * self.now.height)) }
     {
@@ -47,7 +48,7 @@ impl Screen {
         let host = PixelFormat::host();
         let mut bytes = Vec::new(alloc);
         self.append_update(alloc, &host, &[places], &mut bytes)?;
-        match HostMessage::from_bytes(alloc, size, &bytes) {
+        match HostMessage::from_bytes_in(alloc, RecordedScreen { format, size }, &bytes) {
             Ok(message) => Ok(message),
             Err(_) => Err(AllocError),
         }

@@ -2,6 +2,7 @@
 
 ghost use Rattle.std.specs.Prelude.{ℕ, ◌≤◌, List, length};
 ghost use Rattle.pixel_format.specs.Format.{host_format};
+ghost use Rattle.pixel_format.specs.declared.kind.Format.{Format};
 ghost use Rattle.rect_data.specs.Data.{LiesWithin};
 ghost use Rattle.rect_codec.specs.Parts.{IsUpdateFor};
 ghost use Rattle.rfb_wire.specs.Grammar.{message_limit};
@@ -14,8 +15,8 @@ ghost use Rattle.rect_data.specs.declared.encoding.Encoding.{Encoding};
 /// message of one rectangle where it is no longer than a message may be. Painted over any picture, it
 /// gives the places of the area the colours, and leaves the others as they were.
 pub fn written_update_paints()
-    ensures { (width height : ℕ) → (area : Area) → (colors : List Color) → (asked : Encoding)
+    ensures { (format : Format) → (width height : ℕ) → (area : Area) → (colors : List Color) → (asked : Encoding)
         → (bytes : List ℕ) → IsUpdateFor host_format area colors asked bytes
-        → LiesWithin width height area → length bytes ≤ message_limit
-        → PaintsColors width height area colors bytes }
+        → LiesWithin width height area → length bytes ≤ message_limit format
+        → PaintsColors format width height area colors bytes }
 {}

@@ -1,7 +1,7 @@
 //! The formats of a recording, and the limits of what each records.
 
 ghost use Rattle.std.specs.Prelude.{◌≡◌, ◌↔◌, ◌<◌, IsTrue};
-ghost use Rattle.pixel_format.specs.Limits.{limits, IsSize, is_size};
+ghost use Rattle.pixel_format.specs.Limits.{limits, AreLimits, IsSize, is_size};
 
 use terms::ScreenSize;
 
@@ -13,6 +13,14 @@ pub enum Format {
     One,
     /// The same, each with a digest that continues the one before it.
     Two,
+}
+
+/// A screen that is recorded: its size, and the format of the recording, by whose limits its
+/// messages are judged.
+#[derive(Clone, Copy, Debug, PartialEq, Eq)]
+pub struct RecordedScreen {
+    pub format: Format,
+    pub size: ScreenSize,
 }
 
 /// The limits of what a format records.
@@ -31,18 +39,28 @@ pub struct Limits {
 }
 
 impl Format {
-    /// Its limits. Both formats have the same so far: sides to 8,192, an area to 2^23, messages to
-    /// 2^26 bytes, bodies to 2^27 bytes, 64 seats.
+    /// Its limits. Format 1 has sides to 8,192, an area to 2^23, messages to 2^26 bytes, bodies to
+    /// 2^27 bytes and 64 seats; format 2 sides to 16,384, an area to 2^25, messages to 2^28 bytes,
+    /// bodies to 2^29 bytes and 256 seats.
     pub const fn limits(self) -> Limits
-        ensures { result ≡ limits self }
+        ensures value { result ≡ limits self }
+        ensures bounds { AreLimits result }
     {
-        let _ = self;
-        Limits {
-            side: 8192,
-            area: 1 << 23,
-            message: 1 << 26,
-            body: 1 << 27,
-            seats: 64,
+        match self {
+            Format::One => Limits {
+                side: 8192,
+                area: 1 << 23,
+                message: 1 << 26,
+                body: 1 << 27,
+                seats: 64,
+            },
+            Format::Two => Limits {
+                side: 16384,
+                area: 1 << 25,
+                message: 1 << 28,
+                body: 1 << 29,
+                seats: 256,
+            },
         }
     }
 }

@@ -15,7 +15,7 @@ mod votes;
 pub use canvas::Canvas;
 pub use colors::same;
 pub use format::{PixelFormat, host_pixel};
-pub use kind::{Format, Limits};
+pub use kind::{Format, Limits, RecordedScreen};
 pub use laws::{valid_formats, written_as_read};
 pub use pixels::Pixels;
 pub use runs::end_of_number;

@@ -1,15 +1,17 @@
 -- Those who come to watch a recorder, and what it waits for.
-use Rattle.std.specs.Prelude.{ℕ, ◌+◌, ◌-◌, ◌==◌, ◌&&◌, ◌||◌, Bool, true, false, Option, Some, None, if◌then◌else◌}
+use Rattle.std.specs.Prelude.{ℕ, ◌+◌, ◌-◌, min, ◌==◌, ◌&&◌, ◌||◌, Bool, true, false, Option, Some, None, if◌then◌else◌}
 use Rattle.reception.specs.declared.term.Term.{Term}
 use Rattle.reception.specs.declared.term.Term.TheVariants.{Viewers, Recording, Stop}
 use Rattle.reception.specs.declared.term.Reason.TheVariants.{Full, Closing}
 use Rattle.reception.specs.declared.term.Arrival.{Arrival}
 use Rattle.reception.specs.declared.term.Arrival.TheVariants.{Greeted, TurnedAway, Dropped}
 
--- greeting: connections whose handshake is under way; watching: viewers who have a seat; gone: those
--- who had one and left; ended: nothing more is recorded; stopped: it was asked to end
+-- seats: how many viewers may have one at a time, and how many handshakes may be under way; greeting:
+-- connections whose handshake is under way; watching: viewers who have a seat; gone: those who had one
+-- and left; ended: nothing more is recorded; stopped: it was asked to end
 pub record State : Type 0 where
   pub term : Term
+  pub seats : ℕ
   pub greeting : ℕ
   pub watching : ℕ
   pub gone : ℕ
@@ -22,14 +24,14 @@ viewers_of (Viewers n) = Some n
 viewers_of Recording = None
 viewers_of Stop = None
 
--- how many viewers may still take a seat: of 64 at a time, and where a number of viewers is settled,
--- of so many in all
-abbrev places_among : Option ℕ → ℕ → ℕ → ℕ
-places_among None watching gone = 64 - watching
-places_among (Some n) watching gone = n - (watching + gone)
+-- how many viewers may still take a seat: of the seats that there are, and where a number of viewers
+-- is settled, of so many in all
+abbrev places_among : Option ℕ → ℕ → ℕ → ℕ → ℕ
+places_among None seats watching gone = seats - watching
+places_among (Some n) seats watching gone = min (seats - watching) (n - (watching + gone))
 
 abbrev pub free_places : State → ℕ
-free_places s = places_among (viewers_of s.term) s.watching s.gone
+free_places s = places_among (viewers_of s.term) s.seats s.watching s.gone
 
 -- a recorder that goes on as long as its recording ends with it
 abbrev ends_with_recording : Term → Bool
@@ -53,7 +55,7 @@ is_done s = s.ended && (s.watching == 0) && (is_closing s || have_all_gone (view
 -- how a connection is received that comes now
 abbrev pub arrival_at : State → Arrival
 arrival_at s =
-    if s.greeting == 64 then Dropped
+    if s.greeting == s.seats then Dropped
     else (if is_closing s then TurnedAway Closing
     else (if free_places s == 0 then TurnedAway Full else Greeted))
 

@@ -6,17 +6,12 @@ ghost use Rattle.reception.specs.State.{viewers_of, free_places, is_closing, is_
 use crate::term::{Arrival, Reason, Term};
 use std::marker::Model;
 
-/// How many handshakes may be under way at a time.
-const HANDSHAKES: u32 = 64;
-
-/// How many viewers may have a seat at a time.
-const SEATS: u32 = 64;
-
 /// Counts those who come to watch a recorder, and knows when it has nothing left to wait for.
 /// Contracts see the counts.
 #[derive(Drop)]
 pub struct Reception {
     term: Term,
+    seats: u32,
     greeting: u32,
     watching: u32,
     gone: u64,
@@ -32,6 +27,7 @@ impl Model for Reception {
 
     ghost view = { λ r. record {
       term = r.term;
+      seats = r.seats;
       greeting = r.greeting;
       watching = r.watching;
       gone = r.gone;
@@ -39,19 +35,19 @@ impl Model for Reception {
       stopped = r.is_stopped;
     } };
 
-    ghost invariant = { λ r. (r.greeting ≤ 64) × (r.watching ≤ 64)
-        × ((n : ℕ) → viewers_of r.term ≡ Some n → (n ≤ 64) × (r.watching + r.gone ≤ n)) };
+    ghost invariant = { λ r. (r.greeting ≤ r.seats) × (r.watching ≤ r.seats)
+        × ((n : ℕ) → viewers_of r.term ≡ Some n → r.watching + r.gone ≤ n) };
 }
 
 impl Reception {
-    /// One that nobody came to yet, of a recorder that goes on for so long: for 64 viewers at most,
-    /// where it is for a number of them.
-    pub fn new(term: Term) -> Reception
-        requires { (n : ℕ) → viewers_of term ≡ Some n → n ≤ 64 }
-        ensures { result ≡ record { term = term; greeting = 0; watching = 0; gone = 0; ended = false; stopped = false } }
+    /// One that nobody came to yet, of a recorder that goes on for so long and has so many seats: as
+    /// many viewers may watch at a time, and as many handshakes be under way.
+    pub fn new(term: Term, seats: u32) -> Reception
+        ensures { result ≡ record { term = term; seats = seats; greeting = 0; watching = 0; gone = 0; ended = false; stopped = false } }
     {
         Reception {
             term,
+            seats,
             greeting: 0,
             watching: 0,
             gone: 0,
@@ -60,11 +56,12 @@ impl Reception {
         }
     }
 
-    /// Does nothing: its contract is what always holds. No more than 64 handshakes are under way and
-    /// 64 viewers are there; and where a recorder serves so many viewers, no more ever had a seat.
+    /// Does nothing: its contract is what always holds. No more handshakes are under way, and no more
+    /// viewers are there, than there are seats; and where a recorder serves so many viewers, no more
+    /// ever had a seat.
     pub fn known(&self)
-        ensures greeting { self.now.greeting ≤ 64 }
-        ensures watching { self.now.watching ≤ 64 }
+        ensures greeting { self.now.greeting ≤ self.now.seats }
+        ensures watching { self.now.watching ≤ self.now.seats }
         ensures all { (n : ℕ) → viewers_of self.now.term ≡ Some n → self.now.watching + self.now.gone ≤ n }
     {
         let _watching = self.watching;
@@ -74,9 +71,13 @@ impl Reception {
     fn free_places(&self) -> u32
         ensures { result ≡ free_places self.now }
     {
+        let empty = self.seats - self.watching;
         match self.term {
-            Term::Viewers(all) => all - (self.watching + self.gone as u32),
-            Term::Recording | Term::Stop => SEATS - self.watching,
+            Term::Viewers(all) => {
+                let left = all - (self.watching + self.gone as u32);
+                empty.min(left)
+            }
+            Term::Recording | Term::Stop => empty,
         }
     }
 
@@ -105,9 +106,9 @@ impl Reception {
     pub fn arrive(&mut self) -> Arrival
         ensures result { result ≡ arrival_at self.old }
         ensures dropped { result ≡ Arrival.Dropped → self.new ≡ self.old }
-        ensures received { self.old.greeting < 64 → self.new ≡ record self.old { greeting = self.old.greeting + 1 } }
+        ensures received { self.old.greeting < self.old.seats → self.new ≡ record self.old { greeting = self.old.greeting + 1 } }
     {
-        if self.greeting == HANDSHAKES {
+        if self.greeting == self.seats {
             return Arrival::Dropped;
         }
         self.greeting += 1;

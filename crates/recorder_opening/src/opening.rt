@@ -78,16 +78,17 @@ impl<
     'a,
     R: AllocGlobal + Clock + Eprint + Files<File = File> + Net<Stream = TcpStream> + Wait,
 > Opening<'a, R> {
-    // The host's connection, if there is a host; of the size of the recording that was found.
+    // The host's connection, if there is a host; of the size and in the format of the recording that
+    // was found.
     fn host(&self, found: &Found) -> Result<Option<Box<Host>>, Stopped> {
         let Some(address) = self.plan.host else {
             return Ok(None);
         };
-        let expected = match found {
-            Found::Recording(book, _) => Some(book.header().size()),
-            _ => None,
+        let (format, expected) = match found {
+            Found::Recording(book, _) => (book.header().format(), Some(book.header().size())),
+            _ => (self.plan.format, None),
         };
-        let host = Host::connect(self.rt, address, expected, self.telling)?;
+        let host = Host::connect(self.rt, address, format, expected, self.telling)?;
         match Box::new(self.rt.alloc(), host) {
             Ok(host) => Ok(Some(host)),
             Err(_) => Err(Stopped::out_of_memory()),

@@ -5,6 +5,8 @@ use Rattle.std.proofs.lemmas.List.{take_all, take_at, length-take, get_or-take}
 use Rattle.std.proofs.lemmas.Bool.{ltb-true, ltb-false}
 use Rattle.terms.specs.Reading.{Got, More, Bad, field, within}
 use Rattle.terms.proofs.Readings.{true_or_false, within-short, within-long}
+use Rattle.pixel_format.proofs.Sizes.{are_limits}
+use Rattle.pixel_format.specs.declared.kind.Format.{Format}
 use Rattle.rfb_wire.specs.declared.message.Rectangle.{Rectangle}
 use Rattle.terms.specs.declared.wire_fault.WireFault.{WireFault}
 use Rattle.terms.specs.declared.wire_fault.WireFault.TheVariants as faults
@@ -51,34 +53,34 @@ unfolding within
 front_got limit width height bytes after m some is got = kind_update limit width height bytes some is ∙ rw got refl
 
 -- a front of the bytes that is a whole message
-pub record WholeFront (width height : ℕ) (bytes after : List ℕ) (rs : List Rectangle) : Type 0 where
+pub record WholeFront (format : Format) (width height : ℕ) (bytes after : List ℕ) (rs : List Rectangle) : Type 0 where
   pub whole : List ℕ
-  pub front_is : take message_limit bytes ≡ whole ++ after
-  pub recorded : IsRecorded message_limit (host_of width height whole rs)
-  pub reads : message_at message_limit width height bytes ≡ Got (Recorded rs) (after ++ drop message_limit bytes)
+  pub front_is : take (message_limit format) bytes ≡ whole ++ after
+  pub recorded : IsRecorded (host_of format width height whole rs)
+  pub reads : message_at (message_limit format) width height bytes ≡ Got (Recorded rs) (after ++ drop (message_limit format) bytes)
 
-pub front_whole : (width height : ℕ) (bytes after : List ℕ) (rs : List Rectangle) → 0 < length bytes → slice_index bytes 0 ≡ 0
-    → update_at width height (take message_limit bytes) ≡ Got (Recorded rs) after → WholeFront width height bytes after rs
-front_whole width height bytes after rs some is got =
-    let front : slice_index (take message_limit bytes) 0 ≡ 0 = get_or-take message_limit bytes 0 0 (omega arith) ∙ is in
-    let u = update_read width height (take message_limit bytes) rs after front got in
+pub front_whole : (format : Format) (width height : ℕ) (bytes after : List ℕ) (rs : List Rectangle) → 0 < length bytes → slice_index bytes 0 ≡ 0
+    → update_at width height (take (message_limit format) bytes) ≡ Got (Recorded rs) after → WholeFront format width height bytes after rs
+front_whole format width height bytes after rs some is got =
+    let front : slice_index (take (message_limit format) bytes) 0 ≡ 0 = get_or-take (message_limit format) bytes 0 0 (omega (arith, (are_limits format).text)) ∙ is in
+    let u = update_read width height (take (message_limit format) bytes) rs after front got in
     let lengths = ap length u.1 in
-    let short : length u.0 ≤ message_limit = omega (arith, length-append u.0 after, length-take message_limit bytes) in
+    let short : length u.0 ≤ (message_limit format) = omega (arith, length-append u.0 after, length-take (message_limit format) bytes) in
     record {
       whole = u.0;
       front_is = u.1;
-      recorded = message_is_read message_limit width height u.0 rs (record { kind = inl (u.2, short); short = omega arith });
-      reads = front_got message_limit width height bytes after (Recorded rs) some is got;
+      recorded = message_is_read (message_limit format) width height u.0 rs (record { kind = inl (u.2, short); short = omega (arith, (are_limits format).text) });
+      reads = front_got (message_limit format) width height bytes after (Recorded rs) some is got;
     }
 
 -- the front that the code takes
-pub front_taken : (n : ℕ) (bytes : List ℕ) → n ≡ min (length bytes) message_limit → take n bytes ≡ take message_limit bytes
-front_taken n bytes is = elim (true_or_false (nat_lt message_limit (length bytes))) [
-  | inl t ↦ (let long = ltb-true message_limit (length bytes) t in let e : n ≡ message_limit = omega arith in ap (λ k. take k bytes) e)
+pub front_taken : (format : Format) (n : ℕ) (bytes : List ℕ) → n ≡ min (length bytes) (message_limit format) → take n bytes ≡ take (message_limit format) bytes
+front_taken format n bytes is = elim (true_or_false (nat_lt (message_limit format) (length bytes))) [
+  | inl t ↦ (let long = ltb-true (message_limit format) (length bytes) t in let e : n ≡ (message_limit format) = omega arith in ap (λ k. take k bytes) e)
   | inr t ↦
-      (let short = ltb-false message_limit (length bytes) t in
+      (let short = ltb-false (message_limit format) (length bytes) t in
       let e : n ≡ length bytes = omega arith in
-      take_all n bytes (omega arith) ∙ sym (take_all message_limit bytes short))
+      take_all n bytes (omega arith) ∙ sym (take_all (message_limit format) bytes short))
 ]
 
 -- the bytes of the message that the code takes

@@ -13,3 +13,4 @@ pub mod FrontOthers
 pub mod UpdatesTold
 pub mod Short
 pub mod Taken
+pub mod Retold

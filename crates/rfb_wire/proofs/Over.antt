@@ -5,9 +5,10 @@ use Rattle.std.proofs.lemmas.List.{length-replicate, append-nil}
 use Rattle.terms.specs.Reading.{Got, More, ◌>>=◌, field}
 use Rattle.terms.proofs.Readings.{bind_got, skip_more, skip_whole, skip_waits, true_or_false}
 use Rattle.terms.specs.Number.{u16_at}
+use Rattle.pixel_format.specs.declared.kind.Format.{Format}
 use Rattle.rfb_wire.specs.declared.progress.Over.{Over}
 use Rattle.rfb_wire.specs.declared.progress.PartialMessage.{PartialMessage}
-use Rattle.rfb_wire.specs.Grammar.{Recorded, ReadOver, message_at, update_at, rectangles_at, read_over}
+use Rattle.rfb_wire.specs.Grammar.{message_limit, Recorded, ReadOver, message_at, update_at, rectangles_at, read_over}
 use Rattle.rfb_wire.specs.Host.{Host}
 use Rattle.rfb_wire.specs.Reader.{head_limit}
 use Rattle.rfb_wire.specs.PartialMessage.{IsAt, IsInField, IsOver, passed_in, unlimited_at}
@@ -86,15 +87,15 @@ over_goes limit width height n bytes o is few = record {
 }
 
 -- where all have passed, the message is whole
-pub pass_ends : (limit width height : ℕ) (bytes kept : List ℕ) (o : Over) (passed : ℕ) (old : List Host) (rest taken : List ℕ) → IsOver limit width height bytes o
+pub pass_ends : (format : Format) (width height : ℕ) (bytes kept : List ℕ) (o : Over) (passed : ℕ) (old : List Host) (rest taken : List ℕ) → IsOver (message_limit format) width height bytes o
     → StandsFor bytes o.passed rest → length taken ≡ o.left → kept ≡ [] → passed ≡ 0
-    → Moves (message_at limit width height) (given width height) kept passed old old (rest ++ taken)
-pass_ends limit width height bytes kept o passed old rest taken over s is none no_passed =
-    let whole : message_at limit width height (rest ++ taken) ≡ Got ReadOver [] =
-    ap (λ z. message_at limit width height (z ++ taken)) s.is ∙ over.link s.skipped taken s.count ∙ read_over_whole o.left taken is in
+    → Moves (message_at (message_limit format) width height) (given format width height) kept passed old old (rest ++ taken)
+pass_ends format width height bytes kept o passed old rest taken over s is none no_passed =
+    let whole : message_at (message_limit format) width height (rest ++ taken) ≡ Got ReadOver [] =
+    ap (λ z. message_at (message_limit format) width height (z ++ taken)) s.is ∙ over.link s.skipped taken s.count ∙ read_over_whole o.left taken is in
     record {
       rest = [];
-      gives = gives_one (message_at limit width height) (given width height) old old ReadOver (rest ++ taken) whole (sym (append-nil old));
+      gives = gives_one (message_at (message_limit format) width height) (given format width height) old old ReadOver (rest ++ taken) whole (sym (append-nil old));
       stands = rw (none, no_passed) (stands_whole []);
     }
 
@@ -112,20 +113,20 @@ pub at_waits : (limit width height : ℕ) (p : PartialMessage) → IsAt limit wi
 at_waits limit width height p at rest s = waits_by limit width height p p.over at rest s
 
 -- a message that is whole at its head
-pub once_ends : (limit width height : ℕ) (bytes kept : List ℕ) (passed : ℕ) (old : List Host) → message_at limit width height bytes ≡ Got ReadOver []
-    → kept ≡ [] → passed ≡ 0 → Moves (message_at limit width height) (given width height) kept passed old old bytes
-once_ends limit width height bytes kept passed old whole none no_passed = record {
+pub once_ends : (format : Format) (width height : ℕ) (bytes kept : List ℕ) (passed : ℕ) (old : List Host) → message_at (message_limit format) width height bytes ≡ Got ReadOver []
+    → kept ≡ [] → passed ≡ 0 → Moves (message_at (message_limit format) width height) (given format width height) kept passed old old bytes
+once_ends format width height bytes kept passed old whole none no_passed = record {
   rest = [];
-  gives = gives_one (message_at limit width height) (given width height) old old ReadOver bytes whole (sym (append-nil old));
+  gives = gives_one (message_at (message_limit format) width height) (given format width height) old old ReadOver bytes whole (sym (append-nil old));
   stands = rw (none, no_passed) (stands_whole []);
 }
 
 -- a message that is kept as far as it came
-pub kept_stands : (limit width height : ℕ) (kept : List ℕ) (passed : ℕ) (old : List Host) (stream : List ℕ) → stream ≡ kept → passed ≡ 0
-    → Moves (message_at limit width height) (given width height) kept passed old old stream
-kept_stands limit width height kept passed old stream is none = record {
+pub kept_stands : (format : Format) (width height : ℕ) (kept : List ℕ) (passed : ℕ) (old : List Host) (stream : List ℕ) → stream ≡ kept → passed ≡ 0
+    → Moves (message_at (message_limit format) width height) (given format width height) kept passed old old stream
+kept_stands format width height kept passed old stream is none = record {
   rest = kept;
-  gives = gives_none (message_at limit width height) (given width height) old old stream kept refl is;
+  gives = gives_none (message_at (message_limit format) width height) (given format width height) old old stream kept refl is;
   stands = rw none (stands_whole kept);
 }
 

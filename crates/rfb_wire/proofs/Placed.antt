@@ -7,6 +7,7 @@ use Rattle.std.proofs.lemmas.List.Elements.{All-from_recursion}
 use Rattle.pixel_format.specs.Format.{host_format}
 use Rattle.rect_data.specs.Data.{AreData}
 use Rattle.rfb_wire.specs.declared.message.Rectangle.{Rectangle}
+use Rattle.rfb_wire.specs.Grammar.{message_limit}
 use Rattle.rfb_wire.specs.Host.{Host, IsPlaced, IsRecorded}
 use Rattle.rfb_wire.specs.Message.{IsRectangle, AreRectangles}
 use Rattle.rfb_wire.proofs.Messages.{read_is_message}
@@ -55,9 +56,9 @@ rectangles_placed m front body at (r ∷ rs) bytes_are front_is (first, rest, is
     )
 
 -- each rectangle of a recorded message has its place
-pub recorded_placed : (limit : ℕ) (m : Host) → IsRecorded limit m → All (IsPlaced m) m.rectangles
-recorded_placed limit m e =
-    let is = read_is_message limit m.width m.height m.bytes m.rectangles e in
+pub recorded_placed : (m : Host) → IsRecorded m → All (IsPlaced m) m.rectangles
+recorded_placed m e =
+    let is = read_is_message (message_limit m.format) m.width m.height m.bytes m.rectangles e in
     All-from_recursion (IsPlaced m) m.rectangles (elim is.kind [
       | inl u ↦ rectangles_placed m (0 ∷ (u.0).padding ∷ (u.0).high ∷ (u.0).low ∷ []) (u.0).body 4 m.rectangles (u.0).bytes_are refl (u.0).body_is
       | inr o ↦ subst (AllByRecursion (IsPlaced m)) (sym o.0) tt

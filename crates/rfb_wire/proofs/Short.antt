@@ -5,6 +5,8 @@ use Rattle.terms.specs.Reading.{Got, ◌>>=◌, field, within}
 use Rattle.terms.proofs.Readings.{bind_got, within_got, true_or_false}
 use Rattle.terms.specs.declared.wire_fault.WireFault.{WireFault}
 use Rattle.terms.specs.declared.wire_fault.WireFault.TheVariants as faults
+use Rattle.pixel_format.proofs.Sizes.{are_limits}
+use Rattle.pixel_format.specs.declared.kind.Format.{Format}
 use Rattle.rfb_wire.specs.declared.message.Rectangle.{Rectangle}
 use Rattle.rfb_wire.specs.declared.progress.Over.{Over}
 use Rattle.rfb_wire.specs.declared.progress.PartialMessage.{PartialMessage}
@@ -80,19 +82,19 @@ other_short limit width height bytes done (stages.TextData n) l few other = omeg
 other_short limit width height bytes done (stages.RectangleHead at others) l few other = absurd (of_update_not bytes l.kind other)
 other_short limit width height bytes done (stages.Data at begun next others) l few other = absurd (of_update_not bytes l.kind other)
 
-short_by : (width height : ℕ) (p : PartialMessage) (o : Option Over)
-    → MatchOption o (IsInField message_limit width height p) (λ v. IsOver message_limit width height p.bytes.items v) → IsShort message_limit width height p.bytes.items
-short_by width height p None at = record {
+short_by : (format : Format) (width height : ℕ) (p : PartialMessage) (o : Option Over)
+    → MatchOption o (IsInField (message_limit format) width height p) (λ v. IsOver (message_limit format) width height p.bytes.items v) → IsShort (message_limit format) width height p.bytes.items
+short_by format width height p None at = record {
   limited = at.linked.short;
-  other = other_short message_limit width height p.bytes.items p.rectangles.items p.stage at.linked at.unfinished;
-  head = in_field message_limit width height p.bytes.items p.rectangles.items p.stage at.linked at.unfinished;
+  other = other_short (message_limit format) width height p.bytes.items p.rectangles.items p.stage at.linked at.unfinished;
+  head = in_field (message_limit format) width height p.bytes.items p.rectangles.items p.stage at.linked at.unfinished;
 }
-short_by width height p (Some o) at = record {
-  limited = omega (arith, at.short);
+short_by format width height p (Some o) at = record {
+  limited = omega (arith, at.short, (are_limits format).text);
   other = λ other. omega (arith, at.short);
   head = λ more rest e. at.short;
 }
 
 -- wherever a reader stands
-pub at_short : (width height : ℕ) (p : PartialMessage) → IsAt message_limit width height p → IsShort message_limit width height p.bytes.items
-at_short width height p at = short_by width height p p.over at
+pub at_short : (format : Format) (width height : ℕ) (p : PartialMessage) → IsAt (message_limit format) width height p → IsShort (message_limit format) width height p.bytes.items
+at_short format width height p at = short_by format width height p p.over at

@@ -4,6 +4,7 @@ use Rattle.std.specs.Prelude.{if◌then◌else◌}
 use Rattle.std.proofs.lemmas.List.{append-nil, drop_all, drop-append-le, take_at, take-append-drop, length-drop}
 use Rattle.pixel_format.specs.Format.{host_format}
 use Rattle.rect_data.proofs.Steps.{field_waits as data_waits}
+use Rattle.pixel_format.specs.declared.kind.Format.{Format}
 use Rattle.rfb_wire.specs.Host.{host_of, IsRecorded}
 use Rattle.terms.specs.Reading.{Reading, Got, More, Bad, ◌>>=◌, field, within}
 use Rattle.terms.proofs.Readings.{field-whole, field-short, within-short, within-long}
@@ -12,7 +13,7 @@ use Rattle.terms.specs.declared.wire_fault.WireFault.{WireFault}
 use Rattle.terms.specs.declared.wire_fault.WireFault.TheVariants as faults
 use Rattle.rfb_wire.specs.declared.progress.Stage.{Stage}
 use Rattle.rfb_wire.specs.declared.progress.Stage.TheVariants as stages
-use Rattle.rfb_wire.specs.Grammar.{update_at, message_at, other_at, color_map_at, text_at, text_data_at, read_over, Message, Recorded, rectangle_at, rectangles_at}
+use Rattle.rfb_wire.specs.Grammar.{message_limit, update_at, message_at, other_at, color_map_at, text_at, text_data_at, read_over, Message, Recorded, rectangle_at, rectangles_at}
 use Rattle.rfb_wire.specs.PartialMessage.{wants_of, start_of, unlimited_at, behind, others_at, resume, go_on, step_on, Linked, Follows, NextBegins, NextIsOfKind, IsInField, IsOfKind, IsOfUpdate}
 use Rattle.rfb_wire.specs.declared.progress.PartialMessage.{PartialMessage}
 use Rattle.rfb_wire.specs.declared.progress.Next.{Next}
@@ -220,10 +221,10 @@ turn_faults limit width height n kept piece taken f is short fault =
     fault
 
 -- what is whole within the limit is recorded
-pub whole_recorded : (limit width height : ℕ) (bytes whole : List ℕ) (rectangles : List Rectangle) → bytes ≡ whole → length whole ≤ limit
-    → unlimited_at width height whole ≡ Got (Recorded rectangles) [] → IsRecorded limit (host_of width height bytes rectangles)
-whole_recorded limit width height bytes whole rectangles is short e =
-    ap (message_at limit width height) is ∙ message-short limit width height whole short ∙ e
+pub whole_recorded : (format : Format) (width height : ℕ) (bytes whole : List ℕ) (rectangles : List Rectangle) → bytes ≡ whole → length whole ≤ message_limit format
+    → unlimited_at width height whole ≡ Got (Recorded rectangles) [] → IsRecorded (host_of format width height bytes rectangles)
+whole_recorded format width height bytes whole rectangles is short e =
+    ap (message_at (message_limit format) width height) is ∙ message-short (message_limit format) width height whole short ∙ e
 
 -- where a field isn't whole, the message waits
 pub field_waits : (limit width height : ℕ) (p : PartialMessage) → IsInField limit width height p → message_at limit width height p.bytes.items ≡ More

@@ -4,7 +4,7 @@
 use Rattle.std.specs.Prelude.{ℕ, nat_lt, zero, suc, ◌+◌, ◌-◌, ◌*◌, List, [], ◌∷◌, length, slice_index, nat_eq, Option, Some, None, if◌then◌else◌}
 use Rattle.pixel_format.specs.Format.{host_format}
 use Rattle.pixel_format.specs.Limits.{limits}
-use Rattle.pixel_format.specs.declared.kind.Format.TheVariants.{One}
+use Rattle.pixel_format.specs.declared.kind.Format.{Format}
 use Rattle.terms.specs.Reading.{Reading, Got, Bad, ◌>>=◌, field, guard, within}
 use Rattle.terms.specs.Number.{u16_at, u32_at}
 use Rattle.terms.specs.declared.area.Area.{Area}
@@ -98,6 +98,6 @@ message_at limit width height bytes = field 1 bytes >>= λ type rest.
     if nat_eq (slice_index type 0) 0 then within limit faults.TooLong (update_at width height) bytes
     else other_at (slice_index type 0) rest
 
--- the greatest number of bytes of an update
-abbrev pub message_limit : ℕ
-message_limit = (limits One).message
+-- the greatest number of bytes of an update that is recorded in this format
+abbrev pub message_limit : Format → ℕ
+message_limit format = (limits format).message

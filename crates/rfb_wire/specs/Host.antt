@@ -1,31 +1,34 @@
 -- One recorded message of a host.
 use Rattle.std.specs.Prelude.{◌≡◌, ℕ, ◌+◌, ◌≤◌, Bool, false, nat_eq, List, [], ◌∷◌, length, slice_range}
 use Rattle.pixel_format.specs.Format.{host_format}
+use Rattle.pixel_format.specs.declared.kind.Format.{Format}
 use Rattle.terms.specs.Reading.{Got}
 use Rattle.rfb_wire.specs.declared.message.Rectangle.{Rectangle}
 use Rattle.rect_data.specs.Data.{AreData}
-use Rattle.rfb_wire.specs.Grammar.{message_at, Recorded}
+use Rattle.rfb_wire.specs.Grammar.{message_at, message_limit, Recorded}
 
--- a message for a screen of this size: its bytes, and where its rectangles stand in them
+-- a message for a screen of this size, which is recorded in this format: its bytes, and where its
+-- rectangles stand in them
 pub record Host : Type 0 where
+  pub format : Format
   pub width : ℕ
   pub height : ℕ
   pub bytes : List ℕ
   pub rectangles : List Rectangle
 
-abbrev pub host_of : ℕ → ℕ → List ℕ → List Rectangle → Host
-host_of width height bytes rectangles =
-    record { width = width; height = height; bytes = bytes; rectangles = rectangles }
+abbrev pub host_of : Format → ℕ → ℕ → List ℕ → List Rectangle → Host
+host_of format width height bytes rectangles =
+    record { format = format; width = width; height = height; bytes = bytes; rectangles = rectangles }
 
 -- A message is told to be an update by its first byte, the type (RFC 6143, section 7.6.1).
 abbrev pub is_update : List ℕ → Bool
 is_update [] = false
 is_update (type ∷ bytes) = nat_eq type 0
 
--- the bytes are one recorded message, of these rectangles, and of at most so many bytes if it is an
--- update
-abbrev pub IsRecorded : ℕ → Host → Type 0
-IsRecorded limit m = message_at limit m.width m.height m.bytes ≡ Got (Recorded m.rectangles) []
+-- the bytes are one recorded message, of these rectangles, and of no more bytes than its format
+-- allows if it is an update
+abbrev pub IsRecorded : Host → Type 0
+IsRecorded m = message_at (message_limit m.format) m.width m.height m.bytes ≡ Got (Recorded m.rectangles) []
 
 -- A rectangle lies within the screen, and its data, in the host format, within the message.
 pub record IsPlaced (m : Host) (r : Rectangle) : Type 0 where

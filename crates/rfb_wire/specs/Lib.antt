@@ -10,4 +10,5 @@ pub mod Judged
 pub mod Behind
 pub mod Reader
 pub mod Written
+pub mod Whole
 pub mod Plain

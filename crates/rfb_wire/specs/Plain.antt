@@ -1,6 +1,7 @@
 -- What a function that reads from the front of bytes answers, by the grammar.
 use Rattle.std.specs.Prelude.{◌≡◌, ◌≤◌, ℕ, Bool, true, false, List, [], ◌++◌, length, drop, Option, Some, None, Result, Ok, Err}
 use Rattle.terms.specs.Reading.{Reading, Got, More, Bad}
+use Rattle.pixel_format.specs.declared.kind.Format.{Format}
 use Rattle.terms.specs.declared.wire_fault.WireFault.{WireFault}
 use Rattle.rfb_wire.specs.declared.plain.Front.{Front}
 use Rattle.rfb_wire.specs.declared.plain.Front.TheVariants as fronts
@@ -16,8 +17,8 @@ Says value rest (Ok None) reading = reading ≡ More
 Says value rest (Err f) reading = UnlessMemory f (reading ≡ Bad f)
 
 -- the same of a message, which is a front of the bytes
-pub record Begins (limit width height : ℕ) (bytes : List ℕ) (m : Host) (reading : Reading Message WireFault) : Type 0 where
-  pub is : IsFor limit width height m
+pub record Begins (format : Format) (width height : ℕ) (bytes : List ℕ) (m : Host) (reading : Reading Message WireFault) : Type 0 where
+  pub is : IsFor format width height m
   pub behind : List ℕ
   pub bytes_are : bytes ≡ m.bytes ++ behind
   pub reads : reading ≡ Got (Recorded m.rectangles) behind
@@ -32,8 +33,8 @@ pub record Passes (n : ℕ) (bytes : List ℕ) (reading : Reading Message WireFa
   pub within : n ≤ length bytes
   pub reads : reading ≡ Got ReadOver (drop n bytes)
 
-abbrev pub SaysMessage : ℕ → ℕ → ℕ → List ℕ → Result (Option Front) WireFault → Reading Message WireFault → Type 0
-SaysMessage limit width height bytes (Ok (Some (fronts.Recorded m))) reading = Begins limit width height bytes m reading
-SaysMessage limit width height bytes (Ok (Some (fronts.ReadOver n))) reading = Passes n bytes reading
-SaysMessage limit width height bytes (Ok None) reading = reading ≡ More
-SaysMessage limit width height bytes (Err f) reading = UnlessMemory f (reading ≡ Bad f)
+abbrev pub SaysMessage : Format → ℕ → ℕ → List ℕ → Result (Option Front) WireFault → Reading Message WireFault → Type 0
+SaysMessage format width height bytes (Ok (Some (fronts.Recorded m))) reading = Begins format width height bytes m reading
+SaysMessage format width height bytes (Ok (Some (fronts.ReadOver n))) reading = Passes n bytes reading
+SaysMessage format width height bytes (Ok None) reading = reading ≡ More
+SaysMessage format width height bytes (Err f) reading = UnlessMemory f (reading ≡ Bad f)

@@ -1,14 +1,16 @@
 -- What contracts see of a reader of a host's stream.
-use Rattle.std.specs.Prelude.{◌≡◌, ℕ, ◌<◌, ◌≤◌, List, ◌++◌, length, false, Option}
+use Rattle.std.specs.Prelude.{◌≡◌, ℕ, ◌<◌, ◌≤◌, List, [], ◌++◌, length, false, Option, None}
+use Rattle.pixel_format.specs.declared.kind.Format.{Format}
 use Rattle.terms.specs.Reading.{Got}
 use Rattle.terms.specs.declared.wire_fault.WireFault.{WireFault}
 use Rattle.rfb_wire.specs.Grammar.{ReadOver, message_at}
 use Rattle.rfb_wire.specs.Host.{is_update}
 
--- The screen's size; of an unfinished message the bytes that are kept and the number of those that
--- are read over; for how many bytes, and for how many of their rectangles, there is room; and the
--- fault that was met, if one was.
+-- The format of the recording, and the screen's size; of an unfinished message the bytes that are
+-- kept and the number of those that are read over; for how many bytes, and for how many of their
+-- rectangles, there is room; and the fault that was met, if one was.
 pub record Reader : Type 0 where
+  pub format : Format
   pub width : ℕ
   pub height : ℕ
   pub kept : List ℕ
@@ -16,6 +18,11 @@ pub record Reader : Type 0 where
   pub room : ℕ
   pub places : ℕ
   pub fault : Option WireFault
+
+-- a reader at the start of a stream
+abbrev pub at_start : Format → ℕ → ℕ → Reader
+at_start format width height =
+    record { format = format; width = width; height = height; kept = []; passed = 0; room = 0; places = 0; fault = None }
 
 -- the greatest number of bytes before those of a message that are read over: type, padding, and how
 -- many colours or bytes of text follow

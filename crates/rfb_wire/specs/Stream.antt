@@ -1,15 +1,17 @@
 -- What is given of a stream of a host's messages.
 use Rattle.std.specs.Prelude.{◌≡◌, ℕ, List, [], ◌∷◌}
+use Rattle.pixel_format.specs.declared.kind.Format.{Format}
 use Rattle.rfb_wire.specs.Grammar.{Message, Recorded, ReadOver}
 use Rattle.rfb_wire.specs.Host.{Host, host_of, IsRecorded}
 
--- a recorded message for a screen of this size
-pub record IsFor (limit width height : ℕ) (m : Host) : Type 0 where
+-- a recorded message for a screen of this size, which is recorded in this format
+pub record IsFor (format : Format) (width height : ℕ) (m : Host) : Type 0 where
+  pub format_is : m.format ≡ format
   pub width_is : m.width ≡ width
   pub height_is : m.height ≡ height
-  pub recorded : IsRecorded limit m
+  pub recorded : IsRecorded m
 
 -- a recorded message is given with its bytes, and one that is read over isn't
-abbrev pub given : ℕ → ℕ → Message → List ℕ → List Host
-given width height (Recorded rectangles) bytes = host_of width height bytes rectangles ∷ []
-given width height ReadOver bytes = []
+abbrev pub given : Format → ℕ → ℕ → Message → List ℕ → List Host
+given format width height (Recorded rectangles) bytes = host_of format width height bytes rectangles ∷ []
+given format width height ReadOver bytes = []

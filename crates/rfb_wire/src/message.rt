@@ -1,9 +1,10 @@
 //! Recorded messages of a host.
 
-ghost use Rattle.std.specs.Prelude.{◌≡◌, ◌↔◌, ◌≤◌, All, IsTrue, IfOk, Err, MatchResult, length};
+ghost use Rattle.std.specs.Prelude.{◌≡◌, ◌↔◌, ◌≤◌, All, IsTrue, IfOk, length};
 
 use crate::fault::BytesFault;
 use crate::reader::ServerReader;
+use pixel_format::{Format, RecordedScreen};
 use rect_data::Encoding;
 use std::alloc::Global;
 use std::marker::Model;
@@ -23,13 +24,12 @@ pub struct Rectangle {
 /// they came and, for an update, where its rectangles stand in them.
 #[derive(Drop)]
 pub struct HostMessage {
-    size: ScreenSize,
+    screen: RecordedScreen,
     bytes: Vec<u8>,
     rectangles: Vec<Rectangle>,
 }
 
 impl Model for HostMessage {
-    ghost use Rattle.rfb_wire.specs.Grammar.{message_limit};
     ghost use Rattle.rfb_wire.specs.Host.{Host, IsRecorded};
 
     ghost Value = { Host };
@@ -37,62 +37,69 @@ impl Model for HostMessage {
     ghost view = { λ m. record {
       bytes = m.bytes.items;
       rectangles = m.rectangles.items;
-      width = m.size.width;
-      height = m.size.height;
+      format = m.screen.format;
+      width = m.screen.size.width;
+      height = m.screen.size.height;
     } };
 
-    ghost invariant = { λ m. IsRecorded message_limit (record {
-      width = m.size.width;
-      height = m.size.height;
+    ghost invariant = { λ m. IsRecorded (record {
+      format = m.screen.format;
+      width = m.screen.size.width;
+      height = m.screen.size.height;
       bytes = m.bytes.items;
       rectangles = m.rectangles.items;
     }) };
 }
 
 impl HostMessage {
-    ghost use Rattle.terms.specs.declared.wire_fault.WireFault.{WireFault};
-    ghost use Rattle.rfb_wire.specs.Grammar.{message_at, message_limit};
-    ghost use Rattle.rfb_wire.specs.Host.{Host, host_of, is_update, IsRecorded, IsPlaced};
+    ghost use Rattle.pixel_format.specs.Limits.{limits, AreLimits};
+    ghost use Rattle.rfb_wire.specs.Grammar.{message_limit};
+    ghost use Rattle.rfb_wire.specs.Host.{host_of, is_update, IsRecorded, IsPlaced};
     ghost use Rattle.rfb_wire.specs.Message.{IsUpdate};
-    ghost use Rattle.terms.specs.Fault.{UnlessMemory};
-    ghost use Rattle.client_wire.specs.Stream.{FaultOf};
-    ghost use Rattle.rfb_wire.specs.Stream.{IsFor};
+    ghost use Rattle.rfb_wire.specs.Whole.{IsReadBack};
 
     // The message whose parts these are.
     pub(crate) fn from_parts(
-        size: ScreenSize,
+        screen: RecordedScreen,
         bytes: Vec<u8>,
         rectangles: Vec<Rectangle>,
     ) -> HostMessage
-        requires { IsRecorded message_limit (host_of size.width size.height bytes.items rectangles.items) }
-        ensures { result ≡ host_of size.width size.height bytes.items rectangles.items }
+        requires { IsRecorded (host_of screen.format screen.size.width screen.size.height bytes.items rectangles.items) }
+        ensures { result ≡ host_of screen.format screen.size.width screen.size.height bytes.items rectangles.items }
     {
         HostMessage {
-            size,
+            screen,
             bytes,
             rectangles,
         }
     }
 
-    /// The message that is all of the bytes, for a screen of this size. Where they aren't exactly
-    /// one recorded message, the fault is that of a reader which is fed them, else `NotOne`.
+    /// The message that is all of the bytes, for a screen of this size that is recorded in format 1.
+    /// Where they aren't exactly one recorded message, the fault is that of a reader which is fed
+    /// them, else `NotOne`.
     pub fn from_bytes(
         alloc: Global,
         size: ScreenSize,
         bytes: &[u8],
     ) -> Result<HostMessage, BytesFault>
-        ensures ok { IfOk result (λ m. IsFor message_limit size.width size.height m × (m.bytes ≡ bytes.now)) }
-        // What is one message is read as that message.
-        ensures whole { (m : Host) → IsFor message_limit size.width size.height m → m.bytes ≡ bytes.now
-            → MatchResult result (λ n. n ≡ m) (λ f. f ≡ BytesFault.Wire WireFault.NoMemory) }
-        ensures not_one { result ≡ Err BytesFault.NotOne → (m : Host)
-            → IsFor message_limit size.width size.height m → m.bytes ≡ bytes.now → ⊥ }
-        ensures no_fault { result ≡ Err BytesFault.NotOne → (f : WireFault)
-            → FaultOf (message_at message_limit size.width size.height) bytes.now f → ⊥ }
-        ensures wire { (f : WireFault) → result ≡ Err (BytesFault.Wire f)
-            → UnlessMemory f (FaultOf (message_at message_limit size.width size.height) bytes.now f) }
+        ensures { IsReadBack Format.One size.width size.height bytes.now result }
     {
-        let mut reader = ServerReader::new(alloc, size);
+        let screen = RecordedScreen {
+            format: Format::One,
+            size,
+        };
+        HostMessage::from_bytes_in(alloc, screen, bytes)
+    }
+
+    /// The same, for a screen that is recorded in any format.
+    pub fn from_bytes_in(
+        alloc: Global,
+        screen: RecordedScreen,
+        bytes: &[u8],
+    ) -> Result<HostMessage, BytesFault>
+        ensures { IsReadBack screen.format screen.size.width screen.size.height bytes.now result }
+    {
+        let mut reader = ServerReader::in_format(alloc, screen);
         let mut messages = Vec::new(alloc);
         if reader.reserve(bytes.len()).is_err() {
             return Err(BytesFault::Wire(WireFault::NoMemory));
@@ -120,7 +127,14 @@ impl HostMessage {
     pub fn size(&self) -> ScreenSize
         ensures { result ≡ record { width = self.now.width; height = self.now.height } }
     {
-        self.size
+        self.screen.size
+    }
+
+    /// The format of the recording that the message is for.
+    pub fn format(&self) -> Format
+        ensures { result ≡ self.now.format }
+    {
+        self.screen.format
     }
 
     /// Whether the message is a FramebufferUpdate (RFC 6143, section 7.6.1).
@@ -135,29 +149,31 @@ impl HostMessage {
         }
     }
 
-    /// Whether the other message is the same: its bytes are the same, for a screen of the same size.
+    /// Whether the other message is the same: its bytes are the same, for a screen of the same size
+    /// that is recorded in the same format.
     pub fn same(&self, other: &HostMessage) -> bool
         ensures equal { IsTrue result ↔ (self.now ≡ other.now) }
-        // Size and bytes determine a message.
-        ensures parts { IsTrue result ↔ ((self.now.width ≡ other.now.width)
+        // Format, size and bytes determine a message.
+        ensures parts { IsTrue result ↔ ((self.now.format ≡ other.now.format) × (self.now.width ≡ other.now.width)
             × (self.now.height ≡ other.now.height) × (self.now.bytes ≡ other.now.bytes)) }
     {
-        self.size == other.size && self.bytes == other.bytes
+        self.screen == other.screen && self.bytes == other.bytes
     }
 
     /// Does nothing: its contract is what the type keeps.
     pub fn known(&self)
-        ensures recorded { IsRecorded message_limit self.now }
-        ensures short { length self.now.bytes ≤ message_limit }
+        ensures recorded { IsRecorded self.now }
+        ensures short { length self.now.bytes ≤ message_limit self.now.format }
+        ensures bounds { AreLimits (limits self.now.format) }
     {
-        let _ = &self.size;
+        let _ = &self.screen;
     }
 
     /// The rectangles of an update, in their order; none of another message. Each lies within the
     /// screen.
     pub fn rectangles(&self) -> &[Rectangle]
         ensures value { result.now ≡ self.now.rectangles }
-        ensures recorded { IsRecorded message_limit self.now }
+        ensures recorded { IsRecorded self.now }
         ensures placed { All (IsPlaced self.now) self.now.rectangles }
     {
         &self.rectangles
@@ -170,7 +186,7 @@ impl HostMessage {
         let bytes = Vec::from_slice(alloc, self.bytes())?;
         let rectangles = Vec::from_slice(alloc, self.rectangles())?;
         Ok(HostMessage {
-            size: self.size,
+            screen: self.screen,
             bytes,
             rectangles,
         })

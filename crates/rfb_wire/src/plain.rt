@@ -1,6 +1,6 @@
 //! The grammar of messages as a plain function, which has all the bytes before it.
 
-ghost use Rattle.std.specs.Prelude.{◌≡◌, ◌+◌, ◌*◌, ◌<◌, ◌≤◌, slice_index, nat_eq, true, false, length, IfOk, IfSome, MatchOption};
+ghost use Rattle.std.specs.Prelude.{◌≡◌, ◌+◌, ◌*◌, ◌<◌, ◌^◌, slice_index, nat_eq, true, false, length, IfOk, IfSome, MatchOption};
 ghost use Rattle.terms.specs.Reading.{Got, More};
 ghost use Rattle.rfb_wire.specs.Grammar.{rectangle_at, rectangles_at, update_at, color_map_at, text_at, other_at, message_at, message_limit, Recorded, ReadOver};
 ghost use Rattle.rfb_wire.specs.Plain.{Says, SaysMessage, kind_of};
@@ -8,7 +8,7 @@ ghost use Rattle.rfb_wire.specs.Plain.{Says, SaysMessage, kind_of};
 use crate::message::{HostMessage, Rectangle};
 use crate::progress::message_limit;
 use crate::step::{TEXT_LIMIT, judge_header};
-use pixel_format::PixelFormat;
+use pixel_format::{PixelFormat, RecordedScreen};
 use rect_data::measure;
 use std::alloc::Global;
 use terms::{ScreenSize, WireFault, field};
@@ -28,7 +28,7 @@ fn rectangle(
     at: usize,
     bytes: &[u8],
 ) -> Result<Option<(Rectangle, &[u8])>, WireFault>
-    requires { at + length bytes.now ≤ message_limit }
+    requires { at + length bytes.now < 2 ^ 32 }
     ensures says { Says (λ x. x.0) (λ x. x.1.now) result (rectangle_at size.width size.height at bytes.now) }
     ensures ends { IfOk result (λ o. IfSome o (λ x.
         x.0.end + length x.1.now ≡ at + length bytes.now)) }
@@ -59,7 +59,7 @@ fn rectangles(
     count: u16,
     bytes: &[u8],
 ) -> Result<Option<(Vec<Rectangle>, &[u8])>, WireFault>
-    requires { 4 + length bytes.now ≤ message_limit }
+    requires { 4 + length bytes.now < 2 ^ 32 }
     ensures { Says (λ x. x.0.items) (λ x. x.1.now) result
         (rectangles_at size.width size.height count 4 bytes.now) }
 {
@@ -83,7 +83,7 @@ fn update(
     size: ScreenSize,
     bytes: &[u8],
 ) -> Result<Option<(Vec<Rectangle>, &[u8])>, WireFault>
-    requires { length bytes.now ≤ message_limit }
+    requires { length bytes.now < 2 ^ 32 }
     ensures { Says (λ x. Recorded x.0.items) (λ x. x.1.now) result
         (update_at size.width size.height bytes.now) }
 {
@@ -141,41 +141,45 @@ fn other(kind: u8, bytes: &[u8]) -> Result<Option<(bool, &[u8])>, WireFault>
 }
 
 // The update that the bytes begin with, whose type is read.
-fn update_message(alloc: Global, size: ScreenSize, bytes: &[u8]) -> Result<Option<Front>, WireFault>
+fn update_message(
+    alloc: Global,
+    screen: RecordedScreen,
+    bytes: &[u8],
+) -> Result<Option<Front>, WireFault>
     requires some { 0 < length bytes.now }
     requires kind { slice_index bytes.now 0 ≡ 0 }
-    ensures { SaysMessage message_limit size.width size.height bytes.now result
-        (message_at message_limit size.width size.height bytes.now) }
+    ensures { SaysMessage screen.format screen.size.width screen.size.height bytes.now result
+        (message_at (message_limit screen.format) screen.size.width screen.size.height bytes.now) }
 {
-    let limit = message_limit();
+    let limit = message_limit(screen.format);
     let front = &bytes[..bytes.len().min(limit)];
-    let Some((rectangles, rest)) = update(alloc, size, front)? else {
+    let Some((rectangles, rest)) = update(alloc, screen.size, front)? else {
         if bytes.len() > limit {
             return Err(WireFault::TooLong);
         }
         return Ok(None);
     };
     let whole = Vec::from_slice(alloc, &front[..front.len() - rest.len()])?;
-    let message = HostMessage::from_parts(size, whole, rectangles);
+    let message = HostMessage::from_parts(screen, whole, rectangles);
     Ok(Some(Front::Recorded(message)))
 }
 
-/// The message that the bytes begin with, for a screen of this size; `None` where they are too few
+/// The message that the bytes begin with, for this screen; `None` where they are too few
 /// for it, and the fault that they begin with. It reads the bytes from their front, while a
 /// `ServerReader` takes them in pieces.
 pub fn read_message(
     alloc: Global,
-    size: ScreenSize,
+    screen: RecordedScreen,
     bytes: &[u8],
 ) -> Result<Option<Front>, WireFault>
-    ensures { SaysMessage message_limit size.width size.height bytes.now result
-        (message_at message_limit size.width size.height bytes.now) }
+    ensures { SaysMessage screen.format screen.size.width screen.size.height bytes.now result
+        (message_at (message_limit screen.format) screen.size.width screen.size.height bytes.now) }
 {
     let Some((kind, rest)) = field(1, bytes) else {
         return Ok(None);
     };
     if kind[0] == 0 {
-        return update_message(alloc, size, bytes);
+        return update_message(alloc, screen, bytes);
     }
     let Some((recorded, behind)) = other(kind[0], rest)? else {
         return Ok(None);
@@ -185,6 +189,6 @@ pub fn read_message(
         return Ok(Some(Front::ReadOver(length)));
     }
     let whole = Vec::from_slice(alloc, &bytes[..length])?;
-    let message = HostMessage::from_parts(size, whole, Vec::new(alloc));
+    let message = HostMessage::from_parts(screen, whole, Vec::new(alloc));
     Ok(Some(Front::Recorded(message)))
 }

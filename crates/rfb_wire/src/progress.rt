@@ -2,6 +2,8 @@
 
 ghost use Rattle.std.specs.Prelude.{◌≡◌, ℕ, ◌<◌, ◌≤◌, ◌^◌, ◌+◌, ◌++◌, ◌⊎◌, [], ◌∷◌, List, length, take, max, vec_capacity, IfOk, OnOk, IfErr, OnErr, Ok, Err, None};
 ghost use Rattle.terms.specs.Appending.{room_for};
+ghost use Rattle.pixel_format.specs.Limits.{limits, AreLimits};
+ghost use Rattle.pixel_format.specs.declared.kind.Format.{Format};
 ghost use Rattle.std.specs.Option.{option_to_list};
 ghost use Rattle.terms.specs.Reading.{Got, Bad};
 ghost use Rattle.rfb_wire.specs.Grammar.{message_at, Recorded, message_limit};
@@ -13,16 +15,17 @@ ghost use Rattle.rfb_wire.specs.Stream.{given};
 
 use crate::message::{HostMessage, Rectangle};
 use crate::step::{run, step};
-use pixel_format::{Format, PixelFormat};
+use pixel_format::{Format, PixelFormat, RecordedScreen};
 use rect_data::{Encoding, Judging};
 use std::alloc::Global;
-use terms::{Area, ScreenSize, WireFault, append_come};
+use terms::{Area, WireFault, append_come};
 
-/// The greatest number of bytes of an update.
-pub fn message_limit() -> usize
-    ensures { result ≡ message_limit }
+/// The greatest number of bytes of an update that is recorded in this format.
+pub fn message_limit(format: Format) -> usize
+    ensures value { result ≡ message_limit format }
+    ensures bounds { AreLimits (limits format) }
 {
-    Format::One.limits().message
+    format.limits().message
 }
 
 /// A rectangle whose header is read, and where in the message its data begin.
@@ -149,7 +152,7 @@ impl PartialMessage {
 
     /// A reader at the start of a message.
     pub fn new(alloc: Global) -> PartialMessage
-        ensures at { (width height : ℕ) → IsAt message_limit width height result }
+        ensures at { (format : Format) → (width height : ℕ) → IsAt (message_limit format) width height result }
         ensures none { result.bytes.items ≡ [] }
         ensures over { result.over ≡ None }
         ensures room { (vec_capacity result.bytes ≡ 0) × (vec_capacity result.rectangles ≡ 0) }
@@ -164,9 +167,9 @@ impl PartialMessage {
     }
 
     // Goes on behind whole fields.
-    fn advance(&mut self, size: ScreenSize, whole: AfterField) -> Result<Ending, WireFault>
-        requires { Follows message_limit size.width size.height self.old.bytes.items self.old.rectangles.items whole }
-        ensures goes { IfOk result (λ e. After message_limit size.width size.height self.old.bytes.items self.new e) }
+    fn advance(&mut self, screen: RecordedScreen, whole: AfterField) -> Result<Ending, WireFault>
+        requires { Follows (message_limit screen.format) screen.size.width screen.size.height self.old.bytes.items self.old.rectangles.items whole }
+        ensures goes { IfOk result (λ e. After (message_limit screen.format) screen.size.width screen.size.height self.old.bytes.items self.new e) }
         ensures bytes { self.new.bytes ≡ self.old.bytes }
         ensures over { self.new.over ≡ self.old.over }
         ensures places { OnOk result (vec_capacity self.new.rectangles
@@ -187,19 +190,23 @@ impl PartialMessage {
 
     // Takes bytes up to the end of a field, or up to the limit, and judges the field once it is
     // whole. Answers how many.
-    fn judge_field(&mut self, size: ScreenSize, piece: &[u8]) -> Result<(usize, Ending), WireFault>
-        requires field { IsInField message_limit size.width size.height self.old }
+    fn judge_field(
+        &mut self,
+        screen: RecordedScreen,
+        piece: &[u8],
+    ) -> Result<(usize, Ending), WireFault>
+        requires field { IsInField (message_limit screen.format) screen.size.width screen.size.height self.old }
         requires some { 0 < length piece.now }
-        ensures ok { IfOk result (λ x. Judged message_limit size.width size.height self.old self.new piece.now x.0 x.1) }
-        ensures faults { IfErr result (λ f. UnlessMemory f (message_at message_limit size.width size.height (self.old.bytes.items ++ piece.now) ≡ Bad f)) }
+        ensures ok { IfOk result (λ x. Judged (message_limit screen.format) screen.size.width screen.size.height self.old self.new piece.now x.0 x.1) }
+        ensures faults { IfErr result (λ f. UnlessMemory f (message_at (message_limit screen.format) screen.size.width screen.size.height (self.old.bytes.items ++ piece.now) ≡ Bad f)) }
     {
-        let taken = take(&mut self.bytes, self.end, piece)?;
+        let taken = take(&mut self.bytes, screen.format, self.end, piece)?;
         if self.bytes.len() < self.end {
             return Ok((taken, Ending::Field));
         }
         let field = &self.bytes[self.stage.start()..];
-        let whole = step(size, self.stage, field)?;
-        let ending = self.advance(size, whole)?;
+        let whole = step(screen.size, self.stage, field)?;
+        let ending = self.advance(screen, whole)?;
         Ok((taken, ending))
     }
 
@@ -207,11 +214,11 @@ impl PartialMessage {
     // the piece, where it begins with a field, and else one. Answers how many. It stands apart, so
     // that a piece in which no field ends makes no room for what follows from one.
     #[inline(never)]
-    fn judge(&mut self, size: ScreenSize, piece: &[u8]) -> Result<(usize, Ending), WireFault>
+    fn judge(&mut self, screen: RecordedScreen, piece: &[u8]) -> Result<(usize, Ending), WireFault>
         requires some { 0 < length piece.now }
-        requires field { IsInField message_limit size.width size.height self.old }
-        ensures ok { IfOk result (λ x. Judged message_limit size.width size.height self.old self.new piece.now x.0 x.1) }
-        ensures faults { IfErr result (λ f. UnlessMemory f (message_at message_limit size.width size.height (self.old.bytes.items ++ piece.now) ≡ Bad f)) }
+        requires field { IsInField (message_limit screen.format) screen.size.width screen.size.height self.old }
+        ensures ok { IfOk result (λ x. Judged (message_limit screen.format) screen.size.width screen.size.height self.old self.new piece.now x.0 x.1) }
+        ensures faults { IfErr result (λ f. UnlessMemory f (message_at (message_limit screen.format) screen.size.width screen.size.height (self.old.bytes.items ++ piece.now) ≡ Bad f)) }
     {
         if let Stage::Data {
             at,
@@ -221,25 +228,25 @@ impl PartialMessage {
         } = self.stage
             && self.bytes.len() == at
         {
-            let front = &piece[..piece.len().min(message_limit() - at)];
-            let (taken, whole) = run(size, at, begun, next, others, front)?;
+            let front = &piece[..piece.len().min(message_limit(screen.format) - at)];
+            let (taken, whole) = run(screen.size, at, begun, next, others, front)?;
             if taken > 0 {
                 append_come(&mut self.bytes, &front[..taken])?;
-                let ending = self.advance(size, whole)?;
+                let ending = self.advance(screen, whole)?;
                 return Ok((taken, ending));
             }
         }
-        self.judge_field(size, piece)
+        self.judge_field(screen, piece)
     }
 
     // Begins to read over the bytes that are left of a message, if any are.
-    fn read_over(&mut self, alloc: Global, size: ScreenSize, left: u64)
+    fn read_over(&mut self, alloc: Global, screen: RecordedScreen, left: u64)
         requires bound { left < 2 ^ 32 }
         requires head { 0 < length self.old.bytes.items }
         requires short { length self.old.bytes.items ≤ head_limit }
-        requires link { (more : List ℕ) → unlimited_at size.width size.height (self.old.bytes.items ++ more) ≡ read_over left more }
-        ensures at { IsAt message_limit size.width size.height self.new }
-        ensures moves { (old : List Host) → Moves (message_at message_limit size.width size.height) (given size.width size.height) self.new.bytes.items (passed_in self.new.over) old old self.old.bytes.items }
+        requires link { (more : List ℕ) → unlimited_at screen.size.width screen.size.height (self.old.bytes.items ++ more) ≡ read_over left more }
+        ensures at { IsAt (message_limit screen.format) screen.size.width screen.size.height self.new }
+        ensures moves { (old : List Host) → Moves (message_at (message_limit screen.format) screen.size.width screen.size.height) (given screen.format screen.size.width screen.size.height) self.new.bytes.items (passed_in self.new.over) old old self.old.bytes.items }
         ensures takes { TakesFor 0 self.old self.new }
     {
         if left == 0 {
@@ -250,13 +257,13 @@ impl PartialMessage {
     }
 
     // Reads over bytes of a piece that has so many, and answers how many.
-    fn pass(&mut self, alloc: Global, size: ScreenSize, over: Over, available: usize) -> usize
-        requires over { IsOver message_limit size.width size.height self.old.bytes.items over }
+    fn pass(&mut self, alloc: Global, screen: RecordedScreen, over: Over, available: usize) -> usize
+        requires over { IsOver (message_limit screen.format) screen.size.width screen.size.height self.old.bytes.items over }
         requires some { 0 < available }
         ensures taken { (0 < result) × (result ≤ available) }
-        ensures at { IsAt message_limit size.width size.height self.new }
+        ensures at { IsAt (message_limit screen.format) screen.size.width screen.size.height self.new }
         ensures moves { (old : List Host) → (rest taken : List ℕ) → StandsFor self.old.bytes.items over.passed rest → length taken ≡ result
-            → Moves (message_at message_limit size.width size.height) (given size.width size.height) self.new.bytes.items (passed_in self.new.over) old old (rest ++ taken) }
+            → Moves (message_at (message_limit screen.format) screen.size.width screen.size.height) (given screen.format screen.size.width screen.size.height) self.new.bytes.items (passed_in self.new.over) old old (rest ++ taken) }
         ensures takes { TakesFor 0 self.old self.new }
     {
         let taken = over.left.min(available as u64);
@@ -275,13 +282,13 @@ impl PartialMessage {
     fn give(
         &mut self,
         alloc: Global,
-        size: ScreenSize,
+        screen: RecordedScreen,
         out: &mut Vec<HostMessage>,
     ) -> Result<(), WireFault>
-        requires { IsRecorded message_limit
-            (host_of size.width size.height self.old.bytes.items self.old.rectangles.items) }
-        ensures ok { OnOk result (out.new.items ≡ out.old.items ++ host_of size.width size.height self.old.bytes.items self.old.rectangles.items ∷ []) }
-        ensures at { IsAt message_limit size.width size.height self.new }
+        requires { IsRecorded
+            (host_of screen.format screen.size.width screen.size.height self.old.bytes.items self.old.rectangles.items) }
+        ensures ok { OnOk result (out.new.items ≡ out.old.items ++ host_of screen.format screen.size.width screen.size.height self.old.bytes.items self.old.rectangles.items ∷ []) }
+        ensures at { IsAt (message_limit screen.format) screen.size.width screen.size.height self.new }
         ensures none { self.new.bytes.items ≡ [] }
         ensures over { self.new.over ≡ None }
         ensures takes { TakesFor 0 self.old self.new }
@@ -296,7 +303,7 @@ impl PartialMessage {
             end: _,
             over: _,
         } = whole;
-        out.push(HostMessage::from_parts(size, bytes, rectangles))?;
+        out.push(HostMessage::from_parts(screen, bytes, rectangles))?;
         Ok(())
     }
 
@@ -306,32 +313,32 @@ impl PartialMessage {
         &mut self,
         piece: &[u8],
         alloc: Global,
-        size: ScreenSize,
+        screen: RecordedScreen,
         out: &mut Vec<HostMessage>,
     ) -> Result<usize, WireFault>
-        requires at { IsAt message_limit size.width size.height self.old }
+        requires at { IsAt (message_limit screen.format) screen.size.width screen.size.height self.old }
         requires some { 0 < length piece.now }
         ensures taken { IfOk result (λ n. (0 < n) × (n ≤ length piece.now)) }
-        ensures at { OnOk result (IsAt message_limit size.width size.height self.new) }
+        ensures at { OnOk result (IsAt (message_limit screen.format) screen.size.width screen.size.height self.new) }
         ensures moves { IfOk result (λ n. (rest : List ℕ) → StandsFor self.old.bytes.items (passed_in self.old.over) rest
-            → Moves (message_at message_limit size.width size.height) (given size.width size.height) self.new.bytes.items (passed_in self.new.over) out.old.items out.new.items (rest ++ take n piece.now)) }
+            → Moves (message_at (message_limit screen.format) screen.size.width screen.size.height) (given screen.format screen.size.width screen.size.height) self.new.bytes.items (passed_in self.new.over) out.old.items out.new.items (rest ++ take n piece.now)) }
         ensures takes { IfOk result (λ n. TakesFor n self.old self.new) }
         ensures faults { IfErr result (λ f. (rest : List ℕ) → StandsFor self.old.bytes.items (passed_in self.old.over) rest
-            → UnlessMemory f (message_at message_limit size.width size.height (rest ++ piece.now) ≡ Bad f)) }
+            → UnlessMemory f (message_at (message_limit screen.format) screen.size.width screen.size.height (rest ++ piece.now) ≡ Bad f)) }
         ensures err { OnErr result (out.new.items ≡ out.old.items) }
     {
         if let Some(over) = self.over {
-            return Ok(self.pass(alloc, size, over, piece.len()));
+            return Ok(self.pass(alloc, screen, over, piece.len()));
         }
         if piece.len() < self.end - self.bytes.len() {
-            let kept = take(&mut self.bytes, self.end, piece)?;
+            let kept = take(&mut self.bytes, screen.format, self.end, piece)?;
             return Ok(kept);
         }
-        let (taken, ending) = self.judge(size, piece)?;
+        let (taken, ending) = self.judge(screen, piece)?;
         match ending {
             Ending::Field => {}
-            Ending::Whole => self.give(alloc, size, out)?,
-            Ending::ReadOver(left) => self.read_over(alloc, size, left),
+            Ending::Whole => self.give(alloc, screen, out)?,
+            Ending::ReadOver(left) => self.read_over(alloc, screen, left),
         }
         Ok(taken)
     }
@@ -340,21 +347,21 @@ impl PartialMessage {
     pub fn read(
         &mut self,
         alloc: Global,
-        size: ScreenSize,
+        screen: RecordedScreen,
         piece: &[u8],
         out: &mut Vec<HostMessage>,
     ) -> Result<(), WireFault>
-        requires { IsAt message_limit size.width size.height self.old }
-        ensures at { OnOk result (IsAt message_limit size.width size.height self.new) }
+        requires { IsAt (message_limit screen.format) screen.size.width screen.size.height self.old }
+        ensures at { OnOk result (IsAt (message_limit screen.format) screen.size.width screen.size.height self.new) }
         ensures moves { OnOk result ((rest : List ℕ) → StandsFor self.old.bytes.items (passed_in self.old.over) rest
-            → Moves (message_at message_limit size.width size.height) (given size.width size.height) self.new.bytes.items (passed_in self.new.over) out.old.items out.new.items (rest ++ piece.now)) }
+            → Moves (message_at (message_limit screen.format) screen.size.width screen.size.height) (given screen.format screen.size.width screen.size.height) self.new.bytes.items (passed_in self.new.over) out.old.items out.new.items (rest ++ piece.now)) }
         ensures takes { OnOk result (TakesFor (length piece.now) self.old self.new) }
         ensures faults { IfErr result (λ f. (rest : List ℕ) → StandsFor self.old.bytes.items (passed_in self.old.over) rest
-            → Stops (message_at message_limit size.width size.height) (given size.width size.height) f out.old.items out.new.items (rest ++ piece.now)) }
+            → Stops (message_at (message_limit screen.format) screen.size.width screen.size.height) (given screen.format screen.size.width screen.size.height) f out.old.items out.new.items (rest ++ piece.now)) }
     {
         let mut rest = piece;
         while !rest.is_empty() {
-            let taken = self.take_some(rest, alloc, size, out)?;
+            let taken = self.take_some(rest, alloc, screen, out)?;
             rest = &rest[taken..];
         }
         Ok(())
@@ -387,20 +394,20 @@ fn append(
 
 // Takes bytes of the piece up to the end of a field, and up to the limit of a message. Answers how
 // many.
-fn take(bytes: &mut Vec<u8>, end: usize, piece: &[u8]) -> Result<usize, WireFault>
+fn take(bytes: &mut Vec<u8>, format: Format, end: usize, piece: &[u8]) -> Result<usize, WireFault>
     requires unfinished { length bytes.old.items < end }
-    requires short { length bytes.old.items ≤ message_limit }
+    requires short { length bytes.old.items ≤ message_limit format }
     requires some { 0 < length piece.now }
     ensures taken { IfOk result (λ n. (0 < n) × (n ≤ length piece.now)) }
     ensures bytes { IfOk result (λ n. bytes.new.items ≡ bytes.old.items ++ take n piece.now) }
     ensures ends { OnOk result (length bytes.new.items ≤ end) }
     ensures room { IfOk result (λ n. vec_capacity bytes.new
         ≤ max (vec_capacity bytes.old) (room_for (length bytes.old.items + n))) }
-    ensures short { OnOk result (length bytes.new.items ≤ message_limit) }
+    ensures short { OnOk result (length bytes.new.items ≤ message_limit format) }
     ensures long { IfErr result (λ f. (f ≡ WireFault.NoMemory)
-        ⊎ ((f ≡ WireFault.TooLong) × (length bytes.old.items ≡ message_limit))) }
+        ⊎ ((f ≡ WireFault.TooLong) × (length bytes.old.items ≡ message_limit format))) }
 {
-    let room = end.min(message_limit()) - bytes.len();
+    let room = end.min(message_limit(format)) - bytes.len();
     if room == 0 {
         return Err(WireFault::TooLong);
     }

@@ -2,7 +2,7 @@
 
 ghost use Rattle.std.specs.Prelude.{◌≡◌, ◌+◌, ◌≤◌, ℕ, List, [], ◌++◌, length, max, Option, Some, None, Ok, Err, OnOk, IfErr, OnErr};
 ghost use Rattle.terms.specs.Appending.{room_for};
-ghost use Rattle.rfb_wire.specs.Reader.{IsShort};
+ghost use Rattle.rfb_wire.specs.Reader.{IsShort, at_start};
 ghost use Rattle.terms.specs.declared.wire_fault.WireFault.{WireFault};
 ghost use Rattle.client_wire.specs.Stream.{StandsFor, Goes, Stops, FaultOf, Grows};
 ghost use Rattle.rfb_wire.specs.Grammar.{message_at, message_limit};
@@ -10,6 +10,7 @@ ghost use Rattle.rfb_wire.specs.Stream.{given};
 
 use crate::message::HostMessage;
 use crate::progress::{PartialMessage, message_limit};
+use pixel_format::{Format, RecordedScreen};
 use std::alloc::Global;
 use std::marker::Model;
 use terms::{NoMemory, ScreenSize, WireFault};
@@ -19,7 +20,7 @@ use terms::{NoMemory, ScreenSize, WireFault};
 /// have come alone.
 #[derive(Drop)]
 pub struct ServerReader {
-    size: ScreenSize,
+    screen: RecordedScreen,
     alloc: Global,
     progress: PartialMessage,
     fault: Option<WireFault>,
@@ -34,8 +35,9 @@ impl Model for ServerReader {
     ghost Value = { Reader };
 
     ghost view = { λ r. record {
-      width = r.size.width;
-      height = r.size.height;
+      format = r.screen.format;
+      width = r.screen.size.width;
+      height = r.screen.size.height;
       kept = r.progress.bytes.items;
       passed = passed_in r.progress.over;
       room = vec_capacity r.progress.bytes;
@@ -43,17 +45,27 @@ impl Model for ServerReader {
       fault = r.fault;
     } };
 
-    ghost invariant = { λ r. IsAt message_limit r.size.width r.size.height r.progress };
+    ghost invariant = { λ r. IsAt (message_limit r.screen.format) r.screen.size.width r.screen.size.height r.progress };
 }
 
 impl ServerReader {
-    /// A reader at the start of a stream, for a screen of this size.
+    /// A reader at the start of a stream, for a screen of this size that is recorded in format 1.
     pub fn new(alloc: Global, size: ScreenSize) -> ServerReader
-        ensures { result
-            ≡ record { width = size.width; height = size.height; kept = []; passed = 0; room = 0; places = 0; fault = None } }
+        ensures { result ≡ at_start Format.One size.width size.height }
+    {
+        let screen = RecordedScreen {
+            format: Format::One,
+            size,
+        };
+        ServerReader::in_format(alloc, screen)
+    }
+
+    /// The same, for a screen that is recorded in any format.
+    pub fn in_format(alloc: Global, screen: RecordedScreen) -> ServerReader
+        ensures { result ≡ at_start screen.format screen.size.width screen.size.height }
     {
         ServerReader {
-            size,
+            screen,
             alloc,
             progress: PartialMessage::new(alloc),
             fault: None,
@@ -64,7 +76,7 @@ impl ServerReader {
     pub fn size(&self) -> ScreenSize
         ensures { result ≡ record { width = self.now.width; height = self.now.height } }
     {
-        self.size
+        self.screen.size
     }
 
     // Takes room for so many bytes of the message that comes, or as many as a message may have.
@@ -73,7 +85,7 @@ impl ServerReader {
     {
         self.progress
             .bytes
-            .reserve_exact(room.min(message_limit()))?;
+            .reserve_exact(room.min(message_limit(self.screen.format)))?;
         Ok(())
     }
 
@@ -95,16 +107,16 @@ impl ServerReader {
     pub fn feed(&mut self, piece: &[u8], out: &mut Vec<HostMessage>) -> Result<(), WireFault>
         // The messages that are whole are given, and the reader stands for the rest.
         ensures goes { OnOk result ((rest : List ℕ) → StandsFor self.old.kept self.old.passed rest
-            → Goes (message_at message_limit self.old.width self.old.height) (given self.old.width self.old.height) self.new.kept self.new.passed
+            → Goes (message_at (message_limit self.old.format) self.old.width self.old.height) (given self.old.format self.old.width self.old.height) self.new.kept self.new.passed
             out.old.items out.new.items (rest ++ piece.now)) }
         // It does not wait at a fault.
         ensures none { OnOk result ((rest : List ℕ) → (f : WireFault)
             → StandsFor self.old.kept self.old.passed rest
-            → FaultOf (message_at message_limit self.old.width self.old.height) (rest ++ piece.now) f → ⊥) }
+            → FaultOf (message_at (message_limit self.old.format) self.old.width self.old.height) (rest ++ piece.now) f → ⊥) }
         // A fault stands in the stream, and the messages before it are given.
         ensures faults { IfErr result (λ f. self.old.fault ≡ None → (rest : List ℕ)
             → StandsFor self.old.kept self.old.passed rest
-            → Stops (message_at message_limit self.old.width self.old.height) (given self.old.width self.old.height) f
+            → Stops (message_at (message_limit self.old.format) self.old.width self.old.height) (given self.old.format self.old.width self.old.height) f
             out.old.items out.new.items (rest ++ piece.now)) }
         // What was given before stays in front.
         ensures grows { Grows out.old.items out.new.items }
@@ -114,16 +126,16 @@ impl ServerReader {
             → (result ≡ Err f) × (self.new ≡ self.old) × (out.new.items ≡ out.old.items) }
         ensures emptied { OnErr result (self.old.fault ≡ None → self.new.kept ≡ []) }
         // What is read over is counted and not kept.
-        ensures short { IsShort message_limit self.new.width self.new.height self.new.kept }
+        ensures short { IsShort (message_limit self.new.format) self.new.width self.new.height self.new.kept }
         // Room is taken for bytes that have come, and for rectangles in them.
         ensures room { let most = room_for (length self.old.kept + length piece.now)
             in (self.new.room ≤ max self.old.room most) × (self.new.places ≤ max self.old.places most) }
-        ensures size { (self.new.width ≡ self.old.width) × (self.new.height ≡ self.old.height) }
+        ensures screen { (self.new.format ≡ self.old.format) × (self.new.width ≡ self.old.width) × (self.new.height ≡ self.old.height) }
     {
         if let Some(fault) = self.fault {
             return Err(fault);
         }
-        let read = self.progress.read(self.alloc, self.size, piece, out);
+        let read = self.progress.read(self.alloc, self.screen, piece, out);
         if let Err(fault) = read {
             self.fault = Some(fault);
             self.progress = PartialMessage::new(self.alloc);

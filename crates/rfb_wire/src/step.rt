@@ -1,12 +1,12 @@
 //! What follows from a whole field of a message.
 
-ghost use Rattle.std.specs.Prelude.{◌≡◌, ℕ, ◌+◌, ◌*◌, ◌<◌, ◌≤◌, List, ◌++◌, take, drop, slice_index, nat_lt, if◌then◌else◌, length, IfOk, IfErr};
+ghost use Rattle.std.specs.Prelude.{◌≡◌, ℕ, ◌+◌, ◌*◌, ◌<◌, ◌^◌, ◌≤◌, List, ◌++◌, take, drop, slice_index, nat_lt, if◌then◌else◌, length, IfOk, IfErr};
 ghost use Rattle.terms.specs.Reading.{Bad};
 ghost use Rattle.pixel_format.specs.Format.{host_format};
 ghost use Rattle.terms.specs.Number.{u16_at, u32_at};
 ghost use Rattle.rect_data.specs.Judging.{HasBytes};
 ghost use Rattle.rect_data.specs.Judging as judging;
-ghost use Rattle.rfb_wire.specs.Grammar.{message_limit, text_limit, read_over, text_data_at, area_of, encoding_number};
+ghost use Rattle.rfb_wire.specs.Grammar.{text_limit, read_over, text_data_at, area_of, encoding_number};
 ghost use Rattle.rfb_wire.specs.Behind.{IsBehind};
 ghost use Rattle.rfb_wire.specs.Header.{Names, IsRefusedBy};
 ghost use Rattle.rfb_wire.specs.PartialMessage.{wants_of, start_of, NextBegins, IsOfUpdate, IsOfKind, NextIsOfKind, resume, go_on, step_on, others_at, behind_data};
@@ -232,7 +232,7 @@ fn behind_content(
     others: u16,
 ) -> Result<AfterField, WireFault>
     requires whole { length field.now ≡ judging.wants_of host_format current }
-    requires short { at + length field.now ≤ message_limit }
+    requires short { at + length field.now < 2 ^ 32 }
     ensures goes { IfOk result (λ s. (more : List ℕ)
         → resume size.width size.height (Stage.Data at begun current others) (field.now ++ more) ≡ step_on size.width size.height s more) }
     ensures begins { IfOk result (λ s. NextBegins (at + length field.now) s.next) }
@@ -256,7 +256,7 @@ pub fn run(
     others: u16,
     bytes: &[u8],
 ) -> Result<(usize, AfterField), WireFault>
-    requires { at + length bytes.now ≤ message_limit }
+    requires { at + length bytes.now < 2 ^ 32 }
     ensures taken { IfOk result (λ x. x.0 ≤ length bytes.now) }
     ensures goes { IfOk result (λ x. (more : List ℕ)
         → resume size.width size.height (Stage.Data at begun current others) (take x.0 bytes.now ++ more) ≡ step_on size.width size.height x.1 more) }
@@ -279,7 +279,7 @@ fn behind_header(
     header: &[u8],
 ) -> Result<AfterField, WireFault>
     requires whole { length header.now ≡ 12 }
-    requires short { at + 12 ≤ message_limit }
+    requires short { at + 12 < 2 ^ 32 }
     ensures goes { IfOk result (λ s. (more : List ℕ)
         → resume size.width size.height (Stage.RectangleHead at others) (header.now ++ more) ≡ step_on size.width size.height s more) }
     ensures begins { IfOk result (λ s. NextBegins (at + 12) s.next) }
@@ -300,7 +300,7 @@ fn behind_header(
 /// What follows from the whole field of a stage.
 pub fn step(size: ScreenSize, stage: Stage, field: &[u8]) -> Result<AfterField, WireFault>
     requires whole { length field.now ≡ wants_of stage }
-    requires short { start_of stage + length field.now ≤ message_limit }
+    requires short { start_of stage + length field.now < 2 ^ 32 }
     ensures goes { IfOk result (λ s. (more : List ℕ)
         → resume size.width size.height stage (field.now ++ more) ≡ step_on size.width size.height s more) }
     ensures begins { IfOk result (λ s. NextBegins (start_of stage + length field.now) s.next) }

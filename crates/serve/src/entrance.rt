@@ -44,7 +44,12 @@ impl<'a, D: Disk, M: Mark, R: Clock + Eprint + Wait> Service<'a, D, M, R> {
     // The viewer behind a connection, once its handshake is whole; none where it doesn't get so far.
     fn greeted(&self, stream: TcpStream) -> Option<Viewer<M, TcpStream>> {
         let room = self.room;
-        let viewer = Viewer::<M, TcpStream>::new(room.alloc, stream, room.size, &room.name).ok()?;
+        let viewer = Viewer::<M, TcpStream>::new(
+            room.alloc,
+            stream,
+            room.screen.size,
+            &room.name,
+        ).ok()?;
         match viewer.greet(self.rt, &room.bell) {
             Ok(true) => Some(viewer),
             _ => None,

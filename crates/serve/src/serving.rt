@@ -43,7 +43,7 @@ fn serve_opened<
 {
     let alloc = rt.alloc();
     let name = opened.book.header().name().to_vec(alloc)?;
-    let size = opened.book.header().size();
+    let screen = opened.book.header().screen();
     let committed = opened.book.committed();
     let Opened {
         book,
@@ -54,7 +54,7 @@ fn serve_opened<
     } = opened;
     let telling = Telling::new(plan.is_verbose);
     let room = Room::<M>::new(
-        alloc, size, name, plan, beginning, bell, telling, last_error, committed,
+        alloc, screen, name, plan, beginning, bell, telling, last_error, committed,
     );
     let shared = Shared::<_, M>::new(rt, token, Desk::new(Box::into_inner(book)));
     let service = Service {

@@ -25,19 +25,22 @@ pub trait Turnstile {
 /// What gives a host's messages, each with its time in milliseconds, and takes their tickets.
 pub trait HostSource<T>: Drop {
     ghost use Rattle.std.specs.Prelude.{ℕ};
+    ghost use Rattle.pixel_format.specs.declared.kind.Format.{Format};
+
+    ghost format: { Self → Format };
 
     ghost width: { Self → ℕ };
 
     ghost height: { Self → ℕ };
 
-    /// The next message, of the source's size; `None` ends the host.
+    /// The next message, of the source's size and format; `None` ends the host.
     fn next(&mut self) -> Option<(u32, HostMessage)>
-        ensures sized { IfSome result (λ r. (r.1.width ≡ width self.old) × (r.1.height ≡ height self.old)) }
-        ensures same { (width self.new ≡ width self.old) × (height self.new ≡ height self.old) };
+        ensures sized { IfSome result (λ r. (r.1.format ≡ format self.old) × (r.1.width ≡ width self.old) × (r.1.height ≡ height self.old)) }
+        ensures same { (format self.new ≡ format self.old) × (width self.new ≡ width self.old) × (height self.new ≡ height self.old) };
 
     /// Takes the ticket of the message that was given last.
     fn accepted(&mut self, ticket: T)
-        ensures same { (width self.new ≡ width self.old) × (height self.new ≡ height self.old) };
+        ensures same { (format self.new ≡ format self.old) × (width self.new ≡ width self.old) × (height self.new ≡ height self.old) };
 }
 
 /// What takes the flusher's receipts, one for each commit.

@@ -16,7 +16,6 @@ use Rattle.rect_data.specs.declared.encoding.Encoding.{Encoding}
 use Rattle.rect_data.specs.Data.{AreData, IsSource, LiesWithin}
 use Rattle.rfb_wire.specs.declared.message.Rectangle.{Rectangle}
 use Rattle.rfb_wire.specs.Host.{Host, IsPlaced}
-use Rattle.rfb_wire.specs.Grammar.{message_limit}
 use Rattle.rfb_wire.proofs.Placed.{recorded_placed}
 use Rattle.rect_codec.specs.Picture.{copied_picture, painted_data}
 use Rattle.painter.specs.Framebuffer.{Framebuffer, color_at, Has, Shows}
@@ -25,7 +24,7 @@ use Rattle.painter.specs.Picture.{painted_rectangle, painted_rectangles}
 use Rattle.painter.proofs.Order.{no_rectangles, agree_rectangles}
 use Rattle.painter.proofs.Screens.{shows_more}
 use Rattle.keyed_entries.specs.declared.entry.Stamped.{Stamped}
-use Rattle.keyed_entries.specs.Entry.{hosts_of, IsStampedFor}
+use Rattle.keyed_entries.specs.Entry.{hosts_of, IsStampedOf}
 use Rattle.gated_journal.specs.Recording.{Head}
 use Rattle.replay.specs.Screens.{IsScreenAt}
 use Rattle.replay.specs.Slices.{StartStands, Stands}
@@ -279,10 +278,10 @@ no_messages v sound = record {
   sees = λ seen s. s;
 }
 
-one_message : (width height : ℕ) (m : Stamped) (ms : List Stamped) (old mid new : View) → IsStampedFor width height m → old.screen.width ≡ width → old.screen.height ≡ height
+one_message : (width height : ℕ) (m : Stamped) (ms : List Stamped) (old mid new : View) → IsStampedOf width height m → old.screen.width ≡ width → old.screen.height ≡ height
     → PaintsAll m.message m.message.rectangles old mid → PaintsMessages ms mid new → PaintsMessages (m ∷ ms) old new
 one_message width height m ms old mid new for wide high first all =
-    let placed : All (IsPlaced m.message) m.message.rectangles = recorded_placed message_limit m.message for.1.recorded in
+    let placed : All (IsPlaced m.message) m.message.rectangles = recorded_placed m.message for.1.recorded in
     record {
       sound = all.sound;
       kept = all.kept ∙ ap (λ (v : View). record v { screen = new.screen; stale = new.stale; copy = new.copy }) first.kept;
@@ -301,12 +300,12 @@ one_message width height m ms old mid new for wide high first all =
       sees = λ seen before. all.sees seen (first.sees seen before);
     }
 
-pub messages_painted : (width height : ℕ) (ms : List Stamped) (old new : View) → AllByRecursion (IsStampedFor width height) ms → old.screen.width ≡ width → old.screen.height ≡ height
+pub messages_painted : (width height : ℕ) (ms : List Stamped) (old new : View) → AllByRecursion (IsStampedOf width height) ms → old.screen.width ≡ width → old.screen.height ≡ height
     → IsSound old → AreAllPainted old new ms → PaintsMessages ms old new
 messages_painted width height [] old new each wide high sound is = subst (λ (v : View). PaintsMessages [] old v) (sym is) (no_messages old sound)
 messages_painted width height (m ∷ ms) old new each wide high sound is =
     let mid = is.0 in
-    let placed : All (IsPlaced m.message) m.message.rectangles = recorded_placed message_limit m.message each.0.1.recorded in
+    let placed : All (IsPlaced m.message) m.message.rectangles = recorded_placed m.message each.0.1.recorded in
     let first : PaintsAll m.message m.message.rectangles old mid =
     rectangles_painted m.message m.message.rectangles old mid (recursion_from_All (IsPlaced m.message) m.message.rectangles placed)
     (each.0.1.width_is ∙ sym wide) (each.0.1.height_is ∙ sym high) sound is.1 in
@@ -407,10 +406,10 @@ has_gone old new slice next goes sound =
     }
 
 -- the messages are of the screen's size
-pub all_wide : (width height w : ℕ) (ms : List Stamped) → w ≡ width → AllByRecursion (IsStampedFor width height) ms → All (λ m. m.message.width ≡ w) ms
+pub all_wide : (width height w : ℕ) (ms : List Stamped) → w ≡ width → AllByRecursion (IsStampedOf width height) ms → All (λ m. m.message.width ≡ w) ms
 all_wide width height w [] is each = All-nil (λ (m : Stamped). m.message.width ≡ w)
 all_wide width height w (m ∷ ms) is each = All-cons (λ (m : Stamped). m.message.width ≡ w) m ms (each.0.1.width_is ∙ sym is) (all_wide width height w ms is each.1)
 
-pub all_high : (width height h : ℕ) (ms : List Stamped) → h ≡ height → AllByRecursion (IsStampedFor width height) ms → All (λ m. m.message.height ≡ h) ms
+pub all_high : (width height h : ℕ) (ms : List Stamped) → h ≡ height → AllByRecursion (IsStampedOf width height) ms → All (λ m. m.message.height ≡ h) ms
 all_high width height h [] is each = All-nil (λ (m : Stamped). m.message.height ≡ h)
 all_high width height h (m ∷ ms) is each = All-cons (λ (m : Stamped). m.message.height ≡ h) m ms (each.0.1.height_is ∙ sym is) (all_high width height h ms is each.1)

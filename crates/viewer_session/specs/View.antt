@@ -21,7 +21,7 @@ use Rattle.painter.specs.Framebuffer.{Framebuffer, Has, SameSize, color_at}
 use Rattle.painter.specs.Picture.{painted_rectangle}
 use Rattle.gated_journal.specs.Recording.{Head}
 use Rattle.keyed_entries.specs.declared.entry.Stamped.{Stamped}
-use Rattle.keyed_entries.specs.Entry.{IsStampedFor}
+use Rattle.keyed_entries.specs.Entry.{IsStampedOf}
 use Rattle.replay.specs.Screens.{IsScreenAt}
 use Rattle.replay.specs.declared.slice.Slice.{Slice}
 use Rattle.place_sets.specs.Places.{PlaceSet, holds, AreJust, HasNone, AreSent}
@@ -83,7 +83,7 @@ is_stale_after slice x y = is_there slice.start || is_touched_by slice.messages.
 
 -- a slice by which a view may advance: of its size, with a start or from its position on
 pub record IsNext (v : View) (slice : Slice) : Type 0 where
-  pub each : AllByRecursion (IsStampedFor v.screen.width v.screen.height) slice.messages.items
+  pub each : AllByRecursion (IsStampedOf v.screen.width v.screen.height) slice.messages.items
   pub start : IfSome slice.start (λ s. (s.width ≡ v.screen.width) × (s.height ≡ v.screen.height))
   pub joined : slice.start ≡ None → slice.first ≡ v.position
   pub counted : slice.first + length slice.messages.items < 2 ^ 64

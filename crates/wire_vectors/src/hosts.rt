@@ -4,10 +4,11 @@ ghost use Rattle.std.specs.Prelude.{◌<◌};
 
 use crate::account::Account;
 use crate::readings::{Given, Message, Reader, finest, longest, read, read_cut};
+use pixel_format::RecordedScreen;
 use rfb_wire::{Front, HostMessage, Rectangle, ServerReader, read_message};
 use std::alloc::Global;
 use std::io;
-use terms::{Area, ScreenSize, WireFault};
+use terms::{Area, WireFault};
 
 impl Reader<HostMessage> for ServerReader {
     fn take(&mut self, piece: &[u8], messages: &mut Vec<HostMessage>) -> Result<(), WireFault> {
@@ -52,11 +53,11 @@ fn describe_rectangle(account: &mut Account, rectangle: &Rectangle) -> io::Resul
 }
 
 // What the plain function makes of the bytes, message by message.
-fn plain(alloc: Global, size: ScreenSize, bytes: &[u8]) -> io::Result<Given<HostMessage>> {
+fn plain(alloc: Global, screen: RecordedScreen, bytes: &[u8]) -> io::Result<Given<HostMessage>> {
     let mut given = Given::new(alloc);
     let mut rest = bytes;
     for _ in 0..bytes.len() {
-        let read = match read_message(alloc, size, rest) {
+        let read = match read_message(alloc, screen, rest) {
             Ok(Some(Front::Recorded(message))) => {
                 let read = message.bytes().len();
                 given.push(message, 0)?;
@@ -77,47 +78,47 @@ fn plain(alloc: Global, size: ScreenSize, bytes: &[u8]) -> io::Result<Given<Host
 // What a stream gives in pieces of this length.
 fn in_pieces(
     alloc: Global,
-    size: ScreenSize,
+    screen: RecordedScreen,
     bytes: &[u8],
     length: usize,
 ) -> io::Result<Given<HostMessage>>
     requires { 0 < length }
 {
-    let mut reader = ServerReader::new(alloc, size);
+    let mut reader = ServerReader::in_format(alloc, screen);
     read(alloc, &mut reader, bytes, length)
 }
 
 // What is otherwise if the bytes come in longer pieces, or are read by the plain function.
 fn tell_difference(
     account: &mut Account,
-    size: ScreenSize,
+    screen: RecordedScreen,
     bytes: &[u8],
     given: &Given<HostMessage>,
 ) -> io::Result<()> {
     for length in 1..=longest(bytes) {
-        if !given.is_same(&in_pieces(account.alloc, size, bytes, length)?) {
+        if !given.is_same(&in_pieces(account.alloc, screen, bytes, length)?) {
             return account.tell(format_args!("otherwise in pieces of {length}"));
         }
     }
-    if !given.is_same(&plain(account.alloc, size, bytes)?) {
+    if !given.is_same(&plain(account.alloc, screen, bytes)?) {
         return account.tell("otherwise by the plain function");
     }
     Ok(())
 }
 
-/// Tells what comes of a host's stream for a screen of this size: each message and the fault, behind
+/// Tells what comes of a host's stream for a screen: each message and the fault, behind
 /// the number of bytes that had come by then.
-pub(crate) fn run(account: &mut Account, size: ScreenSize, bytes: &[u8]) -> io::Result<()> {
-    let given = in_pieces(account.alloc, size, bytes, finest(bytes))?;
+pub(crate) fn run(account: &mut Account, screen: RecordedScreen, bytes: &[u8]) -> io::Result<()> {
+    let given = in_pieces(account.alloc, screen, bytes, finest(bytes))?;
     given.tell(account, bytes)?;
-    tell_difference(account, size, bytes, &given)
+    tell_difference(account, screen, bytes, &given)
 }
 
 // Whether a stream gives the same however it is cut in two.
-fn is_cut_alike(alloc: Global, size: ScreenSize, bytes: &[u8]) -> io::Result<bool> {
-    let given = in_pieces(alloc, size, bytes, 1)?;
+fn is_cut_alike(alloc: Global, screen: RecordedScreen, bytes: &[u8]) -> io::Result<bool> {
+    let given = in_pieces(alloc, screen, bytes, 1)?;
     for cut in 0..bytes.len() {
-        let mut reader = ServerReader::new(alloc, size);
+        let mut reader = ServerReader::in_format(alloc, screen);
         if !given.is_same(&read_cut(alloc, &mut reader, bytes, cut)?) {
             return Ok(false);
         }
@@ -127,13 +128,17 @@ fn is_cut_alike(alloc: Global, size: ScreenSize, bytes: &[u8]) -> io::Result<boo
 
 /// Tells what comes of a host's stream of which one byte is another, each in turn, and each with
 /// five values: how many streams give the same however they are cut in two, up to one that doesn't.
-pub(crate) fn run_changed(account: &mut Account, size: ScreenSize, bytes: &[u8]) -> io::Result<()> {
+pub(crate) fn run_changed(
+    account: &mut Account,
+    screen: RecordedScreen,
+    bytes: &[u8],
+) -> io::Result<()> {
     let mut stream = bytes.to_vec(account.alloc)?;
     let mut alike = 0u64;
     for (place, byte) in bytes.iter().enumerate() {
         for value in [0, 1, 5, 0x80, 0xff] {
             stream[place] = value;
-            if !is_cut_alike(account.alloc, size, &stream)? {
+            if !is_cut_alike(account.alloc, screen, &stream)? {
                 return account.tell(format_args!("otherwise with {value} at {place}"));
             }
             alike = alike.saturating_add(1);
@@ -144,8 +149,12 @@ pub(crate) fn run_changed(account: &mut Account, size: ScreenSize, bytes: &[u8])
 }
 
 /// Tells what all of the bytes are as one message, or the number of the refusal.
-pub(crate) fn run_message(account: &mut Account, size: ScreenSize, bytes: &[u8]) -> io::Result<()> {
-    match HostMessage::from_bytes(account.alloc, size, bytes) {
+pub(crate) fn run_message(
+    account: &mut Account,
+    screen: RecordedScreen,
+    bytes: &[u8],
+) -> io::Result<()> {
+    match HostMessage::from_bytes_in(account.alloc, screen, bytes) {
         Ok(message) => message.describe(account, bytes),
         Err(fault) => account.tell(format_args!("refused {}", fault.number())),
     }

@@ -64,7 +64,7 @@ pub(crate) fn run_key(account: &mut Account, size: ScreenSize, bytes: &[u8]) -> 
     if !Format::One.limits().allow(screen.size()) {
         return Err(bad());
     }
-    let key = screen.key(account.alloc)?;
+    let key = screen.key(account.alloc, Format::One)?;
     if !painted(account.alloc, size, key.bytes())?.same(&screen) {
         return account.tell("another screen");
     }

@@ -4,10 +4,19 @@ use crate::account::Account;
 use crate::readings::Message;
 use crate::words::Spelled;
 use host_session::{HostFault, HostSession};
+use pixel_format::Format;
 use rfb_wire::HostMessage;
 use std::alloc::Global;
 use std::io;
 use terms::ScreenSize;
+
+/// The host that a session waits for: for a recording of which format, and of which size, if one is
+/// expected.
+#[derive(Clone, Copy)]
+pub(crate) struct Awaited {
+    pub(crate) format: Format,
+    pub(crate) size: Option<ScreenSize>,
+}
 
 // A session, and what came of what it was fed. Its calls promise nothing here.
 #[derive(Drop)]
@@ -21,9 +30,9 @@ struct Talk {
 }
 
 impl Talk {
-    fn new(alloc: Global, expected: Option<ScreenSize>) -> Talk {
+    fn new(alloc: Global, awaited: Awaited) -> Talk {
         Talk {
-            session: HostSession::new(alloc, expected),
+            session: HostSession::in_format(alloc, awaited.format, awaited.size),
             messages: Vec::new(alloc),
             said: Vec::new(alloc),
             fault: None,
@@ -98,11 +107,11 @@ impl Talk {
 // Whether what is fed in two pieces comes to the same.
 fn is_cut_alike(
     alloc: Global,
-    expected: Option<ScreenSize>,
+    awaited: Awaited,
     pieces: (&[u8], &[u8]),
     talk: &Talk,
 ) -> io::Result<bool> {
-    let mut again = Talk::new(alloc, expected);
+    let mut again = Talk::new(alloc, awaited);
     again.feed(pieces.0)?;
     again.feed(pieces.1)?;
     Ok(talk.is_same(&again))
@@ -111,7 +120,7 @@ fn is_cut_alike(
 // Tells what comes of the bytes, and what is otherwise where they are cut in two.
 fn tell_all(
     account: &mut Account,
-    expected: Option<ScreenSize>,
+    awaited: Awaited,
     bytes: &[u8],
     talk: &mut Talk,
 ) -> io::Result<()> {
@@ -120,7 +129,7 @@ fn tell_all(
     }
     talk.tell(account)?;
     for cut in 0..=bytes.len().min(100) {
-        if !is_cut_alike(account.alloc, expected, bytes.split_at(cut), talk)? {
+        if !is_cut_alike(account.alloc, awaited, bytes.split_at(cut), talk)? {
             return account.tell(format_args!("otherwise if it is cut at {cut}"));
         }
     }
@@ -129,11 +138,7 @@ fn tell_all(
 
 /// Tells what comes of what a host sends: what is said to it, its messages and the fault, behind the
 /// number of bytes that had come by then; and in the end the screen's size and name, or the reason.
-pub(crate) fn run(
-    account: &mut Account,
-    expected: Option<ScreenSize>,
-    bytes: &[u8],
-) -> io::Result<()> {
-    let mut talk = Talk::new(account.alloc, expected);
-    tell_all(account, expected, bytes, &mut talk)
+pub(crate) fn run(account: &mut Account, awaited: Awaited, bytes: &[u8]) -> io::Result<()> {
+    let mut talk = Talk::new(account.alloc, awaited);
+    tell_all(account, awaited, bytes, &mut talk)
 }

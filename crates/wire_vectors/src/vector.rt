@@ -1,8 +1,10 @@
 //! What comes of a vector, whatever its kind.
 
 use crate::account::Account;
+use crate::sessions::Awaited;
 use crate::words::{bad, bytes, numbers};
 use crate::{formats, hosts, rectangles, screens, sessions, viewers};
+use pixel_format::{Format, RecordedScreen};
 use std::io;
 use terms::{Area, ScreenSize};
 
@@ -19,6 +21,20 @@ pub(crate) fn run(account: &mut Account, vector: &str) -> io::Result<()> {
     run_bytes(account, kind, &numbers, &bytes(account.alloc, text)?)
 }
 
+// A screen of this size in a recording of this format.
+fn recorded(format: Format, size: ScreenSize) -> RecordedScreen {
+    RecordedScreen { format, size }
+}
+
+fn talk(
+    account: &mut Account,
+    format: Format,
+    size: Option<ScreenSize>,
+    bytes: &[u8],
+) -> io::Result<()> {
+    sessions::run(account, Awaited { format, size }, bytes)
+}
+
 fn size_of(width: u16, height: u16) -> ScreenSize {
     ScreenSize { width, height }
 }
@@ -27,7 +43,8 @@ fn run_bytes(account: &mut Account, kind: &str, numbers: &[u16], bytes: &[u8]) -
     match *numbers {
         [] => match kind {
             "viewer" => viewers::run(account, bytes),
-            "session" => sessions::run(account, None, bytes),
+            "session" => talk(account, Format::One, None, bytes),
+            "session2" => talk(account, Format::Two, None, bytes),
             "format" => formats::run(account, bytes),
             _ => Err(bad()),
         },
@@ -48,10 +65,11 @@ fn run_of_size(
     bytes: &[u8],
 ) -> io::Result<()> {
     match kind {
-        "host" => hosts::run(account, size, bytes),
-        "changed" => hosts::run_changed(account, size, bytes),
-        "message" => hosts::run_message(account, size, bytes),
-        "session" => sessions::run(account, Some(size), bytes),
+        "host" => hosts::run(account, recorded(Format::One, size), bytes),
+        "host2" => hosts::run(account, recorded(Format::Two, size), bytes),
+        "changed" => hosts::run_changed(account, recorded(Format::One, size), bytes),
+        "message" => hosts::run_message(account, recorded(Format::One, size), bytes),
+        "session" => talk(account, Format::One, Some(size), bytes),
         "key" => screens::run_key(account, size, bytes),
         _ => Err(bad()),
     }

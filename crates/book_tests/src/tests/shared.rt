@@ -5,6 +5,7 @@ mod parallel;
 mod twins;
 
 ghost use Rattle.std.specs.Prelude.{◌≡◌, [], IfOk};
+ghost use Rattle.pixel_format.specs.declared.kind.Format.TheVariants.{One};
 
 use crate::desk_of_one_place;
 use broadcast::Desk;
@@ -22,6 +23,7 @@ const UPDATE: [u8; 20] = [
 ];
 
 fn new_desk<D: Disk + Drop>(alloc: Global, disk: D) -> Result<Desk<D>, Fail>
+    ensures format { IfOk result (λ desk. desk.head.format ≡ One) }
     ensures width { IfOk result (λ desk. desk.head.width ≡ 1) }
     ensures height { IfOk result (λ desk. desk.head.height ≡ 1) }
 {

@@ -3,7 +3,7 @@
 
 use crate::tests::samples::{area, size};
 use painter::{Screen, ScreenPart};
-use pixel_format::{Color, PixelFormat};
+use pixel_format::{Color, Format, PixelFormat};
 use rfb_wire::{Encoding, HostMessage};
 use std::alloc::Global;
 use std::test::Fail;
@@ -82,7 +82,7 @@ fn copied_whichever_way_the_areas_overlap(rt: HostRuntime) -> Result<(), Fail> {
 #[test]
 fn key_of_a_black_screen(rt: HostRuntime) -> Result<(), Fail> {
     let screen = Screen::black(rt.alloc(), size(256, 256))?;
-    let key = screen.key(rt.alloc())?;
+    let key = screen.key(rt.alloc(), Format::One)?;
     assert!(rt; key.bytes().len() < 262_160);
     Ok(())
 }

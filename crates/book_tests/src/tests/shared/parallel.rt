@@ -1,6 +1,7 @@
 //! Workers in threads of their own.
 
 ghost use Rattle.std.specs.Prelude.{◌≡◌, IfSome};
+ghost use Rattle.pixel_format.specs.declared.kind.Format.TheVariants.{One};
 ghost use Rattle.flusher_core.specs.State.{accepted_count};
 
 use super::{UPDATE, confirm, find};
@@ -122,6 +123,10 @@ struct Updates<'a, M: Mark, R: Clock> {
 }
 
 impl<'a, M: Mark, R: Clock> HostSource<Ticket<M>> for Updates<'a, M, R> {
+    ghost use Rattle.pixel_format.specs.declared.kind.Format.TheVariants.{One};
+
+    ghost format = { λ u. One };
+
     ghost width = { λ u. 1 };
 
     ghost height = { λ u. 1 };
@@ -251,7 +256,7 @@ struct Told<M: Mark> {
 
 impl<'a, D: Disk, M: Mark, R: Wait + Clock> Workers<'a, D, M, R> {
     fn host(&self) -> Vec<Ticket<M>>
-        requires { (M.head.width ≡ 1) × (M.head.height ≡ 1) }
+        requires { (M.head.format ≡ One) × (M.head.width ≡ 1) × (M.head.height ≡ 1) }
     {
         let gates = self.gates;
         let mut tickets = Vec::new(self.alloc);
@@ -292,7 +297,7 @@ impl<'a, D: Disk, M: Mark, R: Wait + Clock> Workers<'a, D, M, R> {
     }
 
     fn view(&self) -> Seen<M>
-        requires { (M.head.width ≡ 1) × (M.head.height ≡ 1) }
+        requires { (M.head.format ≡ One) × (M.head.width ≡ 1) × (M.head.height ≡ 1) }
     {
         let gates = self.gates;
         let mut seen = Seen {
@@ -326,14 +331,14 @@ impl<'a, D: Disk + Send, M: Mark + Send + Sync, R: Threads + Wait + Clock + Sync
     R,
 > {
     fn view_all(&self) -> Result<Vec<Seen<M>>, NoMemory>
-        requires { (M.head.width ≡ 1) × (M.head.height ≡ 1) }
+        requires { (M.head.format ≡ One) × (M.head.width ≡ 1) × (M.head.height ≡ 1) }
     {
         let seen = map_indices(
             self.rt,
             self.alloc,
             self.viewers,
             &|_| -> Seen<M>
-                requires { (M.head.width ≡ 1) × (M.head.height ≡ 1) }
+                requires { (M.head.format ≡ One) × (M.head.width ≡ 1) × (M.head.height ≡ 1) }
             { self.view() },
         );
         if seen.is_err() {
@@ -346,7 +351,7 @@ impl<'a, D: Disk + Send, M: Mark + Send + Sync, R: Threads + Wait + Clock + Sync
     // can be made, `join` calls its second closure and then its first: the host comes first, as the
     // flusher waits for its end, and it waits for nobody while there is room.
     fn record(&self) -> (Vec<Ticket<M>>, Vec<Receipt<M>>)
-        requires { (M.head.width ≡ 1) × (M.head.height ≡ 1) }
+        requires { (M.head.format ≡ One) × (M.head.width ≡ 1) × (M.head.height ≡ 1) }
     {
         match self.gates.order {
             Order::Free | Order::Meeting | Order::FailsAfter(_) => {
@@ -354,7 +359,7 @@ impl<'a, D: Disk + Send, M: Mark + Send + Sync, R: Threads + Wait + Clock + Sync
                     self.rt,
                     move || self.flush(),
                     move || -> Vec<Ticket<M>>
-                        requires { (M.head.width ≡ 1) × (M.head.height ≡ 1) }
+                        requires { (M.head.format ≡ One) × (M.head.width ≡ 1) × (M.head.height ≡ 1) }
                     { self.host() },
                 );
                 (tickets, committed)
@@ -377,15 +382,15 @@ impl<'a, D: Disk + Send, M: Mark + Send + Sync, R: Threads + Wait + Clock + Sync
     // All workers. The viewers wait for the end of both others, and so come last where no thread can
     // be made.
     fn work(&self) -> Result<Told<M>, NoMemory>
-        requires { (M.head.width ≡ 1) × (M.head.height ≡ 1) }
+        requires { (M.head.format ≡ One) × (M.head.width ≡ 1) × (M.head.height ≡ 1) }
     {
         let (seen, (tickets, committed)) = join(
             self.rt,
             move || -> Result<Vec<Seen<M>>, NoMemory>
-                requires { (M.head.width ≡ 1) × (M.head.height ≡ 1) }
+                requires { (M.head.format ≡ One) × (M.head.width ≡ 1) × (M.head.height ≡ 1) }
             { self.view_all() },
             move || -> (Vec<Ticket<M>>, Vec<Receipt<M>>)
-                requires { (M.head.width ≡ 1) × (M.head.height ≡ 1) }
+                requires { (M.head.format ≡ One) × (M.head.width ≡ 1) × (M.head.height ≡ 1) }
             { self.record() },
         );
         let mut seen = seen?;
@@ -463,7 +468,7 @@ fn share<
     requires modelled { (D.is_modelled → M.is_modelled) × (M.is_modelled → D.is_modelled) }
     requires first { accepted_count desk.state.book ≡ M.first }
     requires names { token ≡ M.names }
-    requires sized { (M.head.width ≡ 1) × (M.head.height ≡ 1) }
+    requires sized { (M.head.format ≡ One) × (M.head.width ≡ 1) × (M.head.height ≡ 1) }
 {
     let shared = Shared::<D, M>::new(rt, token, desk);
     let workers = Workers {
@@ -485,7 +490,7 @@ fn share<
 
 // What workers begin with; none where memory was wanting.
 fn begun(alloc: Global, order: Order) -> Option<(Token, Desk<FailingDisk<MemoryDisk>>)>
-    ensures { IfSome result (λ b. (b.1.head.width ≡ 1) × (b.1.head.height ≡ 1)) }
+    ensures { IfSome result (λ b. (b.1.head.format ≡ One) × (b.1.head.width ≡ 1) × (b.1.head.height ≡ 1)) }
 {
     let switch = Switch::new(alloc).ok()?;
     let disk = FailingDisk::new(MemoryDisk::new(alloc), switch.clone().ok()?);

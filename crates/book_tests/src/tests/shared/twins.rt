@@ -1,6 +1,7 @@
 //! The same lines through the lock and at a desk.
 
 ghost use Rattle.std.specs.Prelude.{◌≡◌, IfOk};
+ghost use Rattle.pixel_format.specs.declared.kind.Format.TheVariants.{One};
 ghost use Rattle.flusher_core.specs.State.{accepted_count};
 
 use super::{UPDATE, confirm, find, new_desk};
@@ -83,9 +84,10 @@ fn host<D: Disk, M: Mark, R: Wait>(
     tickets: &mut Vec<Ticket<M>>,
     bytes: &[u8],
 ) -> Result<bool, Fail>
+    requires format { desk.old.head.format ≡ One }
     requires width { desk.old.head.width ≡ 1 }
     requires height { desk.old.head.height ≡ 1 }
-    requires sized { (M.head.width ≡ 1) × (M.head.height ≡ 1) }
+    requires sized { (M.head.format ≡ One) × (M.head.width ≡ 1) × (M.head.height ≡ 1) }
     ensures head { desk.new.head ≡ desk.old.head }
 {
     let answer = desk.host(0, HostMessage::from_bytes(alloc, ONE_PLACE, bytes)?);
@@ -161,9 +163,10 @@ fn both<D: Disk, M: Mark, R: Wait>(
     kept: &mut Kept<M>,
     line: Line,
 ) -> Result<bool, Fail>
+    requires format { desk.old.head.format ≡ One }
     requires width { desk.old.head.width ≡ 1 }
     requires height { desk.old.head.height ≡ 1 }
-    requires sized { (M.head.width ≡ 1) × (M.head.height ≡ 1) }
+    requires sized { (M.head.format ≡ One) × (M.head.width ≡ 1) × (M.head.height ≡ 1) }
     ensures head { desk.new.head ≡ desk.old.head }
 {
     match line {
@@ -203,9 +206,10 @@ fn run_lines<D: Disk, M: Mark, R: Wait + Abort>(
     kept: &mut Kept<M>,
     lines: &[Line],
 ) -> Result<(), Fail>
+    requires format { desk.old.head.format ≡ One }
     requires width { desk.old.head.width ≡ 1 }
     requires height { desk.old.head.height ≡ 1 }
-    requires sized { (M.head.width ≡ 1) × (M.head.height ≡ 1) }
+    requires sized { (M.head.format ≡ One) × (M.head.width ≡ 1) × (M.head.height ≡ 1) }
 {
     for line in lines {
         let are_same = both(rt, alloc, desk, shared, kept, *line)?;
@@ -234,13 +238,14 @@ fn run_both<D: Disk + Drop, M: Mark, R: Wait + Abort>(
     twin: Desk<D>,
     lines: &[Line],
 ) -> Result<(), Fail>
+    requires format { desk.old.head.format ≡ One }
     requires width { desk.old.head.width ≡ 1 }
     requires height { desk.old.head.height ≡ 1 }
     requires head { twin.head ≡ M.head }
     requires modelled { (D.is_modelled → M.is_modelled) × (M.is_modelled → D.is_modelled) }
     requires first { accepted_count twin.state.book ≡ M.first }
     requires names { token ≡ M.names }
-    requires sized { (M.head.width ≡ 1) × (M.head.height ≡ 1) }
+    requires sized { (M.head.format ≡ One) × (M.head.width ≡ 1) × (M.head.height ≡ 1) }
 {
     let shared = Shared::<D, M>::new(rt, token, twin);
     let mut kept = Kept {
@@ -259,6 +264,7 @@ fn run_both<D: Disk + Drop, M: Mark, R: Wait + Abort>(
 // A desk whose disk fails once, after so many calls. It is boxed, so that who ends early doesn't take
 // it apart.
 fn failing_desk(alloc: Global, calls: u64) -> Result<Box<Desk<FailingDisk<MemoryDisk>>>, Fail>
+    ensures format { IfOk result (λ desk. desk.value.head.format ≡ One) }
     ensures width { IfOk result (λ desk. desk.value.head.width ≡ 1) }
     ensures height { IfOk result (λ desk. desk.value.head.height ≡ 1) }
 {

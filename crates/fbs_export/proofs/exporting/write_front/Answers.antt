@@ -1,6 +1,8 @@
-use Rattle.std.proofs.Common.{◌≡◌, ◌≤◌, ◌*◌, ◌^◌, ◌++◌, length, ap, ◌∙◌, arith}
+use Rattle.std.proofs.Common.{◌≡◌, ◌≤◌, ◌*◌, ◌++◌, length, ap, ◌∙◌, arith}
 use Rattle.std.specs.Io.KnownBytes.{Appends}
 use Rattle.gated_journal.specs.Recording.{IsHead}
+use Rattle.pixel_format.specs.Limits.{limits}
+use Rattle.pixel_format.proofs.Sizes.{are_limits}
 use Rattle.painter.specs.Framebuffer.{color_at}
 use Rattle.fbs_export.specs.Export.{start, front_text, block_text, opening_text, screen_text, rows_text}
 use Rattle.fbs_export.specs.Written.{WroteFront}
@@ -44,8 +46,9 @@ write_block-requires-2 g c =
     let text : c.deref-2.result.now ≡ screen_text s.width s.height (color_at s) = c.deref-2.ensures.value ∙ c.in_ok-append_screen.ensures ∙ ap (λ z. z ++ screen_text s.width s.height (color_at s)) c.clear.ensures.items in
     let pixels : length (rows_text (color_at s) s.width 0 s.height) ≡ 4 * (s.width * s.height) = pixels_from (color_at s) s.width 0 s.height in
     let is : IsHead c.args.index.now.head = rw (← c.header.ensures) c.size.ensures.limits in
-    let area : s.width * s.height ≤ 2 ^ 23 = rw (c.requires.width, c.requires.height) is.size.area in
-    rw text (omega (arith, pixels, area))
+    let area : s.width * s.height ≤ (limits c.args.index.now.head.format).area = rw (c.requires.width, c.requires.height) is.size.area in
+    let most = are_limits c.args.index.now.head.format in
+    rw text (omega (arith, pixels, area, most.key, most.body, most.longest))
 
 pub returns-in_err-write_block-2-clause-front : goal.returns-in_err-write_block-2-clause-front
 unfolding front_text

@@ -3,14 +3,14 @@ use Rattle.terms.specs.Reading.{Reading, guard}
 use Rattle.terms.specs.Number.{u16_at}
 use Rattle.fbs_export.specs.declared.fault.FbsFault.{FbsFault}
 use Rattle.fbs_export.specs.declared.fault.FbsFault.TheVariants as faults
-use Rattle.pixel_format.specs.declared.kind.Format.TheVariants.{One}
+use Rattle.pixel_format.specs.declared.kind.Format.TheVariants.{Two}
 use Rattle.pixel_format.specs.Limits.{limits, is_size}
 use Rattle.fbs_export.specs.Opening.{Opening, size_then, format_then}
 use Rattle.fbs_export.proofs.Judging.{part_short, part_whole, judged_behind}
 use Rattle.fbs_export.proofs.judge.judge_size.Goals as goal
 
 next : List ℕ → List ℕ → Reading Opening FbsFault
-next size rest = guard (is_size (limits One) (u16_at size 0) (u16_at size 2)) faults.Size (format_then (u16_at size 0) (u16_at size 2) rest)
+next size rest = guard (is_size (limits Two) (u16_at size 0) (u16_at size 2)) faults.Size (format_then (u16_at size 0) (u16_at size 2) rest)
 
 pub returns-then-bytes-lt4 : goal.returns-then-bytes-lt4
 unfolding size_then next
@@ -23,7 +23,7 @@ unfolding size_then next
 returns-then-not-allow c = λ more.
     let wide : u16_at (take 4 c.args.bytes.now) 0 ≡ c.from_be_bytes.result = rw (← c.split_at.ensures.front) (omega (arith, c.from_be_bytes.ensures)) in
     let high : u16_at (take 4 c.args.bytes.now) 2 ≡ c.from_be_bytes-2.result = rw (← c.split_at.ensures.front) (omega (arith, c.from_be_bytes-2.ensures)) in
-    let not : is_size (limits One) c.from_be_bytes.result c.from_be_bytes-2.result ≡ false = search rules in
+    let not : is_size (limits Two) c.from_be_bytes.result c.from_be_bytes-2.result ≡ false = search rules in
     part_whole 4 c.args.bytes.now more next c.if-bytes-lt4.false ∙ rw (wide, high, not) refl
 
 pub returns : goal.returns
@@ -32,7 +32,7 @@ returns c =
     let bytes = c.args.bytes.now in
     let wide : u16_at (take 4 c.args.bytes.now) 0 ≡ c.from_be_bytes.result = rw (← c.split_at.ensures.front) (omega (arith, c.from_be_bytes.ensures)) in
     let high : u16_at (take 4 c.args.bytes.now) 2 ≡ c.from_be_bytes-2.result = rw (← c.split_at.ensures.front) (omega (arith, c.from_be_bytes-2.ensures)) in
-    let is : is_size (limits One) c.from_be_bytes.result c.from_be_bytes-2.result ≡ true = search rules in
+    let is : is_size (limits Two) c.from_be_bytes.result c.from_be_bytes-2.result ≡ true = search rules in
     let enough = c.if-bytes-lt4.false in
     judged_behind size_then (format_then c.from_be_bytes.result c.from_be_bytes-2.result) 4 20 24 bytes c.judge_format.result
     (λ more. part_whole 4 bytes more next enough ∙ rw (wide, high, is) refl)

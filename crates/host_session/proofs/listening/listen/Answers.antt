@@ -9,17 +9,17 @@ use Rattle.host_session.proofs.listening.listen.Goals as goal
 
 pub returns-clause-some : goal.returns-clause-some
 returns-clause-some c =
-    feed_hears message_limit c.args.reader.now c.feed-heard.new.self.kept c.feed-heard.new.self.passed c.args.out.now.items c.feed-heard.new.out.items c.args.piece.now
+    feed_hears c.args.reader.now c.feed-heard.new.self.kept c.feed-heard.new.self.passed c.args.out.now.items c.feed-heard.new.out.items c.args.piece.now
     _ c.feed-heard.result c.feed-heard.ensures.goes c.feed-heard.ensures.faults c.requires
 
 pub returns-in-Err-clause-some : goal.returns-in-Err-clause-some
 returns-in-Err-clause-some c =
-    feed_hears message_limit c.args.reader.now c.feed-heard.new.self.kept c.feed-heard.new.self.passed c.args.out.now.items c.feed-heard.new.out.items c.args.piece.now
+    feed_hears c.args.reader.now c.feed-heard.new.self.kept c.feed-heard.new.self.passed c.args.out.now.items c.feed-heard.new.out.items c.args.piece.now
     _ c.feed-heard.result c.feed-heard.ensures.goes c.feed-heard.ensures.faults c.requires
 
 pub returns-in_err-write_requests-clause-some : goal.returns-in_err-write_requests-clause-some
 returns-in_err-write_requests-clause-some c =
-    feed_hears message_limit c.args.reader.now c.feed-heard.new.self.kept c.feed-heard.new.self.passed c.args.out.now.items c.feed-heard.new.out.items c.args.piece.now
+    feed_hears c.args.reader.now c.feed-heard.new.self.kept c.feed-heard.new.self.passed c.args.out.now.items c.feed-heard.new.out.items c.args.piece.now
     _ c.feed-heard.result c.feed-heard.ensures.goes c.feed-heard.ensures.faults c.requires
 
 pub returns-clause-goes : goal.returns-clause-goes
@@ -34,7 +34,7 @@ returns-clause-goes c = λ rest stands.
     let g = c.in_default.ensures.goes rest stands in
     record {
       tail = g.rest;
-      answers = answers message_limit r rest c.args.piece.now g.rest c.args.out.now.items out c.args.due.now.items c.write_requests.new.out.items start slice g.gives at slice_is said;
+      answers = answers r rest c.args.piece.now g.rest c.args.out.now.items out c.args.due.now.items c.write_requests.new.out.items start slice g.gives at slice_is said;
       stands = g.stands;
       waits = g.waits;
     }
@@ -56,7 +56,7 @@ returns-in-Err-clause-faults c =
           let g = c.in-Err.ensures.faults c.requires rest stands in
           record {
             tail = g.rest;
-            answers = answers message_limit r rest c.args.piece.now g.rest c.args.out.now.items out c.args.due.now.items c.write_requests.new.out.items start slice g.gives at slice_is said;
-            fault = given_so (message_at message_limit r.width r.height g.rest ≡ Bad f) g.fault;
+            answers = answers r rest c.args.piece.now g.rest c.args.out.now.items out c.args.due.now.items c.write_requests.new.out.items start slice g.gives at slice_is said;
+            fault = given_so (message_at (message_limit r.format) r.width r.height g.rest ≡ Bad f) g.fault;
           };
     })

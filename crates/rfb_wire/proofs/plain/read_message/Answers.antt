@@ -12,7 +12,7 @@ use Rattle.rfb_wire.proofs.FrontOthers.{front_passed, front_other, behind_within
 use Rattle.rfb_wire.proofs.plain.read_message.Goals as goal
 
 pub returns-in_default : goal.returns-in_default
-returns-in_default c = kind_short message_limit c.args.size.width c.args.size.height c.args.bytes.now c.in_default.ensures.reads
+returns-in_default c = kind_short (message_limit c.args.screen.format) c.args.screen.size.width c.args.screen.size.height c.args.bytes.now c.in_default.ensures.reads
 
 pub update_message-requires-clause-kind : goal.update_message-requires-clause-kind
 update_message-requires-clause-kind c =
@@ -23,19 +23,19 @@ update_message-requires-clause-kind c =
 pub returns-in_err-recorded : goal.returns-in_err-recorded
 returns-in_err-recorded c =
     let p = err_from_is_err_and c.from_residual.result c.from_residual.ensures.1 in
-    let w = c.args.size.width in
-    let h = c.args.size.height in
+    let w = c.args.screen.size.width in
+    let h = c.args.screen.size.height in
     let bytes = c.args.bytes.now in
     let kind = c.in-Some.kind.now in
     let rest = c.in-Some.rest.now in
     let g = c.in_err-recorded.field-0.0 in
-    let is = kind_other message_limit w h bytes kind rest c.in-Some.ensures.reads (ne_eqb (slice_index kind 0) 0 c.if-kind-eq0.false) in
-    rw (p.1, p.2) (unless_memory_map g (other_at (slice_index kind 0) rest ≡ Bad g) (message_at message_limit w h bytes ≡ Bad g) (λ e. is ∙ e) c.in_err-recorded.ensures)
+    let is = kind_other (message_limit c.args.screen.format) w h bytes kind rest c.in-Some.ensures.reads (ne_eqb (slice_index kind 0) 0 c.if-kind-eq0.false) in
+    rw (p.1, p.2) (unless_memory_map g (other_at (slice_index kind 0) rest ≡ Bad g) (message_at (message_limit c.args.screen.format) w h bytes ≡ Bad g) (λ e. is ∙ e) c.in_err-recorded.ensures)
 
 pub returns-in_default-2 : goal.returns-in_default-2
 returns-in_default-2 c =
     let kind = c.in-Some.kind.now in
-    let is = kind_other message_limit c.args.size.width c.args.size.height c.args.bytes.now kind c.in-Some.rest.now c.in-Some.ensures.reads (ne_eqb (slice_index kind 0) 0 c.if-kind-eq0.false) in
+    let is = kind_other (message_limit c.args.screen.format) c.args.screen.size.width c.args.screen.size.height c.args.bytes.now kind c.in-Some.rest.now c.in-Some.ensures.reads (ne_eqb (slice_index kind 0) 0 c.if-kind-eq0.false) in
     let more = rw c.in_default-2.is at c.in_ok-recorded.ensures in
     is ∙ more
 
@@ -50,7 +50,7 @@ returns-then-not-recorded c =
     let kind = c.in-Some.kind.now in
     let rest = c.in-Some.rest.now in
     let behind = c.in-Some-2.behind.now in
-    let is = kind_other message_limit c.args.size.width c.args.size.height bytes kind rest c.in-Some.ensures.reads (ne_eqb (slice_index kind 0) 0 c.if-kind-eq0.false) in
+    let is = kind_other (message_limit c.args.screen.format) c.args.screen.size.width c.args.screen.size.height bytes kind rest c.in-Some.ensures.reads (ne_eqb (slice_index kind 0) 0 c.if-kind-eq0.false) in
     let said = rw c.in-Some-2.is at c.in_ok-recorded.ensures in
     let over : other_at (slice_index kind 0) rest ≡ Got ReadOver behind = said ∙ ap (λ r. Got (kind_of r) behind) c.if-not-recorded.true in
     let front = front_passed (slice_index kind 0) bytes kind rest behind c.in-Some.ensures.reads over in
@@ -67,7 +67,7 @@ from_parts-message-requires c =
     let behind = c.in-Some-2.behind.now in
     let said = rw c.in-Some-2.is at c.in_ok-recorded.ensures in
     let given : other_at (slice_index kind 0) rest ≡ Got (Recorded []) behind = said ∙ ap (λ r. Got (kind_of r) behind) c.if-not-recorded.false in
-    let f = front_other message_limit c.args.size.width c.args.size.height bytes kind rest behind c.in-Some.ensures.reads given in
+    let f = front_other (message_limit c.args.screen.format) c.args.screen.size.width c.args.screen.size.height bytes kind rest behind c.in-Some.ensures.reads given in
     let same : c.in_ok-whole.whole.items ≡ f.whole = c.in_ok-whole.ensures.items ∙ other_taken bytes f.whole behind f.bytes_are in
     let none : c.new.result.items ≡ [] = search rules in
     rw (same, none) f.recorded
@@ -78,14 +78,14 @@ returns c =
     let kind = c.in-Some.kind.now in
     let rest = c.in-Some.rest.now in
     let behind = c.in-Some-2.behind.now in
-    let is = kind_other message_limit c.args.size.width c.args.size.height bytes kind rest c.in-Some.ensures.reads (ne_eqb (slice_index kind 0) 0 c.if-kind-eq0.false) in
+    let is = kind_other (message_limit c.args.screen.format) c.args.screen.size.width c.args.screen.size.height bytes kind rest c.in-Some.ensures.reads (ne_eqb (slice_index kind 0) 0 c.if-kind-eq0.false) in
     let said = rw c.in-Some-2.is at c.in_ok-recorded.ensures in
     let given : other_at (slice_index kind 0) rest ≡ Got (Recorded []) behind = said ∙ ap (λ r. Got (kind_of r) behind) c.if-not-recorded.false in
-    let f = front_other message_limit c.args.size.width c.args.size.height bytes kind rest behind c.in-Some.ensures.reads given in
+    let f = front_other (message_limit c.args.screen.format) c.args.screen.size.width c.args.screen.size.height bytes kind rest behind c.in-Some.ensures.reads given in
     let same : c.in_ok-whole.whole.items ≡ f.whole = c.in_ok-whole.ensures.items ∙ other_taken bytes f.whole behind f.bytes_are in
     let none : c.new.result.items ≡ [] = search rules in
     rw (c.from_parts-message.ensures, same, none) (record {
-      is = record { width_is = refl; height_is = refl; recorded = f.recorded };
+      is = record { format_is = refl; width_is = refl; height_is = refl; recorded = f.recorded };
       behind = behind;
       bytes_are = f.bytes_are;
       reads = is ∙ given;

@@ -1,5 +1,5 @@
-use Rattle.std.proofs.Common.{◌≡◌, ◌+◌, ◌-◌, ◌≤◌, length}
-use Rattle.rfb_wire.specs.Grammar.{rectangles_at, message_limit}
+use Rattle.std.proofs.Common.{◌≡◌, ◌+◌, ◌-◌, ◌<◌, ◌^◌, length}
+use Rattle.rfb_wire.specs.Grammar.{rectangles_at}
 use Rattle.rfb_wire.proofs.FromFront.{others_behind}
 use Rattle.rfb_wire.proofs.plain.rectangles.Given as goal
 
@@ -7,5 +7,5 @@ use Rattle.rfb_wire.proofs.plain.rectangles.Given as goal
 abbrev pub invariant-loop : goal.invariant-loop
 invariant-loop l = record {
   says : others_behind l.size.width l.size.height (l.count - l.counter) l.at l.found.items l.rest ≡ rectangles_at l.size.width l.size.height l.count 4 l.bytes;
-  room : l.at + length l.rest ≤ message_limit;
+  room : l.at + length l.rest < 2 ^ 32;
 }

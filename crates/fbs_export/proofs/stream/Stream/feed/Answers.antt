@@ -19,7 +19,7 @@ returns-in-Some-clause-goes g c = λ times s stands.
     let self = c.args.self.now in
     let a : Hears g.T.Tally.stands_for self c.in-Some.reader times s = stands_heard g.T.Tally.stands_for self c.in-Some.reader times s c.in-Some.is stands in
     let goes = rw c.new-hosts.ensures.items at c.in_ok-hear.ensures.goes in
-    hears_on g.T.Tally.stands_for self _ c.in-Some.reader c.hear.new.reader c.hear.new.hosts.items times s c.args.piece.now a c.in_ok-hear.ensures.size.0 c.in_ok-hear.ensures.size.1 refl c.in_ok-tell.ensures c.in_ok-hear.ensures.going goes
+    hears_on g.T.Tally.stands_for self _ c.in-Some.reader c.hear.new.reader c.hear.new.hosts.items times s c.args.piece.now a c.in_ok-hear.ensures.screen.0 c.in_ok-hear.ensures.screen.1 c.in_ok-hear.ensures.screen.2 refl c.in_ok-tell.ensures c.in_ok-hear.ensures.going goes
 
 pub returns-in_err-open-clause-fault : goal.returns-in_err-open-clause-fault
 returns-in_err-open-clause-fault g c =

@@ -2,7 +2,6 @@ use Rattle.std.proofs.Common.{◌≡◌, ◌++◌, sym, ◌∙◌, rules}
 use Rattle.std.specs.Prelude.{Some, None}
 use Rattle.std.proofs.lemmas.List.{take_rest}
 use Rattle.std.proofs.lemmas.Result.{err_from_is_err_and}
-use Rattle.rfb_wire.specs.Grammar.{message_limit}
 use Rattle.std.proofs.lemmas.Result.{on_ok_weaker, IfErr-weaker}
 use Rattle.host_session.proofs.Sessions.{stands_listening, stands_handshake, listening_goes, listening_stops, handshake_stops, handshake_fed, rest_goes, rest_stops}
 use Rattle.host_session.proofs.progress.Exchange.feed.Goals as goal
@@ -13,9 +12,9 @@ returns-in-Some-clause-goes c =
     let r = c.in-Some.reader in
     let is : s.reader ≡ Some r = sym c.take.ensures.value ∙ c.in-Some.is in
     on_ok_weaker c.listen-heard.result (λ g stream sent messages h.
-    listening_goes message_limit c.args.expected s.handshake.position s.handshake.kept.items r c.listen-heard.new.reader stream c.args.piece.now messages sent
-    c.args.out.now.items c.listen-heard.new.out.items c.args.due.now.items c.listen-heard.new.due.items c.listen-heard.ensures.size g
-    (stands_listening message_limit c.args.expected s.handshake.position s.handshake.kept.items s.reader r stream messages (sent ++ c.args.due.now.items) is h))
+    listening_goes c.args.expected s.handshake.position s.handshake.kept.items r c.listen-heard.new.reader stream c.args.piece.now messages sent
+    c.args.out.now.items c.listen-heard.new.out.items c.args.due.now.items c.listen-heard.new.due.items c.listen-heard.ensures.screen g
+    (stands_listening c.args.expected s.handshake.position s.handshake.kept.items s.reader r stream messages (sent ++ c.args.due.now.items) is h))
     c.listen-heard.ensures.goes
 
 pub returns-in-Some-clause-faults : goal.returns-in-Some-clause-faults
@@ -24,9 +23,9 @@ returns-in-Some-clause-faults c =
     let r = c.in-Some.reader in
     let is : s.reader ≡ Some r = sym c.take.ensures.value ∙ c.in-Some.is in
     IfErr-weaker c.listen-heard.result _ _ (λ f g stream sent messages h.
-    listening_stops message_limit c.args.expected s.handshake.kept.items r c.listen-heard.new.reader f stream c.args.piece.now messages sent
-    c.args.out.now.items c.listen-heard.new.out.items c.args.due.now.items c.listen-heard.new.due.items c.listen-heard.ensures.size c.listen-heard.ensures.some g
-    (stands_listening message_limit c.args.expected s.handshake.position s.handshake.kept.items s.reader r stream messages (sent ++ c.args.due.now.items) is h))
+    listening_stops c.args.expected s.handshake.kept.items r c.listen-heard.new.reader f stream c.args.piece.now messages sent
+    c.args.out.now.items c.listen-heard.new.out.items c.args.due.now.items c.listen-heard.new.due.items c.listen-heard.ensures.screen c.listen-heard.ensures.some g
+    (stands_listening c.args.expected s.handshake.position s.handshake.kept.items s.reader r stream messages (sent ++ c.args.due.now.items) is h))
     c.listen-heard.ensures.faults
 
 pub returns-in_err-taken-clause-faults : goal.returns-in_err-taken-clause-faults
@@ -38,8 +37,8 @@ returns-in_err-taken-clause-faults c =
     let none : s.reader ≡ None = search rules in
     let bad = c.in_err-taken.ensures.faults in
     rw (p.1, p.2) (λ stream sent messages h.
-    handshake_stops message_limit c.args.expected _ n f stream c.args.piece.now messages sent c.args.due.now.items c.take_handshake.new.due.items c.args.out.now.items bad
-    (stands_handshake message_limit c.args.expected s.handshake.position s.handshake.kept.items s.reader stream messages (sent ++ c.args.due.now.items) none h))
+    handshake_stops c.args.expected _ n f stream c.args.piece.now messages sent c.args.due.now.items c.take_handshake.new.due.items c.args.out.now.items bad
+    (stands_handshake c.args.expected s.handshake.position s.handshake.kept.items s.reader stream messages (sent ++ c.args.due.now.items) none h))
 
 pub returns-clause-goes : goal.returns-clause-goes
 returns-clause-goes c =
@@ -51,9 +50,9 @@ returns-clause-goes c =
     let is : m.reader ≡ Some r = sym c.take-2.ensures.value ∙ c.in-Some-take.is in
     let rest = take_rest c.args.piece.now c.in-Some-2.taken in
     on_ok_weaker c.listen-heard-2.result (λ g stream sent messages h.
-    rest_goes message_limit c.args.expected m.handshake.position _ m r c.listen-heard-2.new.reader c.in-Some-2.taken stream c.args.piece.now _ messages sent
-    c.args.out.now.items c.listen-heard-2.new.out.items c.args.due.now.items c.take_handshake.new.due.items c.listen-heard-2.new.due.items whole is rest c.listen-heard-2.ensures.size g
-    (stands_handshake message_limit c.args.expected s.handshake.position s.handshake.kept.items s.reader stream messages (sent ++ c.args.due.now.items) none h))
+    rest_goes c.args.expected m.handshake.position _ m r c.listen-heard-2.new.reader c.in-Some-2.taken stream c.args.piece.now _ messages sent
+    c.args.out.now.items c.listen-heard-2.new.out.items c.args.due.now.items c.take_handshake.new.due.items c.listen-heard-2.new.due.items whole is rest c.listen-heard-2.ensures.screen g
+    (stands_handshake c.args.expected s.handshake.position s.handshake.kept.items s.reader stream messages (sent ++ c.args.due.now.items) none h))
     c.listen-heard-2.ensures.goes
 
 pub returns-clause-faults : goal.returns-clause-faults
@@ -66,9 +65,9 @@ returns-clause-faults c =
     let is : m.reader ≡ Some r = sym c.take-2.ensures.value ∙ c.in-Some-take.is in
     let rest = take_rest c.args.piece.now c.in-Some-2.taken in
     IfErr-weaker c.listen-heard-2.result _ _ (λ f g stream sent messages h.
-    rest_stops message_limit c.args.expected _ m r c.listen-heard-2.new.reader f c.in-Some-2.taken stream c.args.piece.now _ messages sent
-    c.args.out.now.items c.listen-heard-2.new.out.items c.args.due.now.items c.take_handshake.new.due.items c.listen-heard-2.new.due.items whole is rest c.listen-heard-2.ensures.size c.listen-heard-2.ensures.some g
-    (stands_handshake message_limit c.args.expected s.handshake.position s.handshake.kept.items s.reader stream messages (sent ++ c.args.due.now.items) none h))
+    rest_stops c.args.expected _ m r c.listen-heard-2.new.reader f c.in-Some-2.taken stream c.args.piece.now _ messages sent
+    c.args.out.now.items c.listen-heard-2.new.out.items c.args.due.now.items c.take_handshake.new.due.items c.listen-heard-2.new.due.items whole is rest c.listen-heard-2.ensures.screen c.listen-heard-2.ensures.some g
+    (stands_handshake c.args.expected s.handshake.position s.handshake.kept.items s.reader stream messages (sent ++ c.args.due.now.items) none h))
     c.listen-heard-2.ensures.faults
 
 pub returns-in_default-2-clause-goes : goal.returns-in_default-2-clause-goes
@@ -77,5 +76,5 @@ returns-in_default-2-clause-goes c = λ stream sent messages h.
     let none : s.reader ≡ None = search rules in
     let waits : c.in_ok-taken.field-0 ≡ None = search rules in
     let goes = rw waits at c.in_ok-taken.ensures.taken in
-    handshake_fed message_limit c.args.expected _ c.take_handshake.new.self stream c.args.piece.now messages sent c.args.due.now.items c.take_handshake.new.due.items c.args.out.now.items goes
-    (stands_handshake message_limit c.args.expected s.handshake.position s.handshake.kept.items s.reader stream messages (sent ++ c.args.due.now.items) none h)
+    handshake_fed c.args.expected _ c.take_handshake.new.self stream c.args.piece.now messages sent c.args.due.now.items c.take_handshake.new.due.items c.args.out.now.items goes
+    (stands_handshake c.args.expected s.handshake.position s.handshake.kept.items s.reader stream messages (sent ++ c.args.due.now.items) none h)

@@ -14,7 +14,7 @@ returns-in_err-taken-clause-faults c =
     let at_end : c.in-Data.at ≡ length s.bytes.items = omega arith in
     let begun : start_of s.stage ≡ length s.bytes.items = ap start_of c.in-Data.is ∙ at_end in
     let front = take c.min.result c.args.piece.now in
-    let short : length (s.bytes.items ++ front) ≤ message_limit = rw (length-append s.bytes.items front, length-take c.min.result c.args.piece.now) (omega arith) in
-    rw (p.1, p.2) (turn_faults message_limit c.args.size.width c.args.size.height c.min.result s.bytes.items c.args.piece.now (s.bytes.items ++ front) c.in_err-taken.field-0.0
-    refl short (unless_memory _ _ (run_faults message_limit c.args.size.width c.args.size.height s.bytes.items front s.rectangles.items s.stage c.in_err-taken.field-0.0
+    let short : length (s.bytes.items ++ front) ≤ message_limit c.args.screen.format = rw (length-append s.bytes.items front, length-take c.min.result c.args.piece.now) (omega arith) in
+    rw (p.1, p.2) (turn_faults (message_limit c.args.screen.format) c.args.screen.size.width c.args.screen.size.height c.min.result s.bytes.items c.args.piece.now (s.bytes.items ++ front) c.in_err-taken.field-0.0
+    refl short (unless_memory _ _ (run_faults (message_limit c.args.screen.format) c.args.screen.size.width c.args.screen.size.height s.bytes.items front s.rectangles.items s.stage c.in_err-taken.field-0.0
     c.requires.field.linked begun (rw (← c.in-Data.is) at c.in_err-taken.ensures.faults))))

@@ -2,6 +2,7 @@ use Rattle.std.proofs.Common.{◌≡◌, ℕ, List, ◌++◌, ◌-◌, ◌+◌, 
 use Rattle.std.proofs.lemmas.List.{take_rest, length-drop}
 use Rattle.std.proofs.lemmas.Result.{err_from_is_err_and}
 use Rattle.client_wire.proofs.Fronts.{unless_memory}
+use Rattle.pixel_format.proofs.Sizes.{are_limits}
 use Rattle.rfb_wire.specs.Grammar.{message_limit}
 use Rattle.rfb_wire.specs.PartialMessage.{resume, start_of, behind, NextBegins}
 use Rattle.rfb_wire.proofs.Turns.{linked_more, field_faults, turn_long, turn_faults}
@@ -15,8 +16,8 @@ pub returns-in_err-taken-clause-faults : goal.returns-in_err-taken-clause-faults
 returns-in_err-taken-clause-faults c =
     let p = err_from_is_err_and c.from_residual.result c.from_residual.ensures.1 in
     let s = c.args.self.now in
-    rw (p.1, p.2) (turn_long message_limit c.args.size.width c.args.size.height s.bytes.items c.args.piece.now s.rectangles.items s.stage c.in_err-taken.field-0.0
-    c.requires.field.linked (omega arith) c.requires.field.unfinished c.requires.some c.in_err-taken.ensures.long)
+    rw (p.1, p.2) (turn_long (message_limit c.args.screen.format) c.args.screen.size.width c.args.screen.size.height s.bytes.items c.args.piece.now s.rectangles.items s.stage c.in_err-taken.field-0.0
+    c.requires.field.linked (omega (arith, (are_limits c.args.screen.format).text)) c.requires.field.unfinished c.requires.some c.in_err-taken.ensures.long)
 
 pub returns-in_err-whole-clause-faults : goal.returns-in_err-whole-clause-faults
 returns-in_err-whole-clause-faults c =
@@ -24,12 +25,12 @@ returns-in_err-whole-clause-faults c =
     let s = c.args.self.now in
     let n = c.in_ok-taken.taken in
     let longer = c.take.new.bytes.items in
-    let linked = linked_more message_limit c.args.size.width c.args.size.height s.bytes.items (take n c.args.piece.now) longer s.rectangles.items s.stage
+    let linked = linked_more (message_limit c.args.screen.format) c.args.screen.size.width c.args.screen.size.height s.bytes.items (take n c.args.piece.now) longer s.rectangles.items s.stage
     c.requires.field.linked c.in_ok-taken.ensures.bytes c.in_ok-taken.ensures.short in
     let field = field_is c.deref.result.now longer c.start.result (start_of s.stage) c.deref.ensures.value c.start.ensures in
-    let faults = field_faults message_limit c.args.size.width c.args.size.height longer s.rectangles.items s.stage c.in_err-whole.field-0.0 linked
-    (λ more. ap (λ f. resume c.args.size.width c.args.size.height s.stage (f ++ more)) (sym field) ∙ c.in_err-whole.ensures.faults more) in
-    rw (p.1, p.2) (turn_faults message_limit c.args.size.width c.args.size.height n s.bytes.items c.args.piece.now longer c.in_err-whole.field-0.0
+    let faults = field_faults (message_limit c.args.screen.format) c.args.screen.size.width c.args.screen.size.height longer s.rectangles.items s.stage c.in_err-whole.field-0.0 linked
+    (λ more. ap (λ f. resume c.args.screen.size.width c.args.screen.size.height s.stage (f ++ more)) (sym field) ∙ c.in_err-whole.ensures.faults more) in
+    rw (p.1, p.2) (turn_faults (message_limit c.args.screen.format) c.args.screen.size.width c.args.screen.size.height n s.bytes.items c.args.piece.now longer c.in_err-whole.field-0.0
     c.in_ok-taken.ensures.bytes c.in_ok-taken.ensures.short (unless_memory _ _ faults))
 
 pub advance-requires : goal.advance-requires
@@ -37,7 +38,7 @@ advance-requires c =
     let s = c.args.self.now in
     let n = c.in_ok-taken.taken in
     let longer = c.take.new.bytes.items in
-    let linked = linked_more message_limit c.args.size.width c.args.size.height s.bytes.items (take n c.args.piece.now) longer s.rectangles.items s.stage
+    let linked = linked_more (message_limit c.args.screen.format) c.args.screen.size.width c.args.screen.size.height s.bytes.items (take n c.args.piece.now) longer s.rectangles.items s.stage
     c.requires.field.linked c.in_ok-taken.ensures.bytes c.in_ok-taken.ensures.short in
     let field = field_is c.deref.result.now longer c.start.result (start_of s.stage) c.deref.ensures.value c.start.ensures in
     let end : start_of s.stage + length (drop (start_of s.stage) longer) ≡ length longer = rw length-drop (omega (arith, linked.begun)) in
@@ -45,7 +46,7 @@ advance-requires c =
     record {
       link = λ more.
           linked.link more
-          ∙ ap (λ f. behind s.rectangles.items (resume c.args.size.width c.args.size.height s.stage (f ++ more))) (sym field)
+          ∙ ap (λ f. behind s.rectangles.items (resume c.args.screen.size.width c.args.screen.size.height s.stage (f ++ more))) (sym field)
           ∙ ap (behind s.rectangles.items) (c.in_ok-whole.ensures.goes more);
       begins = rw end at begins;
       kind = c.in_ok-whole.ensures.kind longer (sym field) linked.kind;

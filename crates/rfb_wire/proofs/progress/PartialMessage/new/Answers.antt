@@ -4,8 +4,8 @@ use Rattle.rfb_wire.proofs.Turns.{linked_start}
 use Rattle.rfb_wire.proofs.progress.PartialMessage.new.Goals as goal
 
 pub returns-clause-at : goal.returns-clause-at
-returns-clause-at c = λ width height. record {
-  linked = linked_start message_limit width height c.new.result.items c.new-2.result.items c.new.ensures.items c.new-2.ensures.items;
+returns-clause-at c = λ format width height. record {
+  linked = linked_start (message_limit format) width height c.new.result.items c.new-2.result.items c.new.ensures.items c.new-2.ensures.items;
   end_is = refl;
   unfinished = rw c.new.ensures.items (omega arith);
 }

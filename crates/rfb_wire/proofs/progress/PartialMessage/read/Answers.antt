@@ -13,8 +13,8 @@ pub returns-in_err-taken-clause-faults : goal.returns-in_err-taken-clause-faults
 returns-in_err-taken-clause-faults c =
     let p = err_from_is_err_and c.from_residual.result c.from_residual.ensures.1 in
     let i = c.loop-rest.invariant in
-    let read = message_at message_limit c.args.size.width c.args.size.height in
-    let give = given c.args.size.width c.args.size.height in
+    let read = message_at (message_limit c.args.screen.format) c.args.screen.size.width c.args.screen.size.height in
+    let give = given c.args.screen.format c.args.screen.size.width c.args.screen.size.height in
     let f = c.in_err-taken.field-0.0 in
     let s = c.loop-rest.self in
     rw (p.1, p.2) (λ rest stands.
@@ -40,7 +40,7 @@ loop-rest-preserved c =
       piece = piece ∙ ap (λ z. (i.front ++ take n left) ++ z) (sym (take_rest left n));
       moves = λ rest stands.
           let m = i.moves rest stands in
-          moves_more (message_at message_limit c.args.size.width c.args.size.height) (given c.args.size.width c.args.size.height)
+          moves_more (message_at (message_limit c.args.screen.format) c.args.screen.size.width c.args.screen.size.height) (given c.args.screen.format c.args.screen.size.width c.args.screen.size.height)
           c.args.out.now.items c.loop-rest.out.items c.take_some.new.out.items rest i.front (take n left) s.bytes.items t.bytes.items (passed_in s.over) (passed_in t.over)
           m (c.in_ok-taken.ensures.moves m.rest m.stands);
     }
@@ -52,5 +52,5 @@ returns-clause-moves c = λ rest stands.
     let empty : length c.loop-rest.rest.now ≡ 0 = eqb-true (length c.loop-rest.rest.now) 0 (sym c.loop-rest-test.ensures) in
     let none : c.loop-rest.rest.now ≡ [] = empty_list c.loop-rest.rest.now empty in
     let all : i.front ≡ c.args.piece.now = sym (i.piece ∙ ap (λ z. i.front ++ z) none ∙ append-nil i.front) in
-    subst (λ z. Moves (message_at message_limit c.args.size.width c.args.size.height) (given c.args.size.width c.args.size.height) s.bytes.items (passed_in s.over)
+    subst (λ z. Moves (message_at (message_limit c.args.screen.format) c.args.screen.size.width c.args.screen.size.height) (given c.args.screen.format c.args.screen.size.width c.args.screen.size.height) s.bytes.items (passed_in s.over)
     c.args.out.now.items c.loop-rest.out.items (rest ++ z)) all (i.moves rest stands)

@@ -1,0 +1,13 @@
+//! The screen that a host is to have.
+
+use pixel_format::Format;
+use terms::ScreenSize;
+
+/// What is expected of a host's screen.
+#[derive(Clone, Copy)]
+pub struct ExpectedScreen {
+    /// The format of the recording, by whose limits the screen and its messages are judged.
+    pub format: Format,
+    /// The size of the screen, where one is expected.
+    pub size: Option<ScreenSize>,
+}
