@@ -3,11 +3,13 @@
 use crate::beginning::beginning_of;
 use crate::recording::{Found, Identity};
 use crate::stopped::Stopped;
+use broadcast::Desk;
 use connections::{Beginning, Event, Host, Plan, Refusal, Stopwatch, Telling};
 use disk::Disk;
 use file_disk::{FileDisk, LastError};
 use flusher_core::Book;
 use gated_journal::Header;
+use std::alloc::Global;
 use std::fs::File;
 use std::io;
 use std::net::{Net, TcpListener, TcpStream};
@@ -31,14 +33,23 @@ pub struct Source {
     pub stream: Option<TcpStream>,
 }
 
-/// A recorder that may begin: its recording, which file that is, the host, and where viewers come.
+/// A recorder that may begin: its recording with seats for viewers, which file that is, the host, and
+/// where viewers come.
 #[derive(Drop)]
 pub struct Opened {
-    pub book: Box<Book<FileDisk>>,
+    pub desk: Box<Desk<FileDisk>>,
     pub beginning: Beginning,
     pub identity: Identity,
     pub source: Source,
     pub listener: TcpListener,
+}
+
+// A desk over a book. It is boxed, since its seats are many.
+fn desk_over(alloc: Global, book: Box<Book<FileDisk>>) -> Result<Box<Desk<FileDisk>>, Stopped> {
+    match Box::new(alloc, Desk::new(Box::into_inner(book))) {
+        Ok(desk) => Ok(desk),
+        Err(_) => Err(Stopped::out_of_memory()),
+    }
 }
 
 impl<'a, R: Eprint + Wait> Opening<'a, R> {
@@ -155,7 +166,7 @@ impl<
         let source = self.source(host, book.last_time())?;
         let beginning = beginning_of(&mut book, self.plan).map_err(Refusal::from)?;
         Ok(Opened {
-            book,
+            desk: desk_over(self.rt.alloc(), book)?,
             beginning,
             identity,
             source,

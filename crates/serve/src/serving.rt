@@ -5,7 +5,6 @@ ghost use Rattle.flusher_core.specs.State.{accepted_count};
 
 use crate::refusing::refuse;
 use crate::service::{Service, run_threads};
-use broadcast::Desk;
 use connections::{Event, Plan, Refusal, Room, Telling};
 use file_disk::LastError;
 use recorder_opening::{Opened, Opening, Source, Stopped};
@@ -36,17 +35,17 @@ fn serve_opened<
     last_error: LastError,
     err: &mut W,
 ) -> Result<u64, Stopped>
-    requires head { opened.book.value.head ≡ M.head }
+    requires head { opened.desk.value.head ≡ M.head }
     requires modelled { M.is_modelled → ⊥ }
-    requires first { accepted_count opened.book.value.state ≡ M.first }
+    requires first { accepted_count opened.desk.value.state.book ≡ M.first }
     requires names { token ≡ M.names }
 {
     let alloc = rt.alloc();
-    let name = opened.book.header().name().to_vec(alloc)?;
-    let screen = opened.book.header().screen();
-    let committed = opened.book.committed();
+    let name = opened.desk.header().name().to_vec(alloc)?;
+    let screen = opened.desk.header().screen();
+    let committed = opened.desk.committed();
     let Opened {
-        book,
+        desk,
         beginning,
         identity: _,
         source: Source { host, stream },
@@ -56,7 +55,7 @@ fn serve_opened<
     let room = Room::<M>::new(
         alloc, screen, name, plan, beginning, bell, telling, last_error, committed,
     );
-    let shared = Shared::<_, M>::new(rt, token, Desk::new(Box::into_inner(book)));
+    let shared = Shared::<_, M>::new(rt, token, desk);
     let service = Service {
         rt,
         shared: &shared,

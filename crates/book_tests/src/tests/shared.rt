@@ -5,7 +5,7 @@ mod parallel;
 mod twins;
 
 ghost use Rattle.std.specs.Prelude.{◌≡◌, [], IfOk};
-ghost use Rattle.pixel_format.specs.declared.kind.Format.TheVariants.{One};
+ghost use Rattle.book_tests.specs.OnePlace.{IsOfOnePlace};
 
 use crate::desk_of_one_place;
 use broadcast::Desk;
@@ -22,10 +22,8 @@ const UPDATE: [u8; 20] = [
     0, 0, 0, 1, 0, 0, 0, 0, 0, 1, 0, 1, 0, 0, 0, 0, 0, 0, 0xff, 0,
 ];
 
-fn new_desk<D: Disk + Drop>(alloc: Global, disk: D) -> Result<Desk<D>, Fail>
-    ensures format { IfOk result (λ desk. desk.head.format ≡ One) }
-    ensures width { IfOk result (λ desk. desk.head.width ≡ 1) }
-    ensures height { IfOk result (λ desk. desk.head.height ≡ 1) }
+fn new_desk<D: Disk + Drop>(alloc: Global, disk: D) -> Result<Box<Desk<D>>, Fail>
+    ensures place { IfOk result (λ desk. IsOfOnePlace desk.value.head) }
 {
     Ok(desk_of_one_place(alloc, disk).ok_or("no desk")?)
 }

@@ -1,8 +1,8 @@
 //! Workers in threads of their own.
 
 ghost use Rattle.std.specs.Prelude.{◌≡◌, IfSome};
-ghost use Rattle.pixel_format.specs.declared.kind.Format.TheVariants.{One};
 ghost use Rattle.flusher_core.specs.State.{accepted_count};
+ghost use Rattle.book_tests.specs.OnePlace.{IsOfOnePlace};
 
 use super::{UPDATE, confirm, find};
 use crate::{ONE_PLACE, desk_of_one_place};
@@ -256,7 +256,7 @@ struct Told<M: Mark> {
 
 impl<'a, D: Disk, M: Mark, R: Wait + Clock> Workers<'a, D, M, R> {
     fn host(&self) -> Vec<Ticket<M>>
-        requires { (M.head.format ≡ One) × (M.head.width ≡ 1) × (M.head.height ≡ 1) }
+        requires { IsOfOnePlace M.head }
     {
         let gates = self.gates;
         let mut tickets = Vec::new(self.alloc);
@@ -297,7 +297,7 @@ impl<'a, D: Disk, M: Mark, R: Wait + Clock> Workers<'a, D, M, R> {
     }
 
     fn view(&self) -> Seen<M>
-        requires { (M.head.format ≡ One) × (M.head.width ≡ 1) × (M.head.height ≡ 1) }
+        requires { IsOfOnePlace M.head }
     {
         let gates = self.gates;
         let mut seen = Seen {
@@ -331,14 +331,14 @@ impl<'a, D: Disk + Send, M: Mark + Send + Sync, R: Threads + Wait + Clock + Sync
     R,
 > {
     fn view_all(&self) -> Result<Vec<Seen<M>>, NoMemory>
-        requires { (M.head.format ≡ One) × (M.head.width ≡ 1) × (M.head.height ≡ 1) }
+        requires { IsOfOnePlace M.head }
     {
         let seen = map_indices(
             self.rt,
             self.alloc,
             self.viewers,
             &|_| -> Seen<M>
-                requires { (M.head.format ≡ One) × (M.head.width ≡ 1) × (M.head.height ≡ 1) }
+                requires { IsOfOnePlace M.head }
             { self.view() },
         );
         if seen.is_err() {
@@ -351,7 +351,7 @@ impl<'a, D: Disk + Send, M: Mark + Send + Sync, R: Threads + Wait + Clock + Sync
     // can be made, `join` calls its second closure and then its first: the host comes first, as the
     // flusher waits for its end, and it waits for nobody while there is room.
     fn record(&self) -> (Vec<Ticket<M>>, Vec<Receipt<M>>)
-        requires { (M.head.format ≡ One) × (M.head.width ≡ 1) × (M.head.height ≡ 1) }
+        requires { IsOfOnePlace M.head }
     {
         match self.gates.order {
             Order::Free | Order::Meeting | Order::FailsAfter(_) => {
@@ -359,7 +359,7 @@ impl<'a, D: Disk + Send, M: Mark + Send + Sync, R: Threads + Wait + Clock + Sync
                     self.rt,
                     move || self.flush(),
                     move || -> Vec<Ticket<M>>
-                        requires { (M.head.format ≡ One) × (M.head.width ≡ 1) × (M.head.height ≡ 1) }
+                        requires { IsOfOnePlace M.head }
                     { self.host() },
                 );
                 (tickets, committed)
@@ -382,15 +382,15 @@ impl<'a, D: Disk + Send, M: Mark + Send + Sync, R: Threads + Wait + Clock + Sync
     // All workers. The viewers wait for the end of both others, and so come last where no thread can
     // be made.
     fn work(&self) -> Result<Told<M>, NoMemory>
-        requires { (M.head.format ≡ One) × (M.head.width ≡ 1) × (M.head.height ≡ 1) }
+        requires { IsOfOnePlace M.head }
     {
         let (seen, (tickets, committed)) = join(
             self.rt,
             move || -> Result<Vec<Seen<M>>, NoMemory>
-                requires { (M.head.format ≡ One) × (M.head.width ≡ 1) × (M.head.height ≡ 1) }
+                requires { IsOfOnePlace M.head }
             { self.view_all() },
             move || -> (Vec<Ticket<M>>, Vec<Receipt<M>>)
-                requires { (M.head.format ≡ One) × (M.head.width ≡ 1) × (M.head.height ≡ 1) }
+                requires { IsOfOnePlace M.head }
             { self.record() },
         );
         let mut seen = seen?;
@@ -459,16 +459,16 @@ fn share<
     rt: &'a R,
     alloc: Global,
     token: Token,
-    desk: Desk<D>,
+    desk: Box<Desk<D>>,
     gates: &'a Gates<'a, R>,
     count: u64,
     viewers: usize,
 ) -> Result<(), Fail>
-    requires head { desk.head ≡ M.head }
+    requires head { desk.value.head ≡ M.head }
     requires modelled { (D.is_modelled → M.is_modelled) × (M.is_modelled → D.is_modelled) }
-    requires first { accepted_count desk.state.book ≡ M.first }
+    requires first { accepted_count desk.value.state.book ≡ M.first }
     requires names { token ≡ M.names }
-    requires sized { (M.head.format ≡ One) × (M.head.width ≡ 1) × (M.head.height ≡ 1) }
+    requires sized { IsOfOnePlace M.head }
 {
     let shared = Shared::<D, M>::new(rt, token, desk);
     let workers = Workers {
@@ -489,8 +489,8 @@ fn share<
 }
 
 // What workers begin with; none where memory was wanting.
-fn begun(alloc: Global, order: Order) -> Option<(Token, Desk<FailingDisk<MemoryDisk>>)>
-    ensures { IfSome result (λ b. (b.1.head.format ≡ One) × (b.1.head.width ≡ 1) × (b.1.head.height ≡ 1)) }
+fn begun(alloc: Global, order: Order) -> Option<(Token, Box<Desk<FailingDisk<MemoryDisk>>>)>
+    ensures { IfSome result (λ b. IsOfOnePlace b.1.value.head) }
 {
     let switch = Switch::new(alloc).ok()?;
     let disk = FailingDisk::new(MemoryDisk::new(alloc), switch.clone().ok()?);

@@ -1,8 +1,8 @@
 //! The same lines through the lock and at a desk.
 
 ghost use Rattle.std.specs.Prelude.{◌≡◌, IfOk};
-ghost use Rattle.pixel_format.specs.declared.kind.Format.TheVariants.{One};
 ghost use Rattle.flusher_core.specs.State.{accepted_count};
+ghost use Rattle.book_tests.specs.OnePlace.{IsOfOnePlace};
 
 use super::{UPDATE, confirm, find, new_desk};
 use crate::ONE_PLACE;
@@ -84,10 +84,8 @@ fn host<D: Disk, M: Mark, R: Wait>(
     tickets: &mut Vec<Ticket<M>>,
     bytes: &[u8],
 ) -> Result<bool, Fail>
-    requires format { desk.old.head.format ≡ One }
-    requires width { desk.old.head.width ≡ 1 }
-    requires height { desk.old.head.height ≡ 1 }
-    requires sized { (M.head.format ≡ One) × (M.head.width ≡ 1) × (M.head.height ≡ 1) }
+    requires place { IsOfOnePlace desk.old.head }
+    requires sized { IsOfOnePlace M.head }
     ensures head { desk.new.head ≡ desk.old.head }
 {
     let answer = desk.host(0, HostMessage::from_bytes(alloc, ONE_PLACE, bytes)?);
@@ -163,10 +161,8 @@ fn both<D: Disk, M: Mark, R: Wait>(
     kept: &mut Kept<M>,
     line: Line,
 ) -> Result<bool, Fail>
-    requires format { desk.old.head.format ≡ One }
-    requires width { desk.old.head.width ≡ 1 }
-    requires height { desk.old.head.height ≡ 1 }
-    requires sized { (M.head.format ≡ One) × (M.head.width ≡ 1) × (M.head.height ≡ 1) }
+    requires place { IsOfOnePlace desk.old.head }
+    requires sized { IsOfOnePlace M.head }
     ensures head { desk.new.head ≡ desk.old.head }
 {
     match line {
@@ -206,10 +202,8 @@ fn run_lines<D: Disk, M: Mark, R: Wait + Abort>(
     kept: &mut Kept<M>,
     lines: &[Line],
 ) -> Result<(), Fail>
-    requires format { desk.old.head.format ≡ One }
-    requires width { desk.old.head.width ≡ 1 }
-    requires height { desk.old.head.height ≡ 1 }
-    requires sized { (M.head.format ≡ One) × (M.head.width ≡ 1) × (M.head.height ≡ 1) }
+    requires place { IsOfOnePlace desk.old.head }
+    requires sized { IsOfOnePlace M.head }
 {
     for line in lines {
         let are_same = both(rt, alloc, desk, shared, kept, *line)?;
@@ -235,17 +229,15 @@ fn run_both<D: Disk + Drop, M: Mark, R: Wait + Abort>(
     alloc: Global,
     token: Token,
     desk: &mut Desk<D>,
-    twin: Desk<D>,
+    twin: Box<Desk<D>>,
     lines: &[Line],
 ) -> Result<(), Fail>
-    requires format { desk.old.head.format ≡ One }
-    requires width { desk.old.head.width ≡ 1 }
-    requires height { desk.old.head.height ≡ 1 }
-    requires head { twin.head ≡ M.head }
+    requires place { IsOfOnePlace desk.old.head }
+    requires head { twin.value.head ≡ M.head }
     requires modelled { (D.is_modelled → M.is_modelled) × (M.is_modelled → D.is_modelled) }
-    requires first { accepted_count twin.state.book ≡ M.first }
+    requires first { accepted_count twin.value.state.book ≡ M.first }
     requires names { token ≡ M.names }
-    requires sized { (M.head.format ≡ One) × (M.head.width ≡ 1) × (M.head.height ≡ 1) }
+    requires sized { IsOfOnePlace M.head }
 {
     let shared = Shared::<D, M>::new(rt, token, twin);
     let mut kept = Kept {
@@ -261,16 +253,13 @@ fn run_both<D: Disk + Drop, M: Mark, R: Wait + Abort>(
     }
 }
 
-// A desk whose disk fails once, after so many calls. It is boxed, so that who ends early doesn't take
-// it apart.
+// A desk whose disk fails once, after so many calls.
 fn failing_desk(alloc: Global, calls: u64) -> Result<Box<Desk<FailingDisk<MemoryDisk>>>, Fail>
-    ensures format { IfOk result (λ desk. desk.value.head.format ≡ One) }
-    ensures width { IfOk result (λ desk. desk.value.head.width ≡ 1) }
-    ensures height { IfOk result (λ desk. desk.value.head.height ≡ 1) }
+    ensures place { IfOk result (λ desk. IsOfOnePlace desk.value.head) }
 {
     let switch = Switch::new(alloc)?;
     let disk = FailingDisk::new(MemoryDisk::new(alloc), switch.clone()?);
-    let desk = Box::new(alloc, new_desk(alloc, disk)?)?;
+    let desk = new_desk(alloc, disk)?;
     switch.fail_after(calls);
     Ok(desk)
 }
@@ -285,7 +274,6 @@ fn run_twins<R: Wait + Abort>(
     let mut desk = failing_desk(alloc, calls)?;
     let twin = failing_desk(alloc, calls)?;
     let token = Token::new(alloc)?;
-    let twin = Box::into_inner(twin);
     run_both::<FailingDisk<MemoryDisk>, Brand, R>(rt, alloc, token, &mut desk, twin, lines)
 }
 
