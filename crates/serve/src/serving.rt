@@ -20,6 +20,33 @@ use std::sync::Wait;
 use std::thread::Threads;
 use std::time::Clock;
 
+// What the threads of a recorder share beside the recording. It is boxed, since it is large, and each
+// way out of a function that owns it would take it apart.
+fn room_of<M: Mark, R: AllocGlobal>(
+    rt: &R,
+    plan: &Plan<'_>,
+    opened: &Opened,
+    bell: Bell,
+    last_error: LastError,
+) -> Result<Box<Room<M>>, Stopped>
+    requires { opened.now.desk.value.head ≡ M.head }
+{
+    let alloc = rt.alloc();
+    let desk = &opened.desk;
+    let room = Room::<M>::new(
+        alloc,
+        desk.header().screen(),
+        desk.header().name().to_vec(alloc)?,
+        plan,
+        opened.beginning,
+        bell,
+        Telling::new(plan.is_verbose),
+        last_error,
+        desk.committed(),
+    );
+    Box::new(alloc, room).map_err(|_| Stopped::out_of_memory())
+}
+
 // Serves a recording, which the host goes on with, under a mark that fits it: how many messages are
 // committed in the end.
 fn serve_opened<
@@ -30,31 +57,23 @@ fn serve_opened<
     rt: &R,
     plan: &Plan<'_>,
     token: Token,
-    opened: Opened,
+    opened: Box<Opened>,
     bell: Bell,
     last_error: LastError,
     err: &mut W,
 ) -> Result<u64, Stopped>
-    requires head { opened.desk.value.head ≡ M.head }
+    requires head { opened.value.desk.value.head ≡ M.head }
     requires modelled { M.is_modelled → ⊥ }
-    requires first { accepted_count opened.desk.value.state.book ≡ M.first }
+    requires first { accepted_count opened.value.desk.value.state.book ≡ M.first }
     requires names { token ≡ M.names }
 {
-    let alloc = rt.alloc();
-    let name = opened.desk.header().name().to_vec(alloc)?;
-    let screen = opened.desk.header().screen();
-    let committed = opened.desk.committed();
+    let room = room_of::<M, R>(rt, plan, &opened, bell, last_error)?;
     let Opened {
         desk,
-        beginning,
-        identity: _,
         source: Source { host, stream },
         listener,
-    } = opened;
-    let telling = Telling::new(plan.is_verbose);
-    let room = Room::<M>::new(
-        alloc, screen, name, plan, beginning, bell, telling, last_error, committed,
-    );
+        ..
+    } = Box::into_inner(opened);
     let shared = Shared::<_, M>::new(rt, token, desk);
     let service = Service {
         rt,
@@ -91,7 +110,9 @@ where
         telling: &telling,
         last_error: &last_error,
     };
-    let opened = opening.open(listen)?;
+    let Ok(opened) = Box::new(rt.alloc(), opening.open(listen)?) else {
+        return Err(Stopped::out_of_memory());
+    };
     let bell = opening.given(Bell::new(rt), "make a bell for", plan.listen, Refusal::Net)?;
     let Ok(token) = Token::new(rt.alloc()) else {
         return Err(Stopped::out_of_memory());
