@@ -1,12 +1,10 @@
-//! Runs drills whose answers were worked by hand, and random ones against a plain account of the
-//! rules.
+//! Runs drills, and compares what they answer with what stands beside them.
 //!
 //! Each word names a file of drills, which empty lines part. A line of a drill that begins with `> `
 //! or `* ` is a line of its script, one with `# ` a comment; the others are its answers. For each
 //! file a line is printed that counts its drills, and one for each that was answered in another way.
 #![tactic(auto)]
 
-mod random;
 mod transcript;
 
 use std::{env, fs, io};
@@ -30,8 +28,5 @@ fn main(rt: HostRuntime) -> io::Result<()> {
     for name in env::args(&rt)?.skip(1) {
         run_file(&rt, name.as_str())?;
     }
-    match random::first_difference(rt.alloc())? {
-        Some(script) => println!(rt; "a random drill is answered against the rules:\n{script}"),
-        None => println!(rt; "random: drills {}", random::SCRIPTS),
-    }
+    Ok(())
 }

@@ -83,10 +83,3 @@ fn text_of(bytes: Vec<u8>) -> io::Result<String> {
         Err(_) => Err(io::ErrorKind::InvalidData.into()),
     }
 }
-
-/// What a script answers.
-pub fn answers_to(alloc: Global, script: &str) -> io::Result<String> {
-    let mut out = Vec::new(alloc);
-    drill::run(alloc, script.as_bytes(), &mut out)?;
-    text_of(out)
-}
