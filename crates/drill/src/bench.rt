@@ -121,7 +121,7 @@ impl Drill {
             Ok(header) => Ok(self.create(disk, header)),
             Err(fault) => {
                 self.bench = Bench::Disk(disk);
-                Ok(Answer::HeaderRefused(fault.number()))
+                Ok(Answer::Refused("new", fault.number()))
             }
         }
     }

@@ -63,7 +63,7 @@ fn step_of(alloc: Global, desk: &Desk<FusedDisk>, line: DeskLine) -> Result<Step
         DeskLine::Host { time, bytes } => {
             match HostMessage::from_bytes_in(alloc, desk.header().screen(), &bytes) {
                 Ok(message) => Step::Host(time, message),
-                Err(fault) => return Err(Answer::BytesRefused(fault.number())),
+                Err(fault) => return Err(Answer::Refused("bytes", u64::from(fault.number()))),
             }
         }
         DeskLine::Take => Step::Take,
@@ -100,34 +100,37 @@ fn answer_of(reply: Reply, seat: u32, position: u64) -> Answer {
     match reply {
         Reply::Host(Ok(number)) => Answer::Accepted(number),
         Reply::Host(Err(refused)) => {
-            Answer::HostRefused(StepRefusal::Host(refused.why).number())
+            Answer::Refused("host", StepRefusal::Host(refused.why).number())
         }
         Reply::Take(Ok(taken)) => Answer::Taken {
             first: taken.first,
             count: taken.count,
         },
-        Reply::Take(Err(refusal)) => Answer::TakeRefused(StepRefusal::Take(refusal).number()),
+        Reply::Take(Err(refusal)) => Answer::Refused("take", StepRefusal::Take(refusal).number()),
         Reply::Body(Ok(())) => Answer::Written,
-        Reply::Body(Err(refusal)) => Answer::BodyRefused(StepRefusal::Flush(refusal).number()),
+        Reply::Body(Err(refusal)) => Answer::Refused("body", StepRefusal::Flush(refusal).number()),
         // What is answered ends at the committed count, so no sum is cut at the limit of its type.
         Reply::Gate(Ok(slice)) => {
             Answer::Committed(slice.first.saturating_add(slice.messages.len() as u64))
         }
-        Reply::Gate(Err(refusal)) => Answer::GateRefused(StepRefusal::Flush(refusal).number()),
+        Reply::Gate(Err(refusal)) => Answer::Refused("gate", StepRefusal::Flush(refusal).number()),
         Reply::Join(Ok(seated)) => Answer::Seated {
             seat: seated.number,
             position: seated.position,
         },
-        Reply::Join(Err(refusal)) => Answer::JoinRefused(StepRefusal::Join(refusal).number()),
+        Reply::Join(Err(refusal)) => Answer::Refused("join", StepRefusal::Join(refusal).number()),
         Reply::Next(Ok(slice)) => Answer::Slice {
             first: slice.first,
             count: slice.messages.len(),
         },
-        Reply::Next(Err(refusal)) => Answer::NextRefused(StepRefusal::Next(refusal).number()),
+        Reply::Next(Err(refusal)) => Answer::Refused("next", StepRefusal::Next(refusal).number()),
         Reply::Seek(Ok(())) => Answer::Seated { seat, position },
-        Reply::Seek(Err(refusal)) => Answer::SeekRefused(StepRefusal::Seek(refusal).number()),
+        Reply::Seek(Err(refusal)) => Answer::Refused("seek", StepRefusal::Seek(refusal).number()),
         Reply::Leave(Ok(())) => Answer::Left(seat),
-        Reply::Leave(Err(refusal)) => Answer::LeaveRefused(StepRefusal::Leave(refusal).number()),
+        Reply::Leave(Err(refusal)) => Answer::Refused(
+            "leave",
+            StepRefusal::Leave(refusal).number(),
+        ),
     }
 }
 
@@ -147,6 +150,6 @@ fn pixel(desk: &mut Desk<FusedDisk>, count: u64, x: u16, y: u16) -> Answer {
     }
     match desk.screen_at(count) {
         Ok(screen) => Answer::Pixel(screen.color(x, y)),
-        Err(fault) => Answer::PixelRefused(fault.number()),
+        Err(fault) => Answer::Refused("pixel", fault.number()),
     }
 }
