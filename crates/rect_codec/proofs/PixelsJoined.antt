@@ -9,8 +9,7 @@ use Rattle.std.proofs.Math.ListN.{get_or-append}
 use Rattle.std.proofs.Math.Nat.{mul-le-mul_left, mul_comm, mul-add}
 use Rattle.pixel_format.specs.declared.Color.{Color}
 use Rattle.pixel_format.specs.Format.{Format, pixel_bytes}
-use Rattle.pixel_format.specs.Pixel.{pixel_of, color_number}
-use Rattle.pixel_format.specs.Pixel.{ArePixels as HavePixels}
+use Rattle.pixel_format.specs.Pixel.{pixel_of, color_number, ArePixels as HavePixels}
 use Rattle.pixel_format.specs.Canvas.{nth, black}
 use Rattle.terms.specs.Appending.{Appends}
 use Rattle.rect_codec.specs.Picture.{pixel_at}
