@@ -46,12 +46,6 @@ fn pixel_of(color: Color) -> u32 {
     (color.r as u32) << 16 | (color.g as u32) << 8 | color.b as u32
 }
 
-fn append_raw(colors: &[Color], out: &mut Vec<u8>) {
-    for color in colors {
-        out.extend_from_slice(&pixel_of(*color).to_le_bytes());
-    }
-}
-
 fn append_rows(rows: &[[u8; 4]], out: &mut Vec<u8>) {
     for row in rows.chunks(WIDTH) {
         out.extend_from_slice(row.as_flattened());
@@ -330,8 +324,7 @@ fn main() {
     let rows: Vec<[u8; 4]> = pixels.iter().map(|pixel| pixel.to_le_bytes()).collect();
     let mut out = vec![0; HEAD];
     match work {
-        "raw" => append_raw(&colors, &mut out),
-        "copied" | "ready_raw" | "paint_raw" => append_rows(&rows, &mut out),
+        "ready_raw" | "paint_raw" => append_rows(&rows, &mut out),
         "rre" | "ready_rre" | "paint_rre" => {
             if !append_rre(&mut pixels, &mut out) {
                 append_rows(&rows, &mut out);

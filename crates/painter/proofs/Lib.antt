@@ -8,6 +8,7 @@ pub mod Updates
 pub mod RowsRead
 pub mod Keys
 pub mod Whole
+pub mod PixelsPut
 pub mod SentRows
 pub mod SentColors
 pub mod SentParts

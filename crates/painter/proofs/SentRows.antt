@@ -15,11 +15,11 @@ use Rattle.terms.proofs.Appends.{grows_more}
 use Rattle.terms.proofs.Progress.{Joins, joins_mapped}
 use Rattle.rect_codec.specs.Picture.{pixel_at}
 use Rattle.rect_codec.specs.Written.{IsPixelOf, ArePixels}
-use Rattle.rect_codec.proofs.PixelsPut.{pixel_more}
 use Rattle.rect_codec.proofs.PixelsJoined.{are_joined}
 use Rattle.painter.specs.declared.pixel.Pixel.{Pixel}
 use Rattle.painter.specs.Pixels.{color_of}
 use Rattle.painter.specs.Sent.{seen_colors}
+use Rattle.painter.proofs.PixelsPut.{pixel_more}
 
 -- the host's format has a screen's colours as they are
 same_channel : (v : ℕ) → converted_channel 255 v ≡ v

@@ -1,4 +1,3 @@
-pub mod PixelsPut
 pub mod Drawing
 pub mod PixelsJoined
 pub mod PartsDrawn

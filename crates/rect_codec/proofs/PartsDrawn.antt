@@ -23,7 +23,7 @@ use Rattle.rect_codec.specs.Picture.{copied_picture, painted_data}
 use Rattle.rect_codec.specs.Update.{Drawn, rectangle_at, rectangles_at, update_at}
 use Rattle.rect_codec.specs.Parts.{source_bytes, parts_head, IsRectangle, IsRectangleFor, IsPart, AreParts, PartLiesWithin, HasCopied, Draws, DrawsParts}
 use Rattle.rect_codec.specs.Written.{ArePixels, Shows}
-use Rattle.rect_codec.proofs.PixelsPut.{pixels_show}
+use Rattle.rect_codec.proofs.PixelsJoined.{pixels_show}
 use Rattle.rect_codec.proofs.Drawing.{data_whole, data_read, place_in, has_colors, u16_back, rectangle_read, encoding_is, inside_is}
 
 -- a part that is read as a rectangle which paints what it says

@@ -1,19 +1,19 @@
--- Pixels that are appended to others.
-use Rattle.std.proofs.Common.{◌≡◌, ℕ, ◌+◌, ◌-◌, ◌*◌, ◌<◌, ◌≤◌, List, [], ◌++◌, length, take, drop, get_or, inl, inr, sym, ap, subst, ◌∙◌, arith, length-append, zero-mul}
-use Rattle.std.specs.Prelude.{All}
-use Rattle.std.proofs.lemmas.Bool.{cases_lt}
-use Rattle.std.proofs.lemmas.List.{take_at, take-append-le, drop-append-le, get_or-append-add, length-drop}
+-- Pixels that stand one behind the other.
+use Rattle.std.proofs.Common.{◌≡◌, ℕ, zero, suc, ◌+◌, ◌-◌, ◌*◌, ◌≤◌, List, [], ◌∷◌, ◌++◌, length, take, drop, inl, inr, refl, sym, ap, subst, ◌∙◌, arith, length-append, zero-mul}
+use Rattle.std.specs.Int.{bytes_low_first, bytes_high_first}
+use Rattle.std.specs.List.{flat_map}
+use Rattle.std.proofs.lemmas.Bool.{cases_Bool, cases_lt}
+use Rattle.std.proofs.lemmas.List.{take_at, take_all, take-append-le, drop-append-le, get_or-append-add, length-drop, append_cancel_left}
 use Rattle.std.proofs.Math.Seq.{drop-append-add}
 use Rattle.std.proofs.Math.ListN.{get_or-append}
 use Rattle.std.proofs.Math.Nat.{mul-le-mul_left, mul_comm, mul-add}
 use Rattle.pixel_format.specs.declared.Color.{Color}
 use Rattle.pixel_format.specs.Format.{Format, pixel_bytes}
-use Rattle.pixel_format.specs.Pixel.{IsWithin}
+use Rattle.pixel_format.specs.Pixel.{pixel_of, color_number, ArePixels as HavePixels}
 use Rattle.pixel_format.specs.Canvas.{nth, black}
 use Rattle.terms.specs.Appending.{Appends}
-use Rattle.terms.proofs.Progress as progress
 use Rattle.rect_codec.specs.Picture.{pixel_at}
-use Rattle.rect_codec.specs.Written.{IsPixelOf, ArePixels}
+use Rattle.rect_codec.specs.Written.{IsPixelOf, ArePixels, ShowsRaw}
 
 distribute : (a b s : ℕ) → (a + b) * s ≡ a * s + b * s
 distribute a b s = mul_comm (a + b) s ∙ mul-add s a b ∙ omega (arith, mul_comm s a, mul_comm s b)
@@ -49,32 +49,65 @@ are_joined f a b p q first second =
 pub no_pixels : (f : Format) → ArePixels f [] []
 no_pixels f = record { size = sym (zero-mul (pixel_bytes f)); pixels_are = λ n less. absurd (omega arith) }
 
--- the front of the colours is appended
-abbrev pub Progress : Format → List Color → List Color → List ℕ → List ℕ → Type 0
-Progress f = progress.Progress (ArePixels f)
+-- a pixel has as many bytes as the format says
+high_long : (n x : ℕ) → length (bytes_high_first n x) ≡ n
+high_long zero x = refl
+high_long (suc n) x = ap suc (high_long n x)
 
-pub begins : (f : Format) (colors : List Color) (old : List ℕ) → Progress f colors colors old old
-begins f = progress.begins (ArePixels f) (no_pixels f)
+low_long : (i n x : ℕ) → length (bytes_low_first i n x) ≡ n
+low_long i zero x = refl
+low_long i (suc n) x = ap suc (low_long (suc i) n x)
 
-pub goes_on : (f : Format) (colors rest some behind : List Color) (old between new : List ℕ) → rest ≡ some ++ behind → Progress f colors rest old between
-    → Appends (ArePixels f some) between new → Progress f colors behind old new
-goes_on f = progress.goes_on (ArePixels f) (are_joined f)
+pixel_long : (f : Format) (c : Color) → length (pixel_of f c) ≡ pixel_bytes f
+unfolding pixel_of
+pixel_long f c = elim (cases_Bool f.big_endian) [
+  | inl big ↦ rw big (high_long (pixel_bytes f) (color_number f c))
+  | inr little ↦ rw little (low_long 0 (pixel_bytes f) (color_number f c))
+]
 
-pub ends : (f : Format) (colors rest : List Color) (old new : List ℕ) → length rest ≡ 0 → Progress f colors rest old new → Appends (ArePixels f colors) old new
-ends f = progress.ends (ArePixels f)
+one_pixel : (f : Format) (c : Color) (pixel : List ℕ) → length pixel ≡ pixel_bytes f → IsPixelOf f c pixel → ArePixels f (c ∷ []) pixel
+one_pixel f c pixel long is = record {
+  size = long ∙ omega arith;
+  pixels_are = λ n less.
+      let first : n ≡ 0 = omega arith in
+      let whole : pixel_at f pixel 0 ≡ pixel = rw (zero-mul (pixel_bytes f)) (take_all (pixel_bytes f) pixel (omega arith)) in
+      rw (first, whole) is;
+}
 
--- the colours that are left are some of all
-pub part_within : (f : Format) (colors rest some behind : List Color) (old new : List ℕ) → rest ≡ some ++ behind → All (IsWithin f) colors → Progress f colors rest old new → All (IsWithin f) some
-part_within f colors rest some behind old new split all p k d less =
-    let whole : colors ≡ p.done ++ (some ++ behind) = p.all ∙ ap (λ (cs : List Color). p.done ++ cs) split in
-    let at : get_or colors (length p.done + k) d ≡ get_or some k d =
-    ap (λ (cs : List Color). get_or cs (length p.done + k) d) whole ∙ get_or-append-add p.done (some ++ behind) k d ∙ get_or-append some behind d k less in
-    let inside : length p.done + k < length colors = omega (arith, ap length whole, length-append p.done (some ++ behind), length-append some behind, less) in
-    subst (IsWithin f) at (all (length p.done + k) d inside)
+-- bytes that have the colours, one behind the other, and are those that are written of them
+pub pixels_are : (f : Format) (colors : List Color) (bytes : List ℕ) → HavePixels f colors bytes → bytes ≡ flat_map (pixel_of f) colors → ArePixels f colors bytes
+pixels_are f [] bytes none written = subst (ArePixels f []) (sym none) (no_pixels f)
+pixels_are f (c ∷ colors) bytes are written =
+    let first : List ℕ = are.0 in
+    let rest : List ℕ = are.1 in
+    let one = pixel_long f c in
+    let both : first ++ rest ≡ pixel_of f c ++ flat_map (pixel_of f) colors = sym are.2 ∙ written in
+    let same : first ≡ pixel_of f c =
+    sym (take_at first rest (pixel_bytes f) are.3.size) ∙ ap (take (pixel_bytes f)) both ∙ take_at (pixel_of f c) (flat_map (pixel_of f) colors) (pixel_bytes f) one in
+    let behind : rest ≡ flat_map (pixel_of f) colors = append_cancel_left first rest (flat_map (pixel_of f) colors) (both ∙ ap (λ (z : List ℕ). z ++ flat_map (pixel_of f) colors) (sym same)) in
+    subst (ArePixels f (c ∷ colors)) (sym are.2)
+    (are_joined f (c ∷ []) colors first rest (one_pixel f c first are.3.size (record { bytes_are = same; color_is = sym are.3.color_is })) (pixels_are f colors rest are.4 behind))
 
-pub few_left : (f : Format) (colors rest : List Color) (old new : List ℕ) → Progress f colors rest old new → length rest ≤ length colors
-few_left f colors rest old new p = omega (arith, ap length p.all, length-append p.done rest)
+-- the same of what is appended
+pub pixels_appended : (f : Format) (colors : List Color) (old new : List ℕ) → Appends (HavePixels f colors) old new → new ≡ old ++ flat_map (pixel_of f) colors
+    → Appends (ArePixels f colors) old new
+pixels_appended f colors old new a written = record {
+  bytes = a.bytes;
+  is = a.is;
+  are = pixels_are f colors a.bytes a.are (append_cancel_left old a.bytes (flat_map (pixel_of f) colors) (sym a.is ∙ written));
+}
 
--- what was appended is taken off again
-pub taken_off : (f : Format) (colors rest : List Color) (old new : List ℕ) (n : ℕ) → n ≡ length old → Progress f colors rest old new → take n new ≡ old
-taken_off f colors rest old new n is p = ap (take n) p.are.is ∙ take_at old p.are.bytes n (sym is)
+-- appended pixels show their colours, by rows
+pub pixels_show : (f : Format) (w h : ℕ) (colors : List Color) (old new : List ℕ) → length colors ≡ h * w
+    → Appends (ArePixels f colors) old new → Appends (ShowsRaw f w h colors) old new
+pixels_show f w h colors old new places appended =
+    let pixels = appended.are in
+    record {
+      bytes = appended.bytes;
+      is = appended.is;
+      are = record {
+        size = pixels.size ∙ ap (λ (n : ℕ). n * pixel_bytes f) places;
+        are = pixels;
+        picture = λ column row across down. (pixels.pixels_are (row * w + column) (omega (arith, mul-le-mul_left w down))).color_is;
+      };
+    }

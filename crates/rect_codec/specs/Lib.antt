@@ -1,7 +1,6 @@
 pub use Rattle.pixel_format.specs.Canvas
 pub mod Encoding
 pub mod Picture
-pub mod Room
 pub mod Written
 pub mod Update
 pub mod Parts

@@ -6,7 +6,6 @@ mod encoding;
 mod laws;
 mod numbers;
 mod parts;
-mod pixels;
 mod update;
 
 pub use encoding::pick;

@@ -1,17 +1,17 @@
 //! Rectangles of pixels that are numbers.
 
-ghost use Rattle.std.specs.Prelude.{◌≡◌, ◌+◌, ◌*◌, ◌<◌, All, IfOk, length, true};
+ghost use Rattle.std.specs.Prelude.{◌≡◌, ◌+◌, ◌*◌, ◌<◌, All, IfOk, OnOk, OnErr, length, true};
 ghost use Rattle.pixel_format.specs.Format.{pixel_bytes};
 ghost use Rattle.pixel_format.specs.Number.{colors_of, IsNumber};
-ghost use Rattle.terms.specs.Appending.{AppendsIf};
+ghost use Rattle.terms.specs.Appending.{Appends, AppendsIf};
 ghost use Rattle.rect_codec.specs.Written.{Shows};
-ghost use Rattle.rect_codec.specs.Parts.{IsRectangleFor};
+ghost use Rattle.rect_codec.specs.Parts.{IsRectangle, IsRectangleFor};
 
 use crate::update::append_head;
 use pixel_format::{PixelFormat, Pixels};
 use rect_data::Encoding;
 use std::alloc::Global;
-use terms::{Area, NoMemory};
+use terms::{Area, NoMemory, whole_or_none};
 
 // Appends the data of a rectangle in this encoding if they are shorter than in Raw, and answers
 // whether they are: in Raw and CopyRect they never are. Where they aren't, and for want of memory,
@@ -63,4 +63,23 @@ pub fn append_numbers(
     }
     out.truncate(start);
     written
+}
+
+/// Appends a rectangle in Raw that gives the places of its area these pixels, by rows. Want of memory
+/// leaves `out` as it was.
+pub(crate) fn append_raw(
+    format: &PixelFormat,
+    area: Area,
+    numbers: &[u32],
+    out: &mut Vec<u8>,
+) -> Result<(), NoMemory>
+    requires size { length numbers.now ≡ area.h * area.w }
+    requires numbers { All (IsNumber format.now) numbers.now }
+    ensures ok { OnOk result (Appends (IsRectangle format.now area (colors_of format.now numbers.now) Encoding.Raw) out.old.items out.new.items) }
+    ensures err { OnErr result (out.new.items ≡ out.old.items) }
+{
+    let start = out.len();
+    append_head(area, Encoding::Raw, out)?;
+    let appended = format.append_numbers(numbers, out);
+    whole_or_none(appended, start, out)
 }

@@ -6,8 +6,8 @@ ghost use Rattle.rect_data.specs.Data.{number_of};
 ghost use Rattle.terms.specs.Appending.{Appends, AreEach, Grows};
 ghost use Rattle.rect_codec.specs.Parts.{CanBeWritten, IsPart, AreParts, source_bytes};
 
-use crate::numbers::append_numbers;
-use crate::update::{append_head, append_raw};
+use crate::numbers::{append_numbers, append_raw};
+use crate::update::append_head;
 use pixel_format::{Color, PixelFormat};
 use rect_data::Encoding;
 use std::alloc::Global;
@@ -68,13 +68,11 @@ fn append_part(
             colors,
             encoding,
         } => {
-            if let Encoding::Rre | Encoding::Hextile = encoding {
-                let numbers = format.numbers_of(alloc, colors)?;
-                if append_numbers(alloc, format, area, &numbers, encoding, out)? {
-                    return Ok(());
-                }
+            let numbers = format.numbers_of(alloc, colors)?;
+            if append_numbers(alloc, format, area, &numbers, encoding, out)? {
+                return Ok(());
             }
-            append_raw(format, area, colors, out)
+            append_raw(format, area, &numbers, out)
         }
     }
 }

@@ -5,14 +5,13 @@ ghost use Rattle.pixel_format.specs.Pixel.{IsWithin};
 ghost use Rattle.terms.specs.Appending.{Appends};
 ghost use Rattle.client_wire.specs.Written.{rectangle_head};
 ghost use Rattle.rect_data.specs.Data.{number_of};
-ghost use Rattle.rect_codec.specs.Parts.{IsRectangle, IsUpdateFor};
+ghost use Rattle.rect_codec.specs.Parts.{IsUpdateFor};
 
 use crate::parts::{Part, write_parts};
-use crate::pixels::append_pixels;
 use pixel_format::{Color, PixelFormat};
 use rect_data::Encoding;
 use std::alloc::Global;
-use terms::{Area, NoMemory, whole_or_none};
+use terms::{Area, NoMemory};
 
 /// Appends the header of a rectangle: its area, and the number of its encoding (RFC 6143, section
 /// 7.6.1). Want of memory leaves `out` as it was.
@@ -25,24 +24,6 @@ pub fn append_head(area: Area, encoding: Encoding, out: &mut Vec<u8>) -> Result<
     out.extend_from_slice(&[
         x, x_low, y, y_low, w, w_low, h, h_low, first, second, third, fourth,
     ])
-}
-
-/// Appends a rectangle in Raw. Want of memory leaves `out` as it was.
-pub(crate) fn append_raw(
-    format: &PixelFormat,
-    area: Area,
-    colors: &[Color],
-    out: &mut Vec<u8>,
-) -> Result<(), NoMemory>
-    requires size { length colors.now ≡ area.h * area.w }
-    requires within { All (IsWithin format.now) colors.now }
-    ensures ok { OnOk result (Appends (IsRectangle format.now area colors.now Encoding.Raw) out.old.items out.new.items) }
-    ensures err { OnErr result (out.new.items ≡ out.old.items) }
-{
-    let start = out.len();
-    append_head(area, Encoding::Raw, out)?;
-    let appended = append_pixels(format, colors, out);
-    whole_or_none(appended, start, out)
 }
 
 /// Appends a FramebufferUpdate of one rectangle (RFC 6143, section 7.6.1) that gives the places of
