@@ -4,7 +4,7 @@ use Rattle.std.specs.List.{flat_map, AllByRecursion}
 use Rattle.std.proofs.lemmas.List.{length-replicate}
 use Rattle.terms.specs.Reading.{Got, More, Bad}
 use Rattle.terms.proofs.Readings.{field-short}
-use Rattle.terms.specs.Fault.{UnlessMemory}
+use Rattle.terms.proofs.Lacks.{unless_other}
 use Rattle.terms.specs.declared.wire_fault.WireFault.{WireFault}
 use Rattle.terms.specs.declared.wire_fault.WireFault.TheVariants as wire
 use Rattle.client_wire.specs.Stream.{Part, bytes_of, IsPart, Reads, FaultOf, Goes, Stops, StandsFor, given_of}
@@ -29,17 +29,6 @@ use Rattle.fbs_export.specs.Summary.{Waits, stamped, at_time}
 use Rattle.fbs_export.specs.Told.{IsTold}
 use Rattle.fbs_export.proofs.Pieces.{goes_on, stops_in}
 use Rattle.fbs_export.proofs.Stamping.{block_stamped}
-
-unless_memory : (f : WireFault) (P : Type 0) → f ≢ wire.NoMemory → UnlessMemory f P → P
-unless_memory wire.UnknownType P other p = p
-unless_memory wire.OutsideScreen P other p = p
-unless_memory (wire.Encoding n) P other p = p
-unless_memory wire.TooLong P other p = p
-unless_memory wire.BadRre P other p = p
-unless_memory wire.BadHextile P other p = p
-unless_memory wire.SourceOutside P other p = p
-unless_memory (wire.BadFormat f) P other p = p
-unless_memory wire.NoMemory P other p = absurd (other refl)
 
 -- more messages in front
 reads_behind : (w h : ℕ) (parts new : List (Part Message)) (body x rest : List ℕ) → AllByRecursion (IsPart (message_at (message_limit Two) w h)) parts → body ≡ flat_map bytes_of parts ++ x
@@ -116,7 +105,7 @@ hears_fault keeps c fresh r times s piece (faults.Message w) a p =
     let stops = rw a.format_is at p.1 in
     let read = message_at (message_limit Two) r.width r.height in
     let b : Stops (message_at (message_limit Two) r.width r.height) (given Two r.width r.height) w [] fresh (a.goes.rest ++ piece) = stops a.goes.rest a.goes.stands in
-    let bad : message_at (message_limit Two) r.width r.height b.rest ≡ Bad w = unless_memory w (message_at (message_limit Two) r.width r.height b.rest ≡ Bad w) p.0 b.fault in
+    let bad : message_at (message_limit Two) r.width r.height b.rest ≡ Bad w = unless_other w (message_at (message_limit Two) r.width r.height b.rest ≡ Bad w) p.0 b.fault in
     let x : FaultOf (message_at (message_limit Two) r.width r.height) ((a.lead ++ a.since) ++ piece) w =
     stops_in (message_at (message_limit Two) r.width r.height) (given Two r.width r.height) r.kept r.passed a.waiting fresh (a.lead ++ a.since) piece w a.goes b bad in
     let is : a.body ++ piece ≡ flat_map bytes_of a.parts ++ ((a.lead ++ a.since) ++ piece) = ap (λ z. z ++ piece) a.body_is ∙ append_assoc (flat_map bytes_of a.parts) (a.lead ++ a.since) piece in
@@ -145,7 +134,7 @@ begins_with_fault faults.Format w h name front piece s old hosts opened is p = a
 begins_with_fault faults.Size w h name front piece s old hosts opened is p = absurd p
 begins_with_fault (faults.Message g) w h name front piece s old hosts opened is p =
     let b : Stops (message_at (message_limit Two) w h) (given Two w h) g old hosts piece = p.1 [] (record { skipped = []; count = refl; is = refl }) in
-    let bad : message_at (message_limit Two) w h b.rest ≡ Bad g = unless_memory g (message_at (message_limit Two) w h b.rest ≡ Bad g) p.0 b.fault in
+    let bad : message_at (message_limit Two) w h b.rest ≡ Bad g = unless_other g (message_at (message_limit Two) w h b.rest ≡ Bad g) p.0 b.fault in
     record {
       opening = record { width = w; height = h; name = name };
       body = piece;

@@ -6,3 +6,4 @@ pub mod Appends
 pub mod Decimals
 pub mod Areas
 pub mod Progress
+pub mod Lacks

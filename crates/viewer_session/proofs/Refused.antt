@@ -3,7 +3,7 @@ use Rattle.std.proofs.Common.{◌≡◌, ℕ, List, [], refl, sym, ap, ◌∙◌
 use Rattle.std.specs.Prelude.{Option, Some, None}
 use Rattle.terms.specs.Reading.{Bad}
 use Rattle.terms.specs.Talk.{Talk}
-use Rattle.terms.specs.Fault.{UnlessMemory}
+use Rattle.terms.proofs.Lacks.{unless_other}
 use Rattle.terms.specs.declared.wire_fault.WireFault.{WireFault}
 use Rattle.terms.specs.declared.wire_fault.WireFault.TheVariants as wire
 use Rattle.client_wire.specs.declared.message.ClientMessage.{ClientMessage}
@@ -15,18 +15,6 @@ use Rattle.client_wire.proofs.Streams.{one_reading, fault_begins_none}
 use Rattle.viewer_session.specs.declared.fault.SessionFault.{SessionFault}
 use Rattle.viewer_session.specs.declared.fault.SessionFault.TheVariants as faults
 use Rattle.viewer_session.specs.Stream.{Ends}
-
--- a fault other than want of memory is there
-fault_there : (f : WireFault) (P : Type 0) → (faults.Wire f ≡ faults.Wire wire.NoMemory → ⊥) → UnlessMemory f P → P
-fault_there wire.UnknownType P other p = p
-fault_there wire.OutsideScreen P other p = p
-fault_there (wire.Encoding n) P other p = p
-fault_there wire.TooLong P other p = p
-fault_there wire.BadRre P other p = p
-fault_there wire.BadHextile P other p = p
-fault_there wire.SourceOutside P other p = p
-fault_there (wire.BadFormat e) P other p = p
-fault_there wire.NoMemory P other p = absurd (other refl)
 
 same_messages : (rest after : List ℕ) (ms ns : List ClientMessage) (tail end : List ℕ) (f g : WireFault) → rest ≡ after
     → Gives message_at itself [] ms rest tail → message_at tail ≡ Bad f → Gives message_at itself [] ns after end → message_at end ≡ Bad g
@@ -62,8 +50,8 @@ one_fault w h name (Some r) (Some q) stream ms ns said put (faults.Wire f) (faul
     let both = sym a.gets.handshake ∙ b.gets.handshake in
     let e = ap (λ (t : Talk (Unit {0}) SessionFault). t.heard) both in
     let rests : a.gets.rest ≡ b.gets.rest = cc in
-    let same = same_messages a.gets.rest b.gets.rest ms ns a.tail b.tail f g rests a.gets.gives (fault_there f (message_at a.tail ≡ Bad f) m a.fault)
-    b.gets.gives (fault_there g (message_at b.tail ≡ Bad g) n b.fault) in
+    let same = same_messages a.gets.rest b.gets.rest ms ns a.tail b.tail f g rests a.gets.gives (unless_other f (message_at a.tail ≡ Bad f) (λ e. m (ap faults.Wire e)) a.fault)
+    b.gets.gives (unless_other g (message_at b.tail ≡ Bad g) (λ e. n (ap faults.Wire e)) b.fault) in
     (same.0, same.1, ap (λ (t : Talk (Unit {0}) SessionFault). t.said) both)
 one_fault w h name (Some r) (Some q) stream ms ns said put (faults.Wire f) faults.Version a b m n = absurd b
 one_fault w h name (Some r) (Some q) stream ms ns said put (faults.Wire f) faults.Security a b m n = absurd b
