@@ -1,5 +1,5 @@
 -- Sets of places of a screen, and its tiles.
-use Rattle.std.specs.Prelude.{◌≡◌, ℕ, ◌⊎◌, ◌+◌, ◌*◌, ◌/◌, ◌%◌, ◌<◌, ◌≤◌, ◌^◌, Bool, false, true, ◌&&◌, ◌||◌, nat_eq, List, [], ◌∷◌, length, map, slice_index_or}
+use Rattle.std.specs.Prelude.{if◌then◌else◌, ◌≡◌, ℕ, ◌⊎◌, ◌+◌, ◌*◌, ◌/◌, ◌%◌, ◌<◌, ◌≤◌, ◌^◌, Bool, false, true, ◌&&◌, ◌||◌, nat_eq, List, [], ◌∷◌, length, map, slice_index_or}
 use Rattle.std.specs.List.{range_with_len}
 use Rattle.terms.specs.declared.area.Area.{Area}
 use Rattle.terms.specs.Area.{is_in, HasPlaces, IsSmallest}
@@ -125,6 +125,14 @@ places_of width height words = record {
 -- A summary of bits of tiles: the tile of each place whose bit is 1 has a 1 there.
 abbrev pub IsSummary : ℕ → List ℕ → List ℕ → Type 0
 IsSummary columns words summary = (x y : ℕ) → x < 16 * columns → is_marked columns words x y ≡ true → is_set summary (tile_at columns x y) ≡ true
+
+-- a sum of bits that stays one, whatever bits are given
+abbrev pub KeepsSummary : (columns : ℕ) (old old_summary new new_summary : List ℕ) → Type 0
+KeepsSummary columns old old_summary new new_summary = IsSummary columns old old_summary → IsSummary columns new new_summary
+
+-- the places that P has are given one value, and the others stay as they were
+abbrev pub AreGiven : (columns : ℕ) (old new : List ℕ) (value : Bool) (P : ℕ → ℕ → Bool) → Type 0
+AreGiven columns old new value P = (x y : ℕ) → x < 16 * columns → is_marked columns new x y ≡ (if P x y then value else is_marked columns old x y)
 
 -- bits for each place of so many tiles, and their summary
 pub record AreTiles (width height : ℕ) (words summary : List ℕ) : Type 0 where

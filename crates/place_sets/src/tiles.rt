@@ -3,7 +3,7 @@
 ghost use Rattle.std.specs.Prelude.{◌≡◌, ◌+◌, ◌-◌, ◌*◌, ◌/◌, ◌%◌, ◌<◌, ◌≤◌, ◌^◌, ◌||◌, ◌&&◌, ℕ, Bool, length, IfSome, nat_eq, true, if◌then◌else◌};
 ghost use Rattle.terms.specs.Area.{is_in, IsSmallest, IsSmallestOf};
 ghost use Rattle.place_sets.specs.Bits.{is_between};
-ghost use Rattle.place_sets.specs.Places.{tiles_of, tile_at, number_at, is_marked, IsSummary, IsRow, IsTilePart, HasTiles};
+ghost use Rattle.place_sets.specs.Places.{tiles_of, tile_at, number_at, is_marked, AreGiven, KeepsSummary, IsRow, IsTilePart, HasTiles};
 
 use crate::bits::{fill, fill_words, first, first_and_last};
 use terms::Area;
@@ -43,8 +43,7 @@ fn number_at(columns: usize, x: u16, y: u16) -> usize
 // Gives the places of a part of a tile one value.
 fn fill_part(words: &mut [u64], columns: usize, part: Area, value: bool)
     requires { IsTilePart columns part words.old }
-    ensures { (x y : ℕ) → x < 16 * columns → is_marked columns words.new x y
-        ≡ (if is_in part x y then value else is_marked columns words.old x y) }
+    ensures { AreGiven columns words.old words.new value (λ x y. is_in part x y) }
 {
     let start = number_at(columns, part.x, part.y);
     if part.w == SIDE {
@@ -63,10 +62,8 @@ fn fill_part(words: &mut [u64], columns: usize, part: Area, value: bool)
 fn fill_tile(words: &mut [u64], summary: &mut [u64], columns: usize, part: Area, value: bool)
     requires part { IsTilePart columns part words.old }
     requires room { tile_at columns part.x part.y < 64 * length summary.old }
-    ensures filled { (x y : ℕ) → x < 16 * columns → is_marked columns words.new x y
-        ≡ (if is_in part x y then value else is_marked columns words.old x y) }
-    ensures summary { IsSummary columns words.old summary.old
-        → IsSummary columns words.new summary.new }
+    ensures filled { AreGiven columns words.old words.new value (λ x y. is_in part x y) }
+    ensures summary { KeepsSummary columns words.old summary.old words.new summary.new }
 {
     fill_part(words, columns, part, value);
     let tile = tile_at(columns, part.x, part.y);
@@ -109,11 +106,8 @@ fn fill_parts(
     requires row { run.row < tiles_of (area.y + area.h) }
     requires order { run.from ≤ run.to }
     requires within { run.to ≤ tiles_of (area.x + area.w) }
-    ensures filled { (x y : ℕ) → x < 16 * columns → is_marked columns words.new x y
-        ≡ (if is_in area x y && (nat_eq (y / 16) run.row && is_between run.from run.to (x / 16)) then value
-        else is_marked columns words.old x y) }
-    ensures summary { IsSummary columns words.old summary.old
-        → IsSummary columns words.new summary.new }
+    ensures filled { AreGiven columns words.old words.new value (λ x y. is_in area x y && (nat_eq (y / 16) run.row && is_between run.from run.to (x / 16))) }
+    ensures summary { KeepsSummary columns words.old summary.old words.new summary.new }
 {
     for column in run.from..run.to {
         if let Some(part) = area.common(tile_area(column, run.row)) {
@@ -130,11 +124,8 @@ fn fill_run(words: &mut [u64], summary: &mut [u64], columns: usize, run: TileRun
     requires within { run.to ≤ columns }
     requires bits { 256 * ((run.row + 1) * columns) ≤ 64 * length words.old }
     requires tiles { (run.row + 1) * columns ≤ 64 * length summary.old }
-    ensures filled { (x y : ℕ) → x < 16 * columns → is_marked columns words.new x y
-        ≡ (if nat_eq (y / 16) run.row && is_between run.from run.to (x / 16) then value
-        else is_marked columns words.old x y) }
-    ensures summary { IsSummary columns words.old summary.old
-        → IsSummary columns words.new summary.new }
+    ensures filled { AreGiven columns words.old words.new value (λ x y. nat_eq (y / 16) run.row && is_between run.from run.to (x / 16)) }
+    ensures summary { KeepsSummary columns words.old summary.old words.new summary.new }
 {
     let first = run.row * columns + run.from;
     let end = run.row * columns + run.to;
@@ -179,11 +170,8 @@ fn fill_tiles(
 )
     requires area { HasTiles columns area words.old summary.old }
     requires row { row < tiles_of (area.y + area.h) }
-    ensures filled { (x y : ℕ) → x < 16 * columns → is_marked columns words.new x y
-        ≡ (if is_in area x y && nat_eq (y / 16) row then value
-        else is_marked columns words.old x y) }
-    ensures summary { IsSummary columns words.old summary.old
-        → IsSummary columns words.new summary.new }
+    ensures filled { AreGiven columns words.old words.new value (λ x y. is_in area x y && nat_eq (y / 16) row) }
+    ensures summary { KeepsSummary columns words.old summary.old words.new summary.new }
 {
     let whole = whole_tiles(area, row);
     let before = TileRun {
@@ -204,10 +192,8 @@ fn fill_tiles(
 /// Gives the places of an area one value, and sums their tiles up.
 pub fn fill_area(words: &mut [u64], summary: &mut [u64], columns: usize, area: Area, value: bool)
     requires { HasTiles columns area words.old summary.old }
-    ensures filled { (x y : ℕ) → x < 16 * columns → is_marked columns words.new x y
-        ≡ (if is_in area x y then value else is_marked columns words.old x y) }
-    ensures summary { IsSummary columns words.old summary.old
-        → IsSummary columns words.new summary.new }
+    ensures filled { AreGiven columns words.old words.new value (λ x y. is_in area x y) }
+    ensures summary { KeepsSummary columns words.old summary.old words.new summary.new }
 {
     for row in usize::from(area.y / SIDE)..tiles_of(area.y + area.h) {
         fill_tiles(words, summary, columns, area, row, value);
