@@ -158,20 +158,13 @@ fn append_tiles(
 }
 
 // Appends data of a rectangle of these pixels. Want of memory leaves `bytes` as it was.
-fn encode_numbers(
-    format: &PixelFormat,
-    w: u16,
-    h: u16,
-    numbers: &[u32],
-    bytes: &mut Vec<u8>,
-) -> Result<(), NoMemory>
-    requires size { length numbers.now ≡ h * w }
-    requires numbers { All (IsNumber format.now) numbers.now }
-    ensures ok { OnOk result (Appends (Shows format.now w h (colors_of format.now numbers.now)) bytes.old.items bytes.new.items) }
+fn encode_numbers(format: &PixelFormat, pixels: Pixels, bytes: &mut Vec<u8>) -> Result<(), NoMemory>
+    requires { All (IsNumber format.now) pixels.numbers.now }
+    ensures ok { OnOk result (Appends (Shows format.now pixels.entry.w pixels.entry.h (colors_of format.now pixels.entry.numbers.now)) bytes.old.items bytes.new.items) }
     ensures err { OnErr result (bytes.new.items ≡ bytes.old.items) }
 {
     let start = bytes.len();
-    let appended = append_tiles(w, h, format, numbers, bytes);
+    let appended = append_tiles(pixels.w, pixels.h, format, pixels.numbers, bytes);
     whole_or_none(appended, start, bytes)
 }
 
@@ -195,7 +188,12 @@ pub fn encode(
     ensures err { OnErr result (bytes.new.items ≡ bytes.old.items) }
 {
     let numbers = format.numbers_of(alloc, colors)?;
-    encode_numbers(format, w, h, &numbers, bytes)
+    let pixels = Pixels {
+        w,
+        h,
+        numbers: &numbers,
+    };
+    encode_numbers(format, pixels, bytes)
 }
 
 /// Appends data of a rectangle that has these pixels, as [`encode`] does of their colours, if they
@@ -212,7 +210,7 @@ pub fn encode_numbers_below(
     ensures below { IfOk result (λ whole. whole ≡ true → length bytes.new.items < length bytes.old.items + limit) }
 {
     let before = bytes.len();
-    encode_numbers(format, pixels.w, pixels.h, pixels.numbers, bytes)?;
+    encode_numbers(format, pixels, bytes)?;
     if bytes.len() - before < limit {
         return Ok(true);
     }
