@@ -60,10 +60,7 @@ pub fn write_extract<R: Files<File = File> + AllocGlobal>(
     let metadata = file.metadata()?;
     let mut index = open_recording(alloc, file, progress)?;
     first_exported(&index, what.from_block, what.to).map_err(Refusal::Export)?;
-    let file = match open_out(rt, what.out, &metadata) {
-        Ok(file) => file,
-        Err(_) => return Err(Ended::Refused(Refusal::File)),
-    };
+    let file = open_out(rt, what.out, &metadata).map_err(|_| Refusal::File)?;
     let watched = Watched {
         inner: file,
         progress,
@@ -76,8 +73,8 @@ pub fn write_extract<R: Files<File = File> + AllocGlobal>(
         what.to,
         &mut writer,
     ).map_err(Refusal::Export)?;
-    match writer.flush() {
-        Ok(()) => Ok(count),
-        Err(_) => Err(Ended::Refused(Refusal::Export(ExportFault::Write))),
-    }
+    writer
+        .flush()
+        .map_err(|_| Refusal::Export(ExportFault::Write))?;
+    Ok(count)
 }

@@ -8,10 +8,8 @@ use std::rt::Files;
 
 /// A new file, open for reading and writing. Refused where the path is taken, or can't be.
 pub fn create_new<R: Files<File = File>>(files: &R, path: &str) -> Result<FileDisk, Refusal> {
-    match File::create_new(files, path) {
-        Ok(file) => Ok(FileDisk::new(file)),
-        Err(_) => Err(Refusal::File),
-    }
+    let file = File::create_new(files, path).map_err(|_| Refusal::File)?;
+    Ok(FileDisk::new(file))
 }
 
 /// Writes the bytes of a recording into its new file, and brings them and the file's name onto the
@@ -25,8 +23,5 @@ pub fn keep<R: Files<File = File>>(
     if disk.write_at(0, bytes).is_err() || disk.sync().is_err() {
         return Err(Refusal::File);
     }
-    match sync_folder(files, path) {
-        Ok(()) => Ok(()),
-        Err(_) => Err(Refusal::File),
-    }
+    sync_folder(files, path).map_err(|_| Refusal::File)
 }

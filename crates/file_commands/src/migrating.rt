@@ -25,7 +25,7 @@ pub struct Migration<'a> {
 
 // A file to be read and written; created where it isn't there. One without bytes is made its owner's
 // alone, as a new recording's is; one with bytes stays as it is.
-fn opened_target<R: Files<File = File>>(files: &R, path: &str) -> io::Result<File> {
+fn open_target<R: Files<File = File>>(files: &R, path: &str) -> io::Result<File> {
     let file = OpenOptions::new()
         .read(true)
         .write(true)
@@ -36,13 +36,6 @@ fn opened_target<R: Files<File = File>>(files: &R, path: &str) -> io::Result<Fil
         file.set_permissions(Permissions::from_mode(0o600))?;
     }
     Ok(file)
-}
-
-fn open_target<R: Files<File = File>>(files: &R, path: &str) -> Result<File, Refusal> {
-    match opened_target(files, path) {
-        Ok(file) => Ok(file),
-        Err(_) => Err(Refusal::File),
-    }
 }
 
 // How many messages a recording has once it is migrated.
@@ -64,11 +57,9 @@ pub fn write_migration<R: Files<File = File> + AllocGlobal>(
     let alloc = rt.alloc();
     let mut index = open_path(rt, what.recording, progress)?;
     may_be_migrated(&index).map_err(Refusal::Migrate)?;
-    let file = open_target(rt, what.out)?;
+    let file = open_target(rt, what.out).map_err(|_| Refusal::File)?;
     let target = FileDisk::watched(file, progress);
     let count = migrated(alloc, &mut index, target)?;
-    match sync_folder(rt, what.out) {
-        Ok(()) => Ok(count),
-        Err(_) => Err(Ended::Refused(Refusal::File)),
-    }
+    sync_folder(rt, what.out).map_err(|_| Refusal::File)?;
+    Ok(count)
 }

@@ -70,15 +70,13 @@ fn write_file<R: Files<File = File> + AllocGlobal>(
     progress: Progress,
 ) -> Result<(), Ended> {
     let alloc = rt.alloc();
-    let Ok(inner) = open_out(rt, path, recording) else {
-        return Err(Ended::Refused(Refusal::File));
-    };
+    let inner = open_out(rt, path, recording).map_err(|_| Refusal::File)?;
     let mut writer = BufWriter::new(alloc, Watched { inner, progress })?;
     let written = write_picture(alloc, screen, what.format, &mut writer);
-    match written.and_then(|()| writer.flush()) {
-        Ok(()) => Ok(()),
-        Err(_) => Err(Ended::Refused(Refusal::File)),
-    }
+    written
+        .and_then(|()| writer.flush())
+        .map_err(|_| Refusal::File)?;
+    Ok(())
 }
 
 /// Writes the screen at a moment of a recording as a picture.

@@ -12,10 +12,7 @@ use std::rt::Files;
 
 /// The file, opened for reading alone.
 pub fn open_file<R: Files<File = File>>(files: &R, path: &str) -> Result<File, Refusal> {
-    match File::open(files, path) {
-        Ok(file) => Ok(file),
-        Err(_) => Err(Refusal::File),
-    }
+    File::open(files, path).map_err(|_| Refusal::File)
 }
 
 /// The recording at a path, opened for reading alone.
