@@ -14,15 +14,27 @@ macro_rules! serve_while {
 }
 
 // Records a host of a test into a new file, and serves that: what is printed. The test is called with
-// a place for its host, one for its viewers, and what else it is given.
+// where its host and its viewers meet the recorder, and what else it is given.
 macro_rules! recorded {
     ($rt:ident, $file:expr, $audience:expr, $from:expr, $play:ident $(, $more:expr)*) => {{
         let _ = std::fs::remove_file($rt, $file);
         let (hosts, host) = super::peers::listener($rt)?;
-        let (viewers, place) = super::peers::listener($rt)?;
+        let (listener, viewers) = super::peers::listener($rt)?;
         let address = host.address($rt.alloc())?;
         let plan = crate::plan_of($file, Some(address.as_str()), $audience, $from);
-        serve_while!($rt, &plan, viewers, move || $play($rt, hosts, place $(, $more)*))
+        let ends = super::peers::Loopback { hosts, viewers };
+        serve_while!($rt, &plan, listener, move || $play($rt, ends $(, $more)*))
+    }};
+}
+
+// The same of a test that is given nothing else, with what is to be printed, and what `check` is to
+// say of the recording then.
+macro_rules! assert_recorded {
+    ($rt:ident, $file:expr, $audience:expr, $from:expr, $play:ident, $printed:expr, $told:expr) => {{
+        let said = recorded!($rt, $file, $audience, $from, $play)?;
+        assert!($rt; said.as_str() == $printed, "{said}");
+        assert!($rt; super::checked($rt, $file)?.as_str() == $told);
+        Ok(())
     }};
 }
 

@@ -2,12 +2,12 @@
 
 use super::checked;
 use super::peers::{
-    ALL, BLACK, CHANGES, GREEN, Peer, Place, RED, silent_viewer, small_host, viewer,
+    ALL, BLACK, CHANGES, GREEN, Loopback, Peer, RED, silent_viewer, small_host, viewer,
 };
 use serve::{Audience, Origin};
 use std::alloc::Global;
 use std::fs;
-use std::net::{Net, TcpListener, TcpStream};
+use std::net::{Net, TcpStream};
 use std::test::Fail;
 
 /// An update of the one place in blue.
@@ -29,18 +29,13 @@ fn burst(alloc: Global, host: &Peer) -> Result<(), Fail> {
 
 // One viewer comes and goes, a second is there, a third finds no seat, and one says nothing; then
 // the host ends, and the second is shown the end.
-fn the_end_is_shown(
-    rt: &HostRuntime,
-    hosts: TcpListener,
-    place: Place,
-    stays: bool,
-) -> Result<(), Fail> {
+fn the_end_is_shown(rt: &HostRuntime, ends: Loopback, stays: bool) -> Result<(), Fail> {
     let alloc = rt.alloc();
-    let host = small_host(alloc, &hosts)?;
-    let first = viewer(rt, place)?;
+    let host = small_host(alloc, &ends.hosts)?;
+    let first = viewer(rt, ends.viewers)?;
     first.talk(alloc, &ALL, &BLACK)?;
     if stays {
-        let refused = silent_viewer(rt, place)?;
+        let refused = silent_viewer(rt, ends.viewers)?;
         refused.say(b"RFB 003.008\n")?;
         refused.hear(alloc, NO_SEAT)?;
         refused.ends()?;
@@ -49,8 +44,8 @@ fn the_end_is_shown(
         return first.hear_at_last(alloc, &BLUE, &CHANGES);
     }
     drop(first);
-    let silent = silent_viewer(rt, place)?;
-    let second = viewer(rt, place)?;
+    let silent = silent_viewer(rt, ends.viewers)?;
+    let second = viewer(rt, ends.viewers)?;
     second.talk(alloc, &ALL, &BLACK)?;
     second.say(&CHANGES)?;
     burst(alloc, &host)?;
@@ -75,15 +70,15 @@ fn a_viewer_is_shown_the_end(rt: HostRuntime) -> Result<(), Fail> {
 }
 
 // Two updates come in one piece, and then one with a fault behind it.
-fn pieces_come(rt: &HostRuntime, hosts: TcpListener, place: Place) -> Result<(), Fail> {
+fn pieces_come(rt: &HostRuntime, ends: Loopback) -> Result<(), Fail> {
     let alloc = rt.alloc();
-    let host = small_host(alloc, &hosts)?;
+    let host = small_host(alloc, &ends.hosts)?;
     let mut piece = Vec::from_slice(alloc, &RED)?;
     piece.extend_from_slice(&GREEN)?;
     host.say(&piece)?;
     host.hear(alloc, &CHANGES)?;
     host.hear(alloc, &CHANGES)?;
-    let one = viewer(rt, place)?;
+    let one = viewer(rt, ends.viewers)?;
     one.say(&ALL)?;
     one.hear_at_last(alloc, &GREEN, &CHANGES)?;
     let mut piece = Vec::from_slice(alloc, &BLUE)?;

@@ -2,12 +2,12 @@
 
 use super::checked;
 use super::peers::{
-    ALL, BLACK, CHANGES, GREEN, Peer, Place, RED, deaf_host, listener, small_host, viewer,
+    ALL, BLACK, CHANGES, GREEN, Loopback, Peer, Place, RED, deaf_host, listener, small_host, viewer,
 };
 use crate::plan_of;
 use serve::{Audience, Origin};
 use std::fs;
-use std::net::{Net, TcpListener, TcpStream};
+use std::net::{Net, TcpStream};
 use std::test::Fail;
 
 /// How a host of the test ends.
@@ -22,18 +22,13 @@ enum Ending {
 }
 
 // A viewer is shown an update, and the host ends.
-fn host_ends(
-    rt: &HostRuntime,
-    hosts: TcpListener,
-    place: Place,
-    ending: Ending,
-) -> Result<(), Fail> {
+fn host_ends(rt: &HostRuntime, ends: Loopback, ending: Ending) -> Result<(), Fail> {
     let alloc = rt.alloc();
     let host: Peer = match ending {
-        Ending::Reset => deaf_host(alloc, &hosts)?,
-        _ => small_host(alloc, &hosts)?,
+        Ending::Reset => deaf_host(alloc, &ends.hosts)?,
+        _ => small_host(alloc, &ends.hosts)?,
     };
-    let one = viewer(rt, place)?;
+    let one = viewer(rt, ends.viewers)?;
     one.talk(alloc, &ALL, &BLACK)?;
     host.say(&RED)?;
     one.talk(alloc, &CHANGES, &RED)?;

@@ -40,6 +40,13 @@ impl Place {
     }
 }
 
+/// Where a recorder looks for a test's host, and where it waits for a test's viewers.
+#[derive(Drop)]
+pub struct Loopback {
+    pub hosts: TcpListener,
+    pub viewers: Place,
+}
+
 /// A listener on a port that was free.
 pub fn listener<R: Net<Stream = TcpStream, Listener = TcpListener> + AllocGlobal>(
     rt: &R,

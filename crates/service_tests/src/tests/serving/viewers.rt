@@ -1,19 +1,18 @@
 //! Viewers of a host.
 
-use super::checked;
 use super::peers::{
-    ALL, BLACK, CHANGES, GREEN, Place, RED, large_host, silent_viewer, small_host, viewer,
+    ALL, BLACK, CHANGES, GREEN, Loopback, RED, large_host, silent_viewer, small_host, viewer,
 };
 use serve::{Audience, Origin};
-use std::net::{Net, TcpListener, TcpStream};
+use std::net::{Net, TcpStream};
 use std::test::Fail;
 
 // Two viewers, who see the black screen, and then the host's update.
-fn two_watch(rt: &HostRuntime, hosts: TcpListener, place: Place) -> Result<(), Fail> {
+fn two_watch(rt: &HostRuntime, ends: Loopback) -> Result<(), Fail> {
     let alloc = rt.alloc();
-    let host = small_host(alloc, &hosts)?;
-    let one = viewer(rt, place)?;
-    let other = viewer(rt, place)?;
+    let host = small_host(alloc, &ends.hosts)?;
+    let one = viewer(rt, ends.viewers)?;
+    let other = viewer(rt, ends.viewers)?;
     one.talk(alloc, &ALL, &BLACK)?;
     other.talk(alloc, &ALL, &BLACK)?;
     one.say(&CHANGES)?;
@@ -26,29 +25,36 @@ fn two_watch(rt: &HostRuntime, hosts: TcpListener, place: Place) -> Result<(), F
 #[test]
 fn two_viewers_get_a_host_s_update(rt: HostRuntime) -> Result<(), Fail> {
     let rt = &rt;
-    let said = recorded!(rt, "watched", Audience::Count(2), Origin::Live, two_watch)?;
-    assert!(rt; said.as_str() == "true serving\ncommitted 1\n", "{said}");
-    assert!(rt; checked(rt, "watched")?.as_str() == "recording 1 1 messages 1 blocks 1\n");
-    Ok(())
+    let printed = "true serving\ncommitted 1\n";
+    let told = "recording 1 1 messages 1 blocks 1\n";
+    assert_recorded!(
+        rt,
+        "watched",
+        Audience::Count(2),
+        Origin::Live,
+        two_watch,
+        printed,
+        told
+    )
 }
 
 // One viewer says nothing, one is of another version, one leaves within a message, and one begins
 // behind what there is; the last one sees all.
-fn strangers_come(rt: &HostRuntime, hosts: TcpListener, place: Place) -> Result<(), Fail> {
+fn strangers_come(rt: &HostRuntime, ends: Loopback) -> Result<(), Fail> {
     let alloc = rt.alloc();
-    let host = small_host(alloc, &hosts)?;
-    let silent = silent_viewer(rt, place)?;
-    let old = silent_viewer(rt, place)?;
+    let host = small_host(alloc, &ends.hosts)?;
+    let silent = silent_viewer(rt, ends.viewers)?;
+    let old = silent_viewer(rt, ends.viewers)?;
     old.hear(alloc, b"RFB 003.008\n")?;
     old.talk(alloc, b"RFB 003.003\n", b"\0\0\0\0\x10only RFB 003.008")?;
     old.ends()?;
-    let torn = viewer(rt, place)?;
+    let torn = viewer(rt, ends.viewers)?;
     torn.say(&ALL[..5])?;
     drop(torn);
-    let wild = viewer(rt, place)?;
+    let wild = viewer(rt, ends.viewers)?;
     wild.say(&[9])?;
     wild.ends()?;
-    let last = viewer(rt, place)?;
+    let last = viewer(rt, ends.viewers)?;
     last.talk(alloc, &ALL, &BLACK)?;
     host.talk(alloc, &RED, &CHANGES)?;
     last.talk(alloc, &CHANGES, &RED)?;
@@ -61,16 +67,17 @@ fn strangers_come(rt: &HostRuntime, hosts: TcpListener, place: Place) -> Result<
 #[test]
 fn a_viewer_s_fault_ends_it_alone(rt: HostRuntime) -> Result<(), Fail> {
     let rt = &rt;
-    let said = recorded!(
+    let printed = "true serving\ncommitted 2\n";
+    let told = "recording 1 1 messages 2 blocks 2\n";
+    assert_recorded!(
         rt,
         "strangers",
         Audience::Count(3),
         Origin::Count(0),
-        strangers_come
-    )?;
-    assert!(rt; said.as_str() == "true serving\ncommitted 2\n", "{said}");
-    assert!(rt; checked(rt, "strangers")?.as_str() == "recording 1 1 messages 2 blocks 2\n");
-    Ok(())
+        strangers_come,
+        printed,
+        told
+    )
 }
 
 // A request for all of the large screen, whose answer is more than sockets hold.
@@ -84,11 +91,11 @@ const MORE: [u8; 10] = *b"\x03\x01\0\0\0\0\x08\0\x04\0";
 
 // A viewer doesn't read its answer while the other is shown two updates. Then it reads the answer,
 // and is shown the newest place at last.
-fn one_sleeps(rt: &HostRuntime, hosts: TcpListener, place: Place) -> Result<(), Fail> {
+fn one_sleeps(rt: &HostRuntime, ends: Loopback) -> Result<(), Fail> {
     let alloc = rt.alloc();
-    let host = large_host(alloc, &hosts)?;
-    let asleep = viewer(rt, place)?;
-    let awake = viewer(rt, place)?;
+    let host = large_host(alloc, &ends.hosts)?;
+    let asleep = viewer(rt, ends.viewers)?;
+    let awake = viewer(rt, ends.viewers)?;
     asleep.say(&WHOLE)?;
     awake.talk(alloc, &ALL, &BLACK)?;
     host.talk(alloc, &RED, &MORE)?;
@@ -104,8 +111,15 @@ fn one_sleeps(rt: &HostRuntime, hosts: TcpListener, place: Place) -> Result<(), 
 #[test]
 fn a_viewer_that_sleeps_holds_up_nobody(rt: HostRuntime) -> Result<(), Fail> {
     let rt = &rt;
-    let said = recorded!(rt, "asleep", Audience::Count(2), Origin::Live, one_sleeps)?;
-    assert!(rt; said.as_str() == "true serving\ncommitted 2\n", "{said}");
-    assert!(rt; checked(rt, "asleep")?.as_str() == "recording 2048 1024 messages 2 blocks 2\n");
-    Ok(())
+    let printed = "true serving\ncommitted 2\n";
+    let told = "recording 2048 1024 messages 2 blocks 2\n";
+    assert_recorded!(
+        rt,
+        "asleep",
+        Audience::Count(2),
+        Origin::Live,
+        one_sleeps,
+        printed,
+        told
+    )
 }
