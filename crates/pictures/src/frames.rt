@@ -7,6 +7,7 @@ ghost use Rattle.keyed_entries.specs.Entry.{messages_in};
 ghost use Rattle.key_index.specs.Indexed.{OnlyReads};
 ghost use Rattle.painter.specs.Framebuffer.{color_at};
 ghost use Rattle.pictures.specs.Frames.{frame_moment, AreFirstFrames, IsVideo};
+ghost use Rattle.pictures.specs.Moments.{IsShownAt};
 ghost use Rattle.pictures.specs.Pictures.{picture_text};
 ghost use Rattle.pictures.specs.declared.frames.FilmFault.TheVariants.{Read as FilmRead, Write as FilmWrite};
 ghost use Rattle.replay.specs.Faults.{fault_of_read};
@@ -149,6 +150,39 @@ fn show<D: Disk>(
     Ok(())
 }
 
+// Writes the frames of a video behind a replay that stands no further than the first one shows. The
+// replay and the picture are lent, since each way out of a loop takes apart what its function owns.
+fn write_each<D: Disk, W: Write>(
+    alloc: Global,
+    replay: &mut Replay,
+    index: &mut Indexed<D>,
+    film: &Film,
+    picture: &mut Vec<u8>,
+    out: &mut W,
+) -> Result<(), FilmFault>
+    requires width { replay.old.screen.width ≡ index.old.head.width }
+    requires height { replay.old.screen.height ≡ index.old.head.height }
+    requires painted { D.is_modelled → IsScreenAt index.old.head (messages_in index.old.blocks) replay.old.position replay.old.screen }
+    requires behind { D.is_modelled → (n : ℕ) → IsShownAt (frame_moment film.now.from film.now.rate 0) (messages_in index.old.blocks) n → replay.old.position ≤ n }
+    requires picture { picture.old.items ≡ [] }
+    ensures video { D.is_modelled → OnOk result ((text : List ℕ)
+        × IsVideo index.old.head (messages_in index.old.blocks) film.now.from film.now.to film.now.rate text
+        × Appends (W.contents out.old) (W.contents out.new) text) }
+    ensures left { D.is_modelled → (fault : ReplayFault) → IsErrOf result (FilmFault.Read fault) → (text : List ℕ)
+        × AreFirstFrames index.old.head (messages_in index.old.blocks) film.now.from film.now.to film.now.rate text
+        × Appends (W.contents out.old) (W.contents out.new) text }
+    ensures only { OnlyReads D.is_modelled D.history index.old index.new }
+    ensures cause { D.is_modelled → HasCause (D.failures index.old.disk) (D.failures index.new.disk) (IsErrOf result (FilmFault.Read ReplayFault.Device)) }
+    ensures never { result ≢ Err (FilmFault.Read ReplayFault.NotCommitted) }
+{
+    for frame in 0..film.frames() {
+        let count = count_at(index, film.moment(frame))?;
+        show(alloc, replay, index, count, picture)?;
+        out.write_all(picture)?;
+    }
+    Ok(())
+}
+
 /// Writes the frames of a video as PPM pictures, one behind the other: all of them where the answer
 /// is `Ok`, and the first ones, each whole, where the recording isn't read. Each message is painted
 /// once, and a screen that didn't change is made into a picture once. It takes the memory of a
@@ -173,10 +207,5 @@ pub fn write_frames<D: Disk, W: Write>(
     let first = count_at(index, film.from)?;
     let mut replay = from_count(alloc, index, first)?;
     let mut picture = Vec::new(alloc);
-    for frame in 0..film.frames() {
-        let count = count_at(index, film.moment(frame))?;
-        show(alloc, &mut replay, index, count, &mut picture)?;
-        out.write_all(&picture)?;
-    }
-    Ok(())
+    write_each(alloc, &mut replay, index, film, &mut picture, out)
 }

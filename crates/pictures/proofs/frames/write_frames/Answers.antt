@@ -1,77 +1,27 @@
-use Rattle.std.proofs.Common.{◌≡◌, ◌≤◌, ◌+◌, [], ◌++◌, inl, inr, refl, ap, subst, ◌∙◌, arith}
-use Rattle.std.specs.Io.KnownBytes.{Appends}
-use Rattle.std.proofs.KnownBytes.{Appends-nil, Appends-trans}
-use Rattle.disk.specs.FailuresLaws.{unfailed}
+use Rattle.std.proofs.Common.{◌≤◌, sym, ap, ◌∙◌, arith}
 use Rattle.gated_journal.specs.Recording.{Head}
 use Rattle.keyed_entries.specs.Entry.{messages_in}
-use Rattle.replay.specs.Screens.{IsScreenAt}
-use Rattle.pictures.specs.Frames.{IsFrame, frame_moment}
-use Rattle.pictures.proofs.Filming.{frames_grow, one_more_frame}
+use Rattle.pictures.specs.Frames.{frame_moment}
 use Rattle.pictures.proofs.Moments.{shown_later}
 use Rattle.pictures.proofs.frames.write_frames.Goals as goal
 
-pub loop-frame-init : goal.loop-frame-init
-loop-frame-init g c =
-    let D = g.D.Disk in
+pub write_each-requires-clause-width : goal.write_each-requires-clause-width
+write_each-requires-clause-width g c = c.in_ok-replay.ensures.size.0 ∙ sym (ap (λ (h : Head). h.width) c.in_ok-replay.ensures.only.2)
+
+pub write_each-requires-clause-height : goal.write_each-requires-clause-height
+write_each-requires-clause-height g c = c.in_ok-replay.ensures.size.1 ∙ sym (ap (λ (h : Head). h.height) c.in_ok-replay.ensures.only.2)
+
+pub write_each-requires-clause-painted : goal.write_each-requires-clause-painted
+write_each-requires-clause-painted g c = λ modelled.
+    let replay = c.in_ok-replay.ensures in
+    rw (replay.position, replay.only.2, replay.only.3 modelled) (replay.screen modelled)
+
+pub write_each-requires-clause-behind : goal.write_each-requires-clause-behind
+write_each-requires-clause-behind g c = λ modelled n later.
     let film = c.args.film.now in
-    let messages = messages_in c.args.index.now.blocks in
     let first = c.in_ok-first.ensures in
     let replay = c.in_ok-replay.ensures in
-    record {
-      width = replay.size.0 ∙ ap (λ (h : Head). h.width) first.only.2;
-      height = replay.size.1 ∙ ap (λ (h : Head). h.height) first.only.2;
-      painted = λ modelled. rw (replay.position, ← first.only.2, ← first.only.3 modelled) (replay.screen modelled);
-      numbers = replay.only.1 ∙ first.only.1;
-      head = replay.only.2 ∙ first.only.2;
-      blocks = λ modelled. replay.only.3 modelled ∙ first.only.3 modelled;
-      history = λ modelled. replay.only.0 modelled ∙ first.only.0 modelled;
-      unfailed = λ modelled. unfailed (replay.cause modelled) (λ failed. cc) ∙ unfailed (first.cause modelled) (λ failed. cc);
-      picture = inl c.new-picture.ensures.items;
-      behind = λ modelled n later.
-          let sooner : film.from ≤ frame_moment film.from film.rate 0 = omega arith in
-          omega (arith, replay.position, shown_later film.from (frame_moment film.from film.rate 0) messages c.in_ok-first.first n sooner (first.shown modelled) later);
-      written = λ modelled. ([], refl, Appends-nil _);
-    }
-
-pub loop-frame-preserved : goal.loop-frame-preserved
-loop-frame-preserved g c =
-    let D = g.D.Disk in
-    let old = c.args.index.now in
-    let messages = messages_in old.blocks in
-    let film = c.args.film.now in
-    let frame = c.loop-frame.frame in
-    let replay = c.show.new.replay in
-    let picture = c.show.new.picture.items in
-    let loop = c.loop-frame.invariant in
-    let count = c.in_ok-count.ensures in
-    let show = c.in_ok-show.ensures in
-    let head : c.count_at-in-loop-frame.new.index.head ≡ old.head = count.only.2 ∙ loop.head in
-    let blocks = λ (modelled : D.is_modelled). count.only.3 modelled ∙ loop.blocks modelled in
-    let shown = λ (modelled : D.is_modelled). rw (c.moment.ensures, ap messages_in (loop.blocks modelled)) at (count.shown modelled) in
-    let position = λ (modelled : D.is_modelled). show.position (loop.behind modelled c.in_ok-count.count (shown modelled)) in
-    let painted = λ (modelled : D.is_modelled). rw (head, ap messages_in (blocks modelled)) at (show.painted modelled) in
-    record {
-      width = show.width ∙ loop.width;
-      height = show.height ∙ loop.height;
-      painted = painted;
-      numbers = show.only.1 ∙ count.only.1 ∙ loop.numbers;
-      head = show.only.2 ∙ head;
-      blocks = λ modelled. show.only.3 modelled ∙ blocks modelled;
-      history = λ modelled. show.only.0 modelled ∙ count.only.0 modelled ∙ loop.history modelled;
-      unfailed = λ modelled. unfailed (show.cause modelled) (λ failed. cc) ∙ unfailed (count.cause modelled) (λ failed. cc) ∙ loop.unfailed modelled;
-      picture = inr show.picture;
-      behind = λ modelled n later.
-          let grows = frames_grow film.from film.rate frame film.rated in
-          omega (arith, position modelled, shown_later (frame_moment film.from film.rate frame) (frame_moment film.from film.rate (frame + 1)) messages c.in_ok-count.count n grows (shown modelled) later);
-      written = λ modelled.
-          let before = loop.written modelled in
-          let last : IsFrame old.head messages (frame_moment film.from film.rate frame) picture = record {
-            count = c.in_ok-count.count;
-            screen = replay.screen;
-            shown = shown modelled;
-            painted = subst (λ n. IsScreenAt old.head messages n replay.screen) (position modelled) (painted modelled);
-            text_is = show.picture;
-          } in
-          let more = subst (Appends (g.W.Write.contents c.loop-frame.out) (g.W.Write.contents c.write_all.new.self)) c.deref.ensures.value c.in_ok-write_all.ensures.bytes in
-          (before.0 ++ picture, one_more_frame old.head messages film.from film.rate frame before.0 picture before.1 last, Appends-trans _ _ _ before.0 picture before.2 more);
-    }
+    let moment = frame_moment film.from film.rate 0 in
+    let sooner : film.from ≤ moment = omega arith in
+    let there = rw (replay.only.3 modelled ∙ first.only.3 modelled) at later in
+    omega (arith, replay.position, shown_later film.from moment (messages_in c.args.index.now.blocks) c.in_ok-first.first n sooner (first.shown modelled) there)

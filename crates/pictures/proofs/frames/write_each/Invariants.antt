@@ -7,7 +7,7 @@ use Rattle.pictures.specs.declared.picture.PictureFormat.TheVariants.{Ppm}
 use Rattle.pictures.specs.Frames.{AreFrames, frame_moment}
 use Rattle.pictures.specs.Moments.{IsShownAt}
 use Rattle.pictures.specs.Pictures.{picture_text}
-use Rattle.pictures.proofs.frames.write_frames.Given as goal
+use Rattle.pictures.proofs.frames.write_each.Given as goal
 
 -- The frames so far are written, and the replay stands no further than the next one shows.
 abbrev pub invariant-loop-frame : goal.invariant-loop-frame
