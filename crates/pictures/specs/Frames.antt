@@ -1,5 +1,6 @@
 -- The frames of a video of a recording: when they are, and what they show.
-use Rattle.std.specs.Prelude.{◌≡◌, ℕ, zero, suc, ◌+◌, ◌*◌, ◌/◌, ◌<◌, ◌≤◌, ◌↔◌, List, [], ◌++◌}
+use Rattle.std.specs.Prelude.{◌≡◌, Option, ℕ, zero, suc, ◌+◌, ◌*◌, ◌/◌, ◌<◌, ◌≤◌, ◌↔◌, List, [], ◌++◌}
+use Rattle.std.specs.Io.KnownBytes.{Appends}
 use Rattle.gated_journal.specs.Recording.{Head}
 use Rattle.painter.specs.Framebuffer.{Framebuffer, color_at}
 use Rattle.keyed_entries.specs.declared.entry.Stamped.{Stamped}
@@ -39,3 +40,7 @@ pub record IsVideo (h : Head) (messages : List Stamped) (from to rate : ℕ) (te
   pub count : ℕ
   pub all : (k : ℕ) → (k < count) ↔ (frame_moment from rate k ≤ to)
   pub frames : AreFrames h messages from rate count text
+
+-- a text that has P is written behind what stood there, as far as that is known
+abbrev pub Writes : (old new : Option (List ℕ)) (P : List ℕ → Type 0) → Type 0
+Writes old new P = (text : List ℕ) × P text × Appends old new text

@@ -1,12 +1,11 @@
 //! The frames of a video: when they are, and the pictures that they show.
 
 ghost use Rattle.std.specs.Prelude.{◌≡◌, ◌≢◌, ◌↔◌, ◌<◌, ◌≤◌, ◌⊎◌, ◌++◌, ℕ, List, [], OnOk, IsErrOf};
-ghost use Rattle.std.specs.Io.KnownBytes.{Appends};
 ghost use Rattle.disk.specs.Failures.{HasCause};
 ghost use Rattle.keyed_entries.specs.Entry.{messages_in};
 ghost use Rattle.key_index.specs.Indexed.{OnlyReads};
 ghost use Rattle.painter.specs.Framebuffer.{color_at};
-ghost use Rattle.pictures.specs.Frames.{frame_moment, AreFirstFrames, IsVideo};
+ghost use Rattle.pictures.specs.Frames.{frame_moment, AreFirstFrames, IsVideo, Writes};
 ghost use Rattle.pictures.specs.Moments.{IsShownAt};
 ghost use Rattle.pictures.specs.Pictures.{picture_text};
 ghost use Rattle.pictures.specs.declared.frames.FilmFault.TheVariants.{Read as FilmRead, Write as FilmWrite};
@@ -165,12 +164,8 @@ fn write_each<D: Disk, W: Write>(
     requires painted { D.is_modelled → IsScreenAt index.old.head (messages_in index.old.blocks) replay.old.position replay.old.screen }
     requires behind { D.is_modelled → (n : ℕ) → IsShownAt (frame_moment film.now.from film.now.rate 0) (messages_in index.old.blocks) n → replay.old.position ≤ n }
     requires picture { picture.old.items ≡ [] }
-    ensures video { D.is_modelled → OnOk result ((text : List ℕ)
-        × IsVideo index.old.head (messages_in index.old.blocks) film.now.from film.now.to film.now.rate text
-        × Appends (W.contents out.old) (W.contents out.new) text) }
-    ensures left { D.is_modelled → (fault : ReplayFault) → IsErrOf result (FilmFault.Read fault) → (text : List ℕ)
-        × AreFirstFrames index.old.head (messages_in index.old.blocks) film.now.from film.now.to film.now.rate text
-        × Appends (W.contents out.old) (W.contents out.new) text }
+    ensures video { D.is_modelled → OnOk result (Writes (W.contents out.old) (W.contents out.new) (IsVideo index.old.head (messages_in index.old.blocks) film.now.from film.now.to film.now.rate)) }
+    ensures left { D.is_modelled → (fault : ReplayFault) → IsErrOf result (FilmFault.Read fault) → Writes (W.contents out.old) (W.contents out.new) (AreFirstFrames index.old.head (messages_in index.old.blocks) film.now.from film.now.to film.now.rate) }
     ensures only { OnlyReads D.is_modelled D.history index.old index.new }
     ensures cause { D.is_modelled → HasCause (D.failures index.old.disk) (D.failures index.new.disk) (IsErrOf result (FilmFault.Read ReplayFault.Device)) }
     ensures never { result ≢ Err (FilmFault.Read ReplayFault.NotCommitted) }
@@ -194,12 +189,8 @@ pub fn write_frames<D: Disk, W: Write>(
     film: &Film,
     out: &mut W,
 ) -> Result<(), FilmFault>
-    ensures video { D.is_modelled → OnOk result ((text : List ℕ)
-        × IsVideo index.old.head (messages_in index.old.blocks) film.now.from film.now.to film.now.rate text
-        × Appends (W.contents out.old) (W.contents out.new) text) }
-    ensures left { D.is_modelled → (fault : ReplayFault) → IsErrOf result (FilmFault.Read fault) → (text : List ℕ)
-        × AreFirstFrames index.old.head (messages_in index.old.blocks) film.now.from film.now.to film.now.rate text
-        × Appends (W.contents out.old) (W.contents out.new) text }
+    ensures video { D.is_modelled → OnOk result (Writes (W.contents out.old) (W.contents out.new) (IsVideo index.old.head (messages_in index.old.blocks) film.now.from film.now.to film.now.rate)) }
+    ensures left { D.is_modelled → (fault : ReplayFault) → IsErrOf result (FilmFault.Read fault) → Writes (W.contents out.old) (W.contents out.new) (AreFirstFrames index.old.head (messages_in index.old.blocks) film.now.from film.now.to film.now.rate) }
     ensures only { OnlyReads D.is_modelled D.history index.old index.new }
     ensures cause { D.is_modelled → HasCause (D.failures index.old.disk) (D.failures index.new.disk) (IsErrOf result (FilmFault.Read ReplayFault.Device)) }
     ensures never { result ≢ Err (FilmFault.Read ReplayFault.NotCommitted) }

@@ -27,17 +27,6 @@ macro_rules! recorded {
     }};
 }
 
-// The same of a test that is given nothing else, with what is to be printed, and what `check` is to
-// say of the recording then.
-macro_rules! assert_recorded {
-    ($rt:ident, $file:expr, $audience:expr, $from:expr, $play:ident, $printed:expr, $told:expr) => {{
-        let said = recorded!($rt, $file, $audience, $from, $play)?;
-        assert!($rt; said.as_str() == $printed, "{said}");
-        assert!($rt; super::checked($rt, $file)?.as_str() == $told);
-        Ok(())
-    }};
-}
-
 mod ends;
 mod hosts;
 mod peers;
@@ -78,6 +67,21 @@ fn told(both: (io::Result<String>, Result<(), Fail>)) -> Result<String, Fail> {
     let (printed, played) = both;
     played?;
     Ok(printed?)
+}
+
+// Sees that so many messages were committed, and that `check` says this of the recording.
+fn is_recorded(
+    rt: &HostRuntime,
+    file: &str,
+    said: &str,
+    count: u64,
+    told: &str,
+) -> Result<(), Fail> {
+    let printed = format!(in rt.alloc(); "true serving\ncommitted {count}\n")?;
+    assert!(rt; said == printed.as_str(), "{said}");
+    let told = format!(in rt.alloc(); "recording {told}\n")?;
+    assert!(rt; checked(rt, file)?.as_str() == told.as_str());
+    Ok(())
 }
 
 // What `check` says of a recording, which is then removed.

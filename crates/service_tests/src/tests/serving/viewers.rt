@@ -1,5 +1,6 @@
 //! Viewers of a host.
 
+use super::is_recorded;
 use super::peers::{
     ALL, BLACK, CHANGES, GREEN, Loopback, RED, large_host, silent_viewer, small_host, viewer,
 };
@@ -25,17 +26,8 @@ fn two_watch(rt: &HostRuntime, ends: Loopback) -> Result<(), Fail> {
 #[test]
 fn two_viewers_get_a_host_s_update(rt: HostRuntime) -> Result<(), Fail> {
     let rt = &rt;
-    let printed = "true serving\ncommitted 1\n";
-    let told = "recording 1 1 messages 1 blocks 1\n";
-    assert_recorded!(
-        rt,
-        "watched",
-        Audience::Count(2),
-        Origin::Live,
-        two_watch,
-        printed,
-        told
-    )
+    let said = recorded!(rt, "watched", Audience::Count(2), Origin::Live, two_watch)?;
+    is_recorded(rt, "watched", &said, 1, "1 1 messages 1 blocks 1")
 }
 
 // One viewer says nothing, one is of another version, one leaves within a message, and one begins
@@ -67,17 +59,14 @@ fn strangers_come(rt: &HostRuntime, ends: Loopback) -> Result<(), Fail> {
 #[test]
 fn a_viewer_s_fault_ends_it_alone(rt: HostRuntime) -> Result<(), Fail> {
     let rt = &rt;
-    let printed = "true serving\ncommitted 2\n";
-    let told = "recording 1 1 messages 2 blocks 2\n";
-    assert_recorded!(
+    let said = recorded!(
         rt,
         "strangers",
         Audience::Count(3),
         Origin::Count(0),
-        strangers_come,
-        printed,
-        told
-    )
+        strangers_come
+    )?;
+    is_recorded(rt, "strangers", &said, 2, "1 1 messages 2 blocks 2")
 }
 
 // A request for all of the large screen, whose answer is more than sockets hold.
@@ -111,15 +100,6 @@ fn one_sleeps(rt: &HostRuntime, ends: Loopback) -> Result<(), Fail> {
 #[test]
 fn a_viewer_that_sleeps_holds_up_nobody(rt: HostRuntime) -> Result<(), Fail> {
     let rt = &rt;
-    let printed = "true serving\ncommitted 2\n";
-    let told = "recording 2048 1024 messages 2 blocks 2\n";
-    assert_recorded!(
-        rt,
-        "asleep",
-        Audience::Count(2),
-        Origin::Live,
-        one_sleeps,
-        printed,
-        told
-    )
+    let said = recorded!(rt, "asleep", Audience::Count(2), Origin::Live, one_sleeps)?;
+    is_recorded(rt, "asleep", &said, 2, "2048 1024 messages 2 blocks 2")
 }
