@@ -26,28 +26,60 @@ pub(crate) enum Kind {
     Leave,
 }
 
+/// The kinds of lines.
+const KINDS: [Kind; 14] = [
+    Kind::New,
+    Kind::NewChained,
+    Kind::Host,
+    Kind::Take,
+    Kind::Body,
+    Kind::Gate,
+    Kind::Open,
+    Kind::Pixel,
+    Kind::Fail,
+    Kind::Stop,
+    Kind::Join,
+    Kind::Next,
+    Kind::Seek,
+    Kind::Leave,
+];
+
+impl Kind {
+    ghost use Rattle.drill_script.specs.Reading.{keyword};
+
+    // The word that a line of this kind begins with.
+    fn keyword(self) -> &'static [u8]
+        ensures { result.now ≡ keyword self }
+    {
+        match self {
+            Kind::New => b"new",
+            Kind::NewChained => b"new2",
+            Kind::Host => b"host",
+            Kind::Take => b"take",
+            Kind::Body => b"body",
+            Kind::Gate => b"gate",
+            Kind::Open => b"open",
+            Kind::Pixel => b"pixel",
+            Kind::Fail => b"fail",
+            Kind::Stop => b"stop",
+            Kind::Join => b"join",
+            Kind::Next => b"next",
+            Kind::Seek => b"seek",
+            Kind::Leave => b"leave",
+        }
+    }
+}
+
 // The kind of line that begins with a word.
-#[tactic(auto, unfolding(crate::specs::Reading::kind_by))]
 pub(crate) fn kind_of(word: &[u8]) -> Option<Kind>
     ensures { result ≡ kind_by word.now }
 {
-    match word {
-        b"new" => Some(Kind::New),
-        b"new2" => Some(Kind::NewChained),
-        b"host" => Some(Kind::Host),
-        b"take" => Some(Kind::Take),
-        b"body" => Some(Kind::Body),
-        b"gate" => Some(Kind::Gate),
-        b"open" => Some(Kind::Open),
-        b"pixel" => Some(Kind::Pixel),
-        b"fail" => Some(Kind::Fail),
-        b"stop" => Some(Kind::Stop),
-        b"join" => Some(Kind::Join),
-        b"next" => Some(Kind::Next),
-        b"seek" => Some(Kind::Seek),
-        b"leave" => Some(Kind::Leave),
-        _ => None,
+    for kind in KINDS {
+        if word == kind.keyword() {
+            return Some(kind);
+        }
     }
+    None
 }
 
 fn first_space(text: &[u8]) -> Option<usize>
