@@ -1,3 +1,2 @@
 pub mod Filming
-pub mod Moments
 pub mod Texts

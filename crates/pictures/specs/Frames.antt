@@ -6,7 +6,7 @@ use Rattle.painter.specs.Framebuffer.{Framebuffer, color_at}
 use Rattle.keyed_entries.specs.declared.entry.Stamped.{Stamped}
 use Rattle.replay.specs.Screens.{IsScreenAt}
 use Rattle.pictures.specs.declared.picture.PictureFormat.TheVariants.{Ppm}
-use Rattle.pictures.specs.Moments.{IsShownAt}
+use Rattle.replay.specs.Moments.{IsShownAt}
 use Rattle.pictures.specs.Pictures.{picture_text}
 
 -- The moment of frame k, counted from 0, of so many a second from a moment on: in milliseconds,

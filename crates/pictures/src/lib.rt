@@ -1,10 +1,8 @@
-//! Pictures of a recording: which messages a moment shows, and a screen as a picture file.
+//! Pictures of a recording: a screen as a picture file, and the frames of a video.
 #![tactic(auto)]
 
 mod frames;
-mod moment;
 mod picture;
 
 pub use frames::{Film, FilmFault, write_frames};
-pub use moment::count_at;
 pub use picture::{PictureFormat, write_picture};

@@ -1,3 +1,4 @@
 pub mod Faults
+pub mod Moments
 pub mod Screens
 pub mod Slices

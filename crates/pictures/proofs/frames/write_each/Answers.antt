@@ -6,7 +6,7 @@ use Rattle.keyed_entries.specs.Entry.{messages_in}
 use Rattle.replay.specs.Screens.{IsScreenAt}
 use Rattle.pictures.specs.Frames.{IsFrame, frame_moment}
 use Rattle.pictures.proofs.Filming.{frames_grow, one_more_frame}
-use Rattle.pictures.proofs.Moments.{shown_later}
+use Rattle.replay.proofs.Moments.{shown_later}
 use Rattle.pictures.proofs.frames.write_each.Goals as goal
 
 pub loop-frame-init : goal.loop-frame-init

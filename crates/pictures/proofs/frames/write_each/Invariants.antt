@@ -5,7 +5,7 @@ use Rattle.painter.specs.Framebuffer.{color_at}
 use Rattle.replay.specs.Screens.{IsScreenAt}
 use Rattle.pictures.specs.declared.picture.PictureFormat.TheVariants.{Ppm}
 use Rattle.pictures.specs.Frames.{AreFrames, frame_moment}
-use Rattle.pictures.specs.Moments.{IsShownAt}
+use Rattle.replay.specs.Moments.{IsShownAt}
 use Rattle.pictures.specs.Pictures.{picture_text}
 use Rattle.pictures.proofs.frames.write_each.Given as goal
 

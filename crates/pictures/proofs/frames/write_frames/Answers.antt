@@ -2,7 +2,7 @@ use Rattle.std.proofs.Common.{◌≤◌, sym, ap, ◌∙◌, arith}
 use Rattle.gated_journal.specs.Recording.{Head}
 use Rattle.keyed_entries.specs.Entry.{messages_in}
 use Rattle.pictures.specs.Frames.{frame_moment}
-use Rattle.pictures.proofs.Moments.{shown_later}
+use Rattle.replay.proofs.Moments.{shown_later}
 use Rattle.pictures.proofs.frames.write_frames.Goals as goal
 
 pub write_each-requires-clause-width : goal.write_each-requires-clause-width
