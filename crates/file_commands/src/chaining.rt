@@ -1,11 +1,13 @@
 //! The command `digest`.
 
+use crate::recording::open_path;
 use crate::refusal::{DigestFault, Ended, Refusal};
-use file_disk::FileDisk;
+use file_disk::{FileDisk, Progress};
 use gated_journal::OpenFault;
 use key_index::{IndexFault, Indexed};
-use std::alloc::Global;
+use std::fs::File;
 use std::io::Write;
+use std::rt::Files;
 
 /// Which digest is asked for.
 #[derive(Clone, Copy)]
@@ -32,6 +34,9 @@ fn found(
     index: &mut Indexed<FileDisk>,
     wanted: Option<[u8; 32]>,
 ) -> Result<(u64, [u8; 32]), Refusal> {
+    if index.last_digest().is_none() {
+        return Err(Refusal::Digest(DigestFault::NoDigests));
+    }
     for block in (0..index.blocks()).rev() {
         let digest = digest_of(index, block)?;
         if wanted.is_none() || wanted == Some(digest) {
@@ -42,17 +47,15 @@ fn found(
 }
 
 /// Writes the number and the digest of the block that is asked for.
-pub fn write_digest<O: Write>(
-    alloc: Global,
-    index: &mut Indexed<FileDisk>,
+pub fn write_digest<R: Files<File = File> + AllocGlobal, O: Write>(
+    rt: &R,
     what: &Chaining<'_>,
+    progress: Progress,
     out: &mut O,
 ) -> Result<(), Ended> {
-    if index.last_digest().is_none() {
-        return Err(Ended::Refused(Refusal::Digest(DigestFault::NoDigests)));
-    }
-    let (block, digest) = found(index, what.digest)?;
-    let digits = match hex::encode(alloc, digest.as_slice()) {
+    let mut index = open_path(rt, what.recording, progress)?;
+    let (block, digest) = found(&mut index, what.digest)?;
+    let digits = match hex::encode(rt.alloc(), digest.as_slice()) {
         Ok(digits) => digits,
         Err(_) => return Err(Ended::Failed(std::io::ErrorKind::OutOfMemory.into())),
     };

@@ -1,24 +1,28 @@
 //! The commands `check` and `fbs-check`.
 
-use crate::recording::open_file;
+use crate::recording::{open_file, open_path};
 use crate::refusal::{Ended, Refusal};
-use file_disk::{FileDisk, Progress, Watched};
-use key_index::Indexed;
+use file_disk::{Progress, Watched};
 use std::fs::File;
-use std::io;
 use std::io::{BufReader, Write};
 use std::rt::Files;
 use terms::ScreenSize;
 
-/// Writes a recording's size, and how many messages and blocks count.
-pub fn write_size<O: Write>(index: &Indexed<FileDisk>, out: &mut O) -> io::Result<()> {
+/// Opens the recording at a path, and writes its size, and how many messages and blocks count.
+pub fn write_size<R: Files<File = File> + AllocGlobal, O: Write>(
+    rt: &R,
+    path: &str,
+    progress: Progress,
+    out: &mut O,
+) -> Result<(), Ended> {
+    let index = open_path(rt, path, progress)?;
     let ScreenSize { width, height } = index.header().size();
     let messages = index.committed();
     let blocks = index.blocks();
-    writeln!(
+    Ok(writeln!(
         out,
         "recording {width} {height} messages {messages} blocks {blocks}"
-    )
+    )?)
 }
 
 /// Reads the FBS file at a path, and writes its size, how many messages it has, and how many bytes of

@@ -7,7 +7,6 @@ use crate::framing::{Filming, write_filming};
 use crate::listing::write_list;
 use crate::migrating::{Migration, write_migration};
 use crate::picturing::{Scene, write_scene};
-use crate::recording::open_path;
 use crate::refusal::{Ended, answer};
 use crate::timing::{Timing, write_times};
 use file_disk::Progress;
@@ -73,37 +72,15 @@ impl FileCommand<'_> {
         progress: Progress,
         out: &mut O,
     ) -> Result<(), Ended> {
-        let alloc = rt.alloc();
         match self {
-            FileCommand::List(path) => {
-                let index = open_path(rt, path, progress)?;
-                Ok(write_list(alloc, &index, out)?)
-            }
-            FileCommand::Check(path) => {
-                let index = open_path(rt, path, progress)?;
-                Ok(write_size(&index, out)?)
-            }
-            FileCommand::Digest(what) => {
-                let mut index = open_path(rt, what.recording, progress)?;
-                write_digest(alloc, &mut index, what, out)
-            }
-            FileCommand::Times(what) => {
-                let mut index = open_path(rt, what.recording, progress)?;
-                write_times(alloc, &mut index, what, out)
-            }
+            FileCommand::List(path) => write_list(rt, path, progress, out),
+            FileCommand::Check(path) => write_size(rt, path, progress, out),
+            FileCommand::Digest(what) => write_digest(rt, what, progress, out),
+            FileCommand::Times(what) => write_times(rt, what, progress, out),
             FileCommand::Picture(what) => write_scene(rt, what, progress, out),
-            FileCommand::Frames(what) => {
-                let mut index = open_path(rt, what.recording, progress)?;
-                write_filming(alloc, &mut index, what, progress, out)
-            }
-            FileCommand::Export(what) => {
-                let count = write_extract(rt, what, progress)?;
-                Ok(writeln!(out, "exported {count}")?)
-            }
-            FileCommand::Migrate(what) => {
-                let count = write_migration(rt, what, progress)?;
-                Ok(writeln!(out, "migrated {count}")?)
-            }
+            FileCommand::Frames(what) => write_filming(rt, what, progress, out),
+            FileCommand::Export(what) => write_extract(rt, what, progress, out),
+            FileCommand::Migrate(what) => write_migration(rt, what, progress, out),
             FileCommand::FbsCheck(path) => write_summary(rt, path, progress, out),
         }
     }

@@ -49,8 +49,8 @@ pub struct Extract<'a> {
     pub out: &'a str,
 }
 
-/// Writes a part of a recording as an FBS file: how many messages it has.
-pub fn write_extract<R: Files<File = File> + AllocGlobal>(
+// Writes a part of a recording as an FBS file: how many messages it has.
+fn exported<R: Files<File = File> + AllocGlobal>(
     rt: &R,
     what: &Extract<'_>,
     progress: Progress,
@@ -77,4 +77,15 @@ pub fn write_extract<R: Files<File = File> + AllocGlobal>(
         .flush()
         .map_err(|_| Refusal::Export(ExportFault::Write))?;
     Ok(count)
+}
+
+/// Writes a part of a recording as an FBS file, and tells how many messages it has.
+pub fn write_extract<R: Files<File = File> + AllocGlobal, O: Write>(
+    rt: &R,
+    what: &Extract<'_>,
+    progress: Progress,
+    out: &mut O,
+) -> Result<(), Ended> {
+    let count = exported(rt, what, progress)?;
+    Ok(writeln!(out, "exported {count}")?)
 }

@@ -2,12 +2,13 @@
 
 ghost use Rattle.std.specs.Prelude.{◌<◌};
 
+use crate::recording::open_path;
 use crate::refusal::{Ended, Refusal};
-use file_disk::{FileDisk, Progress, Watched};
-use key_index::Indexed;
+use file_disk::{Progress, Watched};
 use pictures::{Film, FilmFault, write_frames};
-use std::alloc::Global;
+use std::fs::File;
 use std::io::{BufWriter, Write};
+use std::rt::Files;
 
 /// Which frames of which recording are written.
 #[derive(Clone, Copy)]
@@ -38,20 +39,21 @@ impl Filming<'_> {
 }
 
 /// Writes the frames of a recording as PPM pictures, one behind the other.
-pub fn write_filming<O: Write>(
-    alloc: Global,
-    index: &mut Indexed<FileDisk>,
+pub fn write_filming<R: Files<File = File> + AllocGlobal, O: Write>(
+    rt: &R,
     what: &Filming<'_>,
     progress: Progress,
     out: &mut O,
 ) -> Result<(), Ended> {
+    let alloc = rt.alloc();
+    let mut index = open_path(rt, what.recording, progress)?;
     let film = what.film(index.last_time());
     let watched = Watched {
         inner: out,
         progress,
     };
     let mut frames = BufWriter::new(alloc, watched)?;
-    match write_frames(alloc, index, &film, &mut frames) {
+    match write_frames(alloc, &mut index, &film, &mut frames) {
         Ok(()) => Ok(frames.flush()?),
         Err(FilmFault::Read(fault)) => Err(Ended::Refused(Refusal::Screen(fault))),
         Err(FilmFault::Write(error)) => Err(Ended::Failed(error)),

@@ -1,10 +1,13 @@
 //! The command `list`.
 
-use file_disk::FileDisk;
+use crate::recording::open_path;
+use crate::refusal::Ended;
+use file_disk::{FileDisk, Progress};
 use key_index::Indexed;
-use std::alloc::Global;
+use std::fs::File;
 use std::io;
 use std::io::{BufWriter, Write};
+use std::rt::Files;
 
 // A line a block: its number, its first message, how many it has, whether it has a key screen, and
 // the time of its first message.
@@ -22,13 +25,15 @@ fn write_blocks<O: Write>(index: &Indexed<FileDisk>, out: &mut O) -> io::Result<
     Ok(())
 }
 
-/// Writes a line for each block of a recording that counts.
-pub fn write_list<O: Write>(
-    alloc: Global,
-    index: &Indexed<FileDisk>,
+/// Writes a line for each block that counts of the recording at a path.
+pub fn write_list<R: Files<File = File> + AllocGlobal, O: Write>(
+    rt: &R,
+    path: &str,
+    progress: Progress,
     out: &mut O,
-) -> io::Result<()> {
-    let mut lines = BufWriter::new(alloc, out)?;
-    write_blocks(index, &mut lines)?;
-    lines.flush()
+) -> Result<(), Ended> {
+    let index = open_path(rt, path, progress)?;
+    let mut lines = BufWriter::new(rt.alloc(), out)?;
+    write_blocks(&index, &mut lines)?;
+    Ok(lines.flush()?)
 }

@@ -11,6 +11,7 @@ use migration::{may_be_migrated, migrate};
 use std::alloc::Global;
 use std::fs::{File, OpenOptions, Permissions};
 use std::io;
+use std::io::Write;
 use std::os::unix::fs::PermissionsExt;
 use std::rt::Files;
 
@@ -38,8 +39,12 @@ fn open_target<R: Files<File = File>>(files: &R, path: &str) -> io::Result<File>
     Ok(file)
 }
 
-// How many messages a recording has once it is migrated.
-fn migrated(alloc: Global, index: &mut Indexed<FileDisk>, target: FileDisk) -> Result<u64, Refusal>
+// How many messages a recording has once it is migrated to a disk.
+fn migrated_to(
+    alloc: Global,
+    index: &mut Indexed<FileDisk>,
+    target: FileDisk,
+) -> Result<u64, Refusal>
     requires whole { index.old.numbers.state ≢ State.Broken }
 {
     match migrate(alloc, index, target) {
@@ -48,8 +53,8 @@ fn migrated(alloc: Global, index: &mut Indexed<FileDisk>, target: FileDisk) -> R
     }
 }
 
-/// Writes a recording of format 1 again in format 2: how many messages it has.
-pub fn write_migration<R: Files<File = File> + AllocGlobal>(
+// Writes a recording of format 1 again in format 2: how many messages it has.
+fn migrated<R: Files<File = File> + AllocGlobal>(
     rt: &R,
     what: &Migration<'_>,
     progress: Progress,
@@ -59,7 +64,18 @@ pub fn write_migration<R: Files<File = File> + AllocGlobal>(
     may_be_migrated(&index).map_err(Refusal::Migrate)?;
     let file = open_target(rt, what.out).map_err(|_| Refusal::File)?;
     let target = FileDisk::watched(file, progress);
-    let count = migrated(alloc, &mut index, target)?;
+    let count = migrated_to(alloc, &mut index, target)?;
     sync_folder(rt, what.out).map_err(|_| Refusal::File)?;
     Ok(count)
+}
+
+/// Writes a recording of format 1 again in format 2, and tells how many messages it has.
+pub fn write_migration<R: Files<File = File> + AllocGlobal, O: Write>(
+    rt: &R,
+    what: &Migration<'_>,
+    progress: Progress,
+    out: &mut O,
+) -> Result<(), Ended> {
+    let count = migrated(rt, what, progress)?;
+    Ok(writeln!(out, "migrated {count}")?)
 }

@@ -27,6 +27,13 @@ pub fn open_path<R: Files<File = File> + AllocGlobal>(
     open_recording(rt.alloc(), file, progress)
 }
 
+// A value in a box, where there is memory for it.
+fn boxed<T: Drop>(alloc: Global, value: T) -> Result<Box<T>, Refusal>
+    ensures { IfOk result (λ boxed. boxed.value ≡ value) }
+{
+    Box::new(alloc, value).map_err(|_| Refusal::Recording(IndexFault::NoMemory))
+}
+
 /// The recording that a file holds. It is boxed, since it is large, and each way out of a function
 /// that owns it would take it apart.
 pub fn open_recording(
@@ -37,10 +44,7 @@ pub fn open_recording(
     ensures ready { IfOk result (λ i. i.value.numbers.state ≡ State.Ready) }
 {
     match Indexed::open(alloc, FileDisk::watched(file, progress)) {
-        Ok(index) => match Box::new(alloc, index) {
-            Ok(index) => Ok(index),
-            Err(_) => Err(Refusal::Recording(IndexFault::NoMemory)),
-        },
+        Ok(index) => boxed(alloc, index),
         Err(refused) => Err(Refusal::Recording(refused.fault)),
     }
 }

@@ -2,13 +2,14 @@
 
 ghost use Rattle.std.specs.Prelude.{◌<◌};
 
+use crate::recording::open_path;
 use crate::refusal::Ended;
 use crate::surveying::{Stretch, StretchSink, survey};
-use file_disk::FileDisk;
-use key_index::Indexed;
-use std::alloc::Global;
+use file_disk::Progress;
+use std::fs::File;
 use std::io;
 use std::io::{BufWriter, Write};
+use std::rt::Files;
 
 /// Which stretches of which recording are listed.
 #[derive(Clone, Copy)]
@@ -37,13 +38,14 @@ impl<O: Write> StretchSink for Lines<'_, O> {
 }
 
 /// Writes a line for each stretch of a recording's time in which a message came.
-pub fn write_times<O: Write>(
-    alloc: Global,
-    index: &mut Indexed<FileDisk>,
+pub fn write_times<R: Files<File = File> + AllocGlobal, O: Write>(
+    rt: &R,
     what: &Timing<'_>,
+    progress: Progress,
     out: &mut O,
 ) -> Result<(), Ended> {
-    let mut writer = BufWriter::new(alloc, out)?;
-    survey(index, what.every, &mut Lines { out: &mut writer })?;
+    let mut index = open_path(rt, what.recording, progress)?;
+    let mut writer = BufWriter::new(rt.alloc(), out)?;
+    survey(&mut index, what.every, &mut Lines { out: &mut writer })?;
     Ok(writer.flush()?)
 }
