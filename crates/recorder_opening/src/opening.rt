@@ -46,10 +46,7 @@ pub struct Opened {
 
 // A desk over a book. It is boxed, since its seats are many.
 fn desk_over(alloc: Global, book: Box<Book<FileDisk>>) -> Result<Box<Desk<FileDisk>>, Stopped> {
-    match Box::new(alloc, Desk::new(Box::into_inner(book))) {
-        Ok(desk) => Ok(desk),
-        Err(_) => Err(Stopped::out_of_memory()),
-    }
+    Ok(Box::new(alloc, Desk::new(Box::into_inner(book)))?)
 }
 
 impl<'a, R: Eprint + Wait> Opening<'a, R> {
@@ -100,10 +97,7 @@ impl<
             _ => (self.plan.format, None),
         };
         let host = Host::connect(self.rt, address, format, expected, self.telling)?;
-        match Box::new(self.rt.alloc(), host) {
-            Ok(host) => Ok(Some(host)),
-            Err(_) => Err(Stopped::out_of_memory()),
-        }
+        Ok(Some(Box::new(self.rt.alloc(), host)?))
     }
 
     // The recording that was found, or a new one for a host.

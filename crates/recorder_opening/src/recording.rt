@@ -88,16 +88,9 @@ fn open_draft<R: Files<File = File>>(rt: &R, draft: &str, path: &str) -> io::Res
     Ok(file)
 }
 
-// A book in a box, or this refusal, which is of memory.
-fn boxed(
-    alloc: Global,
-    book: Book<FileDisk>,
-    refusal: Refusal,
-) -> Result<Box<Book<FileDisk>>, Refusal> {
-    match Box::new(alloc, book) {
-        Ok(book) => Ok(book),
-        Err(_) => Err(refusal),
-    }
+// A value in a box, or this refusal, which is of memory.
+fn boxed<T: Drop>(alloc: Global, value: T, refusal: Refusal) -> Result<Box<T>, Refusal> {
+    Box::new(alloc, value).map_err(|_| refusal)
 }
 
 impl<'a, R: AllocGlobal + Eprint + Files<File = File> + Wait> Opening<'a, R> {
@@ -193,6 +186,27 @@ impl<'a, R: AllocGlobal + Eprint + Files<File = File> + Wait> Opening<'a, R> {
         self.given(synced, "sync the folder of", path, Refusal::File)
     }
 
+    // A new recording on the disk of a file, which is removed where that fails.
+    fn make_book(
+        &self,
+        header: Header,
+        disk: FileDisk,
+        draft: &str,
+    ) -> Result<Box<Book<FileDisk>>, Refusal> {
+        let alloc = self.rt.alloc();
+        let made = match Book::create(alloc, disk, header) {
+            Ok(book) => boxed(alloc, book, Refusal::Create(CreateFault::NoMemory)),
+            Err(refused) => {
+                self.tell_last_error("write", draft);
+                Err(Refusal::Create(refused.fault))
+            }
+        };
+        if made.is_err() {
+            let _removed = fs::remove_file(self.rt, draft);
+        }
+        made
+    }
+
     /// Makes a recording at the plan's path where there is none, or no byte. It appears there whole:
     /// it is made under a name beside, with `.new` behind it, and renamed once its header and first
     /// gate are on the device.
@@ -208,17 +222,7 @@ impl<'a, R: AllocGlobal + Eprint + Files<File = File> + Wait> Opening<'a, R> {
             Ok((file, Identity::of(&metadata)))
         });
         let (file, identity) = self.given(opened, "make", &draft, Refusal::File)?;
-        let book = match Book::create(alloc, FileDisk::noting(file, noting), header) {
-            Ok(book) => boxed(alloc, book, Refusal::Create(CreateFault::NoMemory)),
-            Err(refused) => {
-                self.tell_last_error("write", &draft);
-                Err(Refusal::Create(refused.fault))
-            }
-        };
-        if book.is_err() {
-            let _removed = fs::remove_file(self.rt, &draft);
-        }
-        let book = book?;
+        let book = self.make_book(header, FileDisk::noting(file, noting), &draft)?;
         self.publish(&draft)?;
         Ok((book, identity))
     }

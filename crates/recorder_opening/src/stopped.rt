@@ -1,7 +1,7 @@
 //! How a recorder ends that isn't done.
 
 use connections::Refusal;
-use std::alloc::AllocError;
+use std::alloc::{AllocError, AllocFailed};
 use std::io;
 
 /// How a recorder ends that isn't done.
@@ -27,8 +27,14 @@ impl From<Refusal> for Stopped {
 }
 
 impl From<AllocError> for Stopped {
-    fn from(error: AllocError) -> Stopped {
-        Stopped::Failed(error.into())
+    fn from(_: AllocError) -> Stopped {
+        Stopped::out_of_memory()
+    }
+}
+
+impl<T: Drop> From<AllocFailed<T>> for Stopped {
+    fn from(_: AllocFailed<T>) -> Stopped {
+        Stopped::out_of_memory()
     }
 }
 

@@ -10,6 +10,7 @@ use file_disk::LastError;
 use recorder_opening::{Opened, Opening, Source, Stopped};
 use shared_book::{Mark, Shared, Token};
 use sockets::Bell;
+use std::fmt::Display;
 use std::fs::File;
 use std::io;
 use std::io::Write;
@@ -44,7 +45,7 @@ fn room_of<M: Mark, R: AllocGlobal>(
         last_error,
         desk.committed(),
     );
-    Box::new(alloc, room).map_err(|_| Stopped::out_of_memory())
+    Ok(Box::new(alloc, room)?)
 }
 
 // Serves a recording, which the host goes on with, under a mark that fits it: how many messages are
@@ -87,6 +88,12 @@ fn serve_opened<
     outcome.result(shared.finish().committed())
 }
 
+// Writes a line, at once.
+fn say<O: Write, T: Display + Drop>(out: &mut O, line: T) -> io::Result<()> {
+    writeln!(out, "{line}")?;
+    out.flush()
+}
+
 fn run<'a, R, L, O, W>(
     rt: &'a R,
     plan: &'a Plan<'a>,
@@ -110,24 +117,17 @@ where
         telling: &telling,
         last_error: &last_error,
     };
-    let Ok(opened) = Box::new(rt.alloc(), opening.open(listen)?) else {
-        return Err(Stopped::out_of_memory());
-    };
     let bell = opening.given(Bell::new(rt), "make a bell for", plan.listen, Refusal::Net)?;
-    let Ok(token) = Token::new(rt.alloc()) else {
-        return Err(Stopped::out_of_memory());
-    };
+    let token = Token::new(rt.alloc())?;
+    let opened = Box::new(rt.alloc(), opening.open(listen)?)?;
     let identity = opened.identity;
-    writeln!(out, "serving")?;
-    out.flush()?;
+    say(out, "serving")?;
     let committed = serve_opened::<Brand, R, W>(rt, plan, token, opened, bell, last_error, err)?;
     if !identity.is_at(rt, plan.file) {
         telling.tell(rt, Event::Replaced(plan.file));
         return Err(Stopped::Refused(Refusal::File));
     }
-    writeln!(out, "committed {committed}")?;
-    out.flush()?;
-    Ok(())
+    Ok(say(out, format_args!("committed {committed}"))?)
 }
 
 /// Records a host into a file, and serves the recording to viewers, who connect to the listener
