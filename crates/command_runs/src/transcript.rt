@@ -27,6 +27,30 @@ where
     Ok(Outcome { status, printed })
 }
 
+// What came of the first call of a paragraph that ends or prints otherwise than it says.
+fn other_outcome<R>(rt: &R, head: &str, lines: &str) -> io::Result<Option<String>>
+where
+    R: AllocGlobal + Clock + Eprint + Files<File = File> + Sync + Threads + Wait,
+    R: Net<Stream = TcpStream, Listener = TcpListener>,
+{
+    let alloc = rt.alloc();
+    for call in &read_calls(alloc, head, lines)? {
+        let input = Input::Bytes(call.input.as_bytes());
+        let outcome = run(rt, &call.words, input, usize::MAX)?;
+        if !outcome.is(&call.outcome) {
+            return Ok(Some(outcome.told(alloc)?));
+        }
+    }
+    Ok(None)
+}
+
+// Removes files, where they are there.
+fn remove<R: Files<File = File>>(rt: &R, names: &[&str]) {
+    for name in names {
+        let _ = fs::remove_file(rt, *name);
+    }
+}
+
 /// Does what a paragraph says; answers what came instead, where it isn't so.
 pub fn difference<R>(rt: &R, paragraph: &str) -> io::Result<Option<String>>
 where
@@ -40,21 +64,9 @@ where
         ["file", name] => fs::write(rt, *name, bytes_of(alloc, lines)?.as_slice())?,
         ["change", from, name, place, byte] => change(rt, from, name, place, byte)?,
         ["link", from, name] => fs::hard_link(rt, *from, *name)?,
-        ["remove", names @ ..] => {
-            for name in names {
-                let _ = fs::remove_file(rt, *name);
-            }
-        }
+        ["remove", names @ ..] => remove(rt, names),
         ["here", name] => return other_bytes(rt, name, lines),
-        _ => {
-            for call in &read_calls(alloc, head, lines)? {
-                let input = Input::Bytes(call.input.as_bytes());
-                let outcome = run(rt, &call.words, input, usize::MAX)?;
-                if !outcome.is(&call.outcome) {
-                    return Ok(Some(outcome.told(alloc)?));
-                }
-            }
-        }
+        _ => return other_outcome(rt, head, lines),
     }
     Ok(None)
 }
