@@ -1,5 +1,6 @@
 //! The command `digest`.
 
+use crate::command::Work;
 use crate::recording::open_path;
 use crate::refusal::{DigestFault, Ended, Refusal};
 use file_disk::{FileDisk, Progress};
@@ -46,18 +47,15 @@ fn found(
     Err(Refusal::Digest(DigestFault::NotFound))
 }
 
-/// Writes the number and the digest of the block that is asked for.
-pub fn write_digest<R: Files<File = File> + AllocGlobal, O: Write>(
-    rt: &R,
-    what: &Chaining<'_>,
-    progress: Progress,
-    out: &mut O,
-) -> Result<(), Ended> {
-    let mut index = open_path(rt, what.recording, progress)?;
-    let (block, digest) = found(&mut index, what.digest)?;
-    let digits = match hex::encode(rt.alloc(), digest.as_slice()) {
-        Ok(digits) => digits,
-        Err(_) => return Err(Ended::Failed(std::io::ErrorKind::OutOfMemory.into())),
-    };
-    Ok(writeln!(out, "block {block} digest {digits}")?)
+impl<R: Files<File = File> + AllocGlobal, O: Write> Work<'_, R, O> {
+    /// Writes the number and the digest of the block that is asked for.
+    pub fn digest(&mut self, what: &Chaining<'_>) -> Result<(), Ended> {
+        let mut index = open_path(self.rt, what.recording, self.progress)?;
+        let (block, digest) = found(&mut index, what.digest)?;
+        let digits = match hex::encode(self.rt.alloc(), digest.as_slice()) {
+            Ok(digits) => digits,
+            Err(_) => return Err(Ended::Failed(std::io::ErrorKind::OutOfMemory.into())),
+        };
+        Ok(writeln!(self.out, "block {block} digest {digits}")?)
+    }
 }

@@ -1,14 +1,12 @@
 //! The commands on files, and how one is run.
 
-use crate::chaining::{Chaining, write_digest};
-use crate::checking::{write_size, write_summary};
-use crate::exporting::{Extract, write_extract};
-use crate::framing::{Filming, write_filming};
-use crate::listing::write_list;
-use crate::migrating::{Migration, write_migration};
-use crate::picturing::{Scene, write_scene};
+use crate::chaining::Chaining;
+use crate::exporting::Extract;
+use crate::framing::Filming;
+use crate::migrating::Migration;
+use crate::picturing::Scene;
 use crate::refusal::{Ended, answer};
-use crate::timing::{Timing, write_times};
+use crate::timing::Timing;
 use file_disk::Progress;
 use std::fs::File;
 use std::io;
@@ -68,22 +66,31 @@ impl FileCommand<'_> {
     // Does it.
     fn work<R: Files<File = File> + AllocGlobal, O: Write>(
         &self,
-        rt: &R,
-        progress: Progress,
-        out: &mut O,
+        work: &mut Work<'_, R, O>,
     ) -> Result<(), Ended> {
         match self {
-            FileCommand::List(path) => write_list(rt, path, progress, out),
-            FileCommand::Check(path) => write_size(rt, path, progress, out),
-            FileCommand::Digest(what) => write_digest(rt, what, progress, out),
-            FileCommand::Times(what) => write_times(rt, what, progress, out),
-            FileCommand::Picture(what) => write_scene(rt, what, progress, out),
-            FileCommand::Frames(what) => write_filming(rt, what, progress, out),
-            FileCommand::Export(what) => write_extract(rt, what, progress, out),
-            FileCommand::Migrate(what) => write_migration(rt, what, progress, out),
-            FileCommand::FbsCheck(path) => write_summary(rt, path, progress, out),
+            FileCommand::List(path) => work.list(path),
+            FileCommand::Check(path) => work.check(path),
+            FileCommand::Digest(what) => work.digest(what),
+            FileCommand::Times(what) => work.times(what),
+            FileCommand::Picture(what) => work.picture(what),
+            FileCommand::Frames(what) => work.frames(what),
+            FileCommand::Export(what) => work.export(what),
+            FileCommand::Migrate(what) => work.migrate(what),
+            FileCommand::FbsCheck(path) => work.fbs_check(path),
         }
     }
+}
+
+/// What a command works with, beside what it asks for.
+#[derive(Drop)]
+pub struct Work<'a, R, O> {
+    /// The system, with its files.
+    pub rt: &'a R,
+    /// Where long work is told of.
+    pub progress: Progress,
+    /// Where the command prints.
+    pub out: &'a mut O,
 }
 
 /// Runs a command: what it prints is written to `out`, and long work told of to a person. Answers
@@ -96,5 +103,6 @@ pub fn run<R: Files<File = File> + AllocGlobal, O: Write, E: Write>(
     out: &mut O,
     err: &mut E,
 ) -> io::Result<bool> {
-    answer(command.word(), command.work(rt, progress, out), err)
+    let mut work = Work { rt, progress, out };
+    answer(command.word(), command.work(&mut work), err)
 }

@@ -1,5 +1,6 @@
 //! The command `export`.
 
+use crate::command::Work;
 use crate::recording::{open_file, open_recording};
 use crate::refusal::{Ended, Refusal};
 use fbs_export::{ExportFault, first_exported};
@@ -79,13 +80,10 @@ fn exported<R: Files<File = File> + AllocGlobal>(
     Ok(count)
 }
 
-/// Writes a part of a recording as an FBS file, and tells how many messages it has.
-pub fn write_extract<R: Files<File = File> + AllocGlobal, O: Write>(
-    rt: &R,
-    what: &Extract<'_>,
-    progress: Progress,
-    out: &mut O,
-) -> Result<(), Ended> {
-    let count = exported(rt, what, progress)?;
-    Ok(writeln!(out, "exported {count}")?)
+impl<R: Files<File = File> + AllocGlobal, O: Write> Work<'_, R, O> {
+    /// Writes a part of a recording as an FBS file, and tells how many messages it has.
+    pub fn export(&mut self, what: &Extract<'_>) -> Result<(), Ended> {
+        let count = exported(self.rt, what, self.progress)?;
+        Ok(writeln!(self.out, "exported {count}")?)
+    }
 }

@@ -2,6 +2,7 @@
 
 ghost use Rattle.std.specs.Prelude.{◌<◌};
 
+use crate::command::Work;
 use crate::recording::open_path;
 use crate::refusal::{Ended, Refusal};
 use file_disk::{Progress, Watched};
@@ -38,24 +39,21 @@ impl Filming<'_> {
     }
 }
 
-/// Writes the frames of a recording as PPM pictures, one behind the other.
-pub fn write_filming<R: Files<File = File> + AllocGlobal, O: Write>(
-    rt: &R,
-    what: &Filming<'_>,
-    progress: Progress,
-    out: &mut O,
-) -> Result<(), Ended> {
-    let alloc = rt.alloc();
-    let mut index = open_path(rt, what.recording, progress)?;
-    let film = what.film(index.last_time());
-    let watched = Watched {
-        inner: out,
-        progress,
-    };
-    let mut frames = BufWriter::new(alloc, watched)?;
-    match write_frames(alloc, &mut index, &film, &mut frames) {
-        Ok(()) => Ok(frames.flush()?),
-        Err(FilmFault::Read(fault)) => Err(Ended::Refused(Refusal::Screen(fault))),
-        Err(FilmFault::Write(error)) => Err(Ended::Failed(error)),
+impl<R: Files<File = File> + AllocGlobal, O: Write> Work<'_, R, O> {
+    /// Writes the frames of a recording as PPM pictures, one behind the other.
+    pub fn frames(&mut self, what: &Filming<'_>) -> Result<(), Ended> {
+        let alloc = self.rt.alloc();
+        let mut index = open_path(self.rt, what.recording, self.progress)?;
+        let film = what.film(index.last_time());
+        let watched = Watched {
+            inner: &mut *self.out,
+            progress: self.progress,
+        };
+        let mut frames = BufWriter::new(alloc, watched)?;
+        match write_frames(alloc, &mut index, &film, &mut frames) {
+            Ok(()) => Ok(frames.flush()?),
+            Err(FilmFault::Read(fault)) => Err(Ended::Refused(Refusal::Screen(fault))),
+            Err(FilmFault::Write(error)) => Err(Ended::Failed(error)),
+        }
     }
 }

@@ -1,5 +1,6 @@
 //! The command `list`.
 
+use crate::command::Work;
 use crate::recording::open_path;
 use crate::refusal::Ended;
 use file_disk::{FileDisk, Progress};
@@ -25,15 +26,12 @@ fn write_blocks<O: Write>(index: &Indexed<FileDisk>, out: &mut O) -> io::Result<
     Ok(())
 }
 
-/// Writes a line for each block that counts of the recording at a path.
-pub fn write_list<R: Files<File = File> + AllocGlobal, O: Write>(
-    rt: &R,
-    path: &str,
-    progress: Progress,
-    out: &mut O,
-) -> Result<(), Ended> {
-    let index = open_path(rt, path, progress)?;
-    let mut lines = BufWriter::new(rt.alloc(), out)?;
-    write_blocks(&index, &mut lines)?;
-    Ok(lines.flush()?)
+impl<R: Files<File = File> + AllocGlobal, O: Write> Work<'_, R, O> {
+    /// Writes a line for each block that counts of the recording at a path.
+    pub fn list(&mut self, path: &str) -> Result<(), Ended> {
+        let index = open_path(self.rt, path, self.progress)?;
+        let mut lines = BufWriter::new(self.rt.alloc(), &mut *self.out)?;
+        write_blocks(&index, &mut lines)?;
+        Ok(lines.flush()?)
+    }
 }

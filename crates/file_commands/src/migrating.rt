@@ -2,6 +2,7 @@
 
 ghost use Rattle.std.specs.Prelude.{◌≢◌};
 
+use crate::command::Work;
 use crate::recording::open_path;
 use crate::refusal::{Ended, Refusal};
 use file_disk::{FileDisk, Progress, sync_folder};
@@ -69,13 +70,10 @@ fn migrated<R: Files<File = File> + AllocGlobal>(
     Ok(count)
 }
 
-/// Writes a recording of format 1 again in format 2, and tells how many messages it has.
-pub fn write_migration<R: Files<File = File> + AllocGlobal, O: Write>(
-    rt: &R,
-    what: &Migration<'_>,
-    progress: Progress,
-    out: &mut O,
-) -> Result<(), Ended> {
-    let count = migrated(rt, what, progress)?;
-    Ok(writeln!(out, "migrated {count}")?)
+impl<R: Files<File = File> + AllocGlobal, O: Write> Work<'_, R, O> {
+    /// Writes a recording of format 1 again in format 2, and tells how many messages it has.
+    pub fn migrate(&mut self, what: &Migration<'_>) -> Result<(), Ended> {
+        let count = migrated(self.rt, what, self.progress)?;
+        Ok(writeln!(self.out, "migrated {count}")?)
+    }
 }

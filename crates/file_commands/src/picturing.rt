@@ -1,5 +1,6 @@
 //! The command `picture`.
 
+use crate::command::Work;
 use crate::exporting::open_out;
 use crate::recording::{open_file, open_recording};
 use crate::refusal::{Ended, Refusal};
@@ -79,20 +80,18 @@ fn write_file<R: Files<File = File> + AllocGlobal>(
     Ok(())
 }
 
-/// Writes the screen at a moment of a recording as a picture.
-pub fn write_scene<R: Files<File = File> + AllocGlobal, O: Write>(
-    rt: &R,
-    what: &Scene<'_>,
-    progress: Progress,
-    out: &mut O,
-) -> Result<(), Ended> {
-    let alloc = rt.alloc();
-    let file = open_file(rt, what.recording)?;
-    let metadata = file.metadata()?;
-    let mut index = open_recording(alloc, file, progress)?;
-    let screen = screen_of(alloc, &mut index, what.moment)?;
-    match what.out {
-        Some(path) => write_file(rt, path, &metadata, &screen, *what, progress),
-        None => Ok(write_picture(alloc, &screen, what.format, out)?),
+impl<R: Files<File = File> + AllocGlobal, O: Write> Work<'_, R, O> {
+    /// Writes the screen at a moment of a recording as a picture.
+    pub fn picture(&mut self, what: &Scene<'_>) -> Result<(), Ended> {
+        let (rt, progress) = (self.rt, self.progress);
+        let alloc = rt.alloc();
+        let file = open_file(rt, what.recording)?;
+        let metadata = file.metadata()?;
+        let mut index = open_recording(alloc, file, progress)?;
+        let screen = screen_of(alloc, &mut index, what.moment)?;
+        match what.out {
+            Some(path) => write_file(rt, path, &metadata, &screen, *what, progress),
+            None => Ok(write_picture(alloc, &screen, what.format, self.out)?),
+        }
     }
 }

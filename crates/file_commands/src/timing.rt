@@ -2,6 +2,7 @@
 
 ghost use Rattle.std.specs.Prelude.{◌<◌};
 
+use crate::command::Work;
 use crate::recording::open_path;
 use crate::refusal::Ended;
 use crate::surveying::{Stretch, StretchSink, survey};
@@ -37,15 +38,12 @@ impl<O: Write> StretchSink for Lines<'_, O> {
     }
 }
 
-/// Writes a line for each stretch of a recording's time in which a message came.
-pub fn write_times<R: Files<File = File> + AllocGlobal, O: Write>(
-    rt: &R,
-    what: &Timing<'_>,
-    progress: Progress,
-    out: &mut O,
-) -> Result<(), Ended> {
-    let mut index = open_path(rt, what.recording, progress)?;
-    let mut writer = BufWriter::new(rt.alloc(), out)?;
-    survey(&mut index, what.every, &mut Lines { out: &mut writer })?;
-    Ok(writer.flush()?)
+impl<R: Files<File = File> + AllocGlobal, O: Write> Work<'_, R, O> {
+    /// Writes a line for each stretch of a recording's time in which a message came.
+    pub fn times(&mut self, what: &Timing<'_>) -> Result<(), Ended> {
+        let mut index = open_path(self.rt, what.recording, self.progress)?;
+        let mut writer = BufWriter::new(self.rt.alloc(), &mut *self.out)?;
+        survey(&mut index, what.every, &mut Lines { out: &mut writer })?;
+        Ok(writer.flush()?)
+    }
 }
