@@ -1,12 +1,10 @@
 -- What the reader of a stream stands for, from piece to piece and from block to block.
-use Rattle.std.proofs.Common.{◌≡◌, ◌≢◌, ◌<◌, ◌≤◌, ◌+◌, ◌-◌, ◌⊎◌, inl, inr, None, Some, ℕ, List, [], ◌∷◌, ◌++◌, length, drop, replicate, refl, sym, ap, ◌∙◌, subst, arith, append_assoc, append-nil, length-append}
+use Rattle.std.proofs.Common.{◌≡◌, ◌<◌, ◌≤◌, ◌+◌, ◌-◌, ◌⊎◌, inl, inr, None, Some, ℕ, List, [], ◌∷◌, ◌++◌, length, drop, replicate, refl, sym, ap, ◌∙◌, subst, arith, append_assoc, append-nil, length-append}
 use Rattle.std.specs.List.{flat_map, AllByRecursion}
 use Rattle.std.proofs.lemmas.List.{length-replicate}
 use Rattle.terms.specs.Reading.{Got, More, Bad}
 use Rattle.terms.proofs.Readings.{field-short}
 use Rattle.terms.proofs.Lacks.{unless_other}
-use Rattle.terms.specs.declared.wire_fault.WireFault.{WireFault}
-use Rattle.terms.specs.declared.wire_fault.WireFault.TheVariants as wire
 use Rattle.client_wire.specs.Stream.{Part, bytes_of, IsPart, Reads, FaultOf, Goes, Stops, StandsFor, given_of}
 use Rattle.client_wire.proofs.Streams.{flat_append, all_append, gives_none, waits_begins_none, empty_list}
 use Rattle.pixel_format.specs.declared.kind.Format.TheVariants.{Two}

@@ -16,7 +16,7 @@ use Rattle.fbs_export.specs.declared.fault.FbsFault.{FbsFault}
 use Rattle.fbs_export.specs.declared.fault.FbsFault.TheVariants as faults
 use Rattle.fbs_export.specs.Blocks.{Block, Laid, block_at, rest_of_block, padding_length, content_of, block_times, data_of, times_of, begun, stream_of, is_start}
 use Rattle.fbs_export.specs.Opening.{opening_at}
-use Rattle.fbs_export.specs.Reader.{IsDataFault}
+use Rattle.fbs_export.specs.Reader.{IsDataFault, IsStop}
 use Rattle.fbs_export.specs.Summary.{IsFault, IsCutShort, Waits}
 use Rattle.fbs_export.proofs.Blocks.{number_again}
 
@@ -176,6 +176,13 @@ pub length_short : (seen tail : List ℕ) (blocks : List (Part Block)) → Laid 
 length_short seen tail blocks laid long less some w =
     let p = head_short tail less in
     cut_short seen tail [] blocks laid long p.0 p.1 some (subst (λ z. (opening_at z ≡ More) ⊎ Waits z) (sym (append-nil (data_of blocks))) w)
+
+-- a file that ends here is cut short, wherever it does, or its reader failed
+pub stopped : (rest : Option (List ℕ)) (least most : ℕ) (f : FbsFault) (file : List ℕ → List ℕ) → IsStop least most rest f
+    → ((bytes : List ℕ) → least ≤ length bytes → length bytes < most → IsCutShort (file bytes)) → IfSome rest (λ bytes. IsFault (file bytes) f)
+stopped None least most f file stop cut = tt
+stopped (Some bytes) least most f file (inl read) cut = subst (IsFault (file bytes)) (sym read) tt
+stopped (Some bytes) least most f file (inr short) cut = subst (IsFault (file bytes)) (sym short.0) (cut bytes short.1.0 short.1.1)
 
 -- each byte of the stream has a time
 pub same_lengths : (blocks : List (Part Block)) → length (data_of blocks) ≡ length (times_of blocks)

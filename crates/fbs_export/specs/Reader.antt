@@ -1,8 +1,9 @@
 -- What the readers of a file stand for. `keeps` says which messages a tally stands for: those that
 -- have their times, and those that wait.
-use Rattle.std.specs.Prelude.{◌≡◌, ◌≢◌, ◌≤◌, ◌<◌, ℕ, ◌+◌, ◌-◌, List, [], ◌++◌, length, take, drop, Option, Some, None, MatchOption, Bool, true, false}
+use Rattle.std.specs.Prelude.{◌≡◌, ◌≢◌, ◌⊎◌, IfSome, ◌≤◌, ◌<◌, ℕ, ◌+◌, ◌-◌, List, [], ◌++◌, length, take, drop, Option, Some, None, MatchOption, Bool, true, false}
 use Rattle.std.specs.Io.KnownBytes.{Consumes, IsAtEnd}
 use Rattle.std.specs.List.{flat_map, AllByRecursion}
+use Rattle.terms.specs.Number.{u32_at}
 use Rattle.terms.specs.Reading.{Got, More, Bad}
 use Rattle.client_wire.specs.Stream.{Part, bytes_of, IsPart, Goes}
 use Rattle.terms.specs.declared.wire_fault.WireFault.TheVariants as wire
@@ -18,7 +19,7 @@ use Rattle.fbs_export.specs.declared.fault.FbsFault.TheVariants as faults
 use Rattle.fbs_export.specs.declared.opening.Name.{Name}
 use Rattle.fbs_export.specs.declared.opening.OpeningReader.{OpeningReader}
 use Rattle.fbs_export.specs.declared.stream.Stream.{Stream}
-use Rattle.fbs_export.specs.Blocks.{Block, Laid, data_of, times_of, is_start}
+use Rattle.fbs_export.specs.Blocks.{Block, Laid, data_of, times_of, is_start, padding_length}
 use Rattle.fbs_export.specs.Opening.{opening_at, named, name_limit}
 use Rattle.fbs_export.specs.Summary.{MessageFault, stamped}
 
@@ -117,6 +118,19 @@ pub record Came {T : Type 0} (keeps : T → List Stamped → List Host → Type 
   pub consumed : Consumes old new content
   pub count : length content ≡ n
   pub heard : (times s : List ℕ) → Stands keeps c times s → Stands keeps d times (s ++ content)
+
+-- the reader failed; or the file ends here, and has no fewer bytes more than `least`, and fewer than
+-- `most`
+abbrev pub IsStop : ℕ → ℕ → Option (List ℕ) → FbsFault → Type 0
+IsStop least most rest f =
+    (f ≡ faults.Read) ⊎ ((f ≡ faults.Truncated) × IfSome rest (λ bytes. (least ≤ length bytes) × (length bytes < most)))
+
+-- what stands behind so many bytes of data came: padding, and this time
+pub record IsTimed (old new : Option (List ℕ)) (n time : ℕ) : Type 0 where
+  pub bytes : List ℕ
+  pub consumed : Consumes old new bytes
+  pub count : length bytes ≡ padding_length n + 4
+  pub is : time ≡ u32_at (drop (padding_length n) bytes) 0
 
 -- a block more came; or the file has ended
 pub record Went {T : Type 0} (keeps : T → List Stamped → List Host → Type 0) (old new : Option (List ℕ)) (d : Stream T) (seen : List ℕ) (more : Bool) : Type 0 where

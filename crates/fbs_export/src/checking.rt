@@ -1,12 +1,12 @@
 //! Reading a file, block by block.
 
-ghost use Rattle.std.specs.Prelude.{◌≡◌, ◌≤◌, ◌<◌, [], ◌++◌, ℕ, List, false, length, take, IfSome, IfOk, IfErr, OnOk};
+ghost use Rattle.std.specs.Prelude.{◌≡◌, ◌≤◌, ◌<◌, [], ◌++◌, ℕ, List, false, length, take, IfSome, IsNone, IfOk, IfErr, OnOk, ◌+◌};
 ghost use Rattle.std.specs.Io.KnownBytes.{Consumes, IsAtEnd};
 ghost use Rattle.terms.specs.Number.{u32_bytes};
-ghost use Rattle.fbs_export.specs.Blocks.{is_start, is_digit as digit};
+ghost use Rattle.fbs_export.specs.Blocks.{is_start, is_digit as digit, padding_length};
 ghost use Rattle.fbs_export.specs.Counted.{IsCounted};
 ghost use Rattle.fbs_export.specs.declared.fault.FbsFault.TheVariants.{Read as FbsRead};
-ghost use Rattle.fbs_export.specs.Reader.{Came, IsBetween, Started, Went};
+ghost use Rattle.fbs_export.specs.Reader.{Came, IsBetween, IsStop, IsTimed, Started, Went};
 ghost use Rattle.fbs_export.specs.Summary.{IsSummary, IsFault};
 ghost use Rattle.fbs_export.specs.Told.{Says};
 
@@ -135,6 +135,38 @@ fn number_of(bytes: &[u8]) -> u32
     u32::from_be_bytes([bytes[0], bytes[1], bytes[2], bytes[3]])
 }
 
+// Takes the length that begins a block: none where the file has ended.
+fn read_length<R: Read>(file: &mut R) -> Result<Option<u32>, FbsFault>
+    ensures some { IfOk result (λ length. IfSome length (λ n. Consumes (R.remaining file.old) (R.remaining file.new) (u32_bytes n))) }
+    ensures none { IfOk result (λ length. IsNone length → Consumes (R.remaining file.old) (R.remaining file.new) [] × IsAtEnd (R.remaining file.new)) }
+    ensures fault { IfErr result (IsStop 1 4 (R.remaining file.old)) }
+{
+    let mut head = [0; 4];
+    let came = fill(file, &mut head)?;
+    if came == 0 {
+        return Ok(None);
+    }
+    if came < 4 {
+        return Err(FbsFault::Truncated);
+    }
+    Ok(Some(number_of(&head)))
+}
+
+// Takes the padding behind so many bytes of data, and the block's time.
+fn read_time<R: Read>(file: &mut R, length: u32) -> Result<u32, FbsFault>
+    ensures timed { IfOk result (IsTimed (R.remaining file.old) (R.remaining file.new) length) }
+    ensures fault { IfErr result (IsStop 0 (padding_length length + 4) (R.remaining file.old)) }
+{
+    let padding = padding_of(length as usize);
+    let mut last = [0; 7];
+    let came = fill(file, &mut last[..padding + 4])?;
+    if came < padding + 4 {
+        return Err(FbsFault::Truncated);
+    }
+    let (_, time) = last[..padding + 4].split_at(padding);
+    Ok(number_of(time))
+}
+
 // Takes a block; answers whether there was one.
 fn read_block<R: Read, T: Tally>(
     file: &mut R,
@@ -146,24 +178,11 @@ fn read_block<R: Read, T: Tally>(
     ensures fault { IfErr result (λ f. (seen : List ℕ) → IsBetween T.stands_for stream.old seen
         → IfSome (R.remaining file.old) (λ rest. IsFault (seen ++ rest) f)) }
 {
-    let mut head = [0; 4];
-    let came = fill(file, &mut head)?;
-    if came == 0 {
+    let Some(length) = read_length(file)? else {
         return Ok(false);
-    }
-    if came < 4 {
-        return Err(FbsFault::Truncated);
-    }
-    let length = number_of(&head);
+    };
     read_content(file, length, buffer, stream)?;
-    let padding = padding_of(length as usize);
-    let mut last = [0; 7];
-    let came = fill(file, &mut last[..padding + 4])?;
-    if came < padding + 4 {
-        return Err(FbsFault::Truncated);
-    }
-    let (_, time) = last[..padding + 4].split_at(padding);
-    let time = u32::from_be_bytes([time[0], time[1], time[2], time[3]]);
+    let time = read_time(file, length)?;
     stream.end_block(time)?;
     Ok(true)
 }
