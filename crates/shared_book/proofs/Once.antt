@@ -48,7 +48,7 @@ off : false ≡ true → ⊥
 off e = true≢false (sym e)
 
 pub begins : (words : List ℕ) → AreOnce words (giver 0 ∷ [])
-begins words = (0, 0, one, (λ x. omega arith), (λ x le. refl))
+begins words = record { seat = 0; next = 0; giver_is = one; once = λ x. omega arith; not_yet = λ x le. refl }
   where
     one : (by : ℕ) (v : Hand) → get_elem? (giver 0 ∷ []) by ≡ some v → Fits 0 0 by v
     one zero v e = let same : giver 0 ≡ v = some-injective _ _ e in λ gives. (refl, sym (ap (λ h. h.next) same))
@@ -56,23 +56,23 @@ begins words = (0, 0, one, (λ x. omega arith), (λ x le. refl))
 
 pub gives : (by n : ℕ) → Forks AreOnce by (giver n) (giver (n + 1)) (holder (n ∷ []))
 gives by n words views h at =
-    let seat = h.0 in
-    let mine : (by ≡ seat) × (n ≡ h.1) = (h.2 by (giver n) at) refl in
+    let mine : (by ≡ h.seat) × (n ≡ h.next) = (h.giver_is by (giver n) at) refl in
     let left = giver (n + 1) in
     let right = holder (n ∷ []) in
     let after = set views by left in
     let sum : (x : ℕ) → held_times x (after ++ right ∷ []) ≡ held_times x views + times x (n ∷ []) = λ x. (let a = held_set x views by (giver n) left at in let b = held_snoc x after right in omega arith) in
-    let none : held_times n views ≡ 0 = h.4 n (omega (arith, mine.1)) in (
-      seat,
-      n + 1,
-      fits_snoc seat (n + 1) after right
-          (fits_set seat n (n + 1) views by left
-          (λ j u apart e. λ g. absurd (apart (((h.2 j u e) g).0 ∙ sym mine.0)))
+    let none : held_times n views ≡ 0 = h.not_yet n (omega (arith, mine.1)) in
+    record {
+      seat = h.seat;
+      next = n + 1;
+      giver_is = fits_snoc h.seat (n + 1) after right
+          (fits_set h.seat n (n + 1) views by left
+          (λ j u apart e. λ g. absurd (apart (((h.giver_is j u e) g).0 ∙ sym mine.0)))
           (λ g. (mine.0, refl)))
-          refl,
-      (λ x. at_most x n (held_times x views) (held_times x (after ++ right ∷ [])) (sum x) (h.3 x) (λ e. ap (λ k. held_times k views) e ∙ none)),
-      (λ x le. above x n (held_times x views) (held_times x (after ++ right ∷ [])) (sum x) le (h.4 x (omega (arith, mine.1, le)))),
-    )
+          refl;
+      once = λ x. at_most x n (held_times x views) (held_times x (after ++ right ∷ [])) (sum x) (h.once x) (λ e. ap (λ k. held_times k views) e ∙ none);
+      not_yet = λ x le. above x n (held_times x views) (held_times x (after ++ right ∷ [])) (sum x) le (h.not_yet x (omega (arith, mine.1, le)));
+    }
   where
     at_most : (x n before after : ℕ) → after ≡ before + times x (n ∷ []) → before ≤ 1 → (x ≡ n → before ≡ 0) → after ≤ 1
     at_most x n before after is le at = grind (arith, nat_tests)
@@ -86,13 +86,14 @@ parts by ns xs ys cut words views h at =
     let left = holder xs in
     let right = holder ys in
     let after = set views by left in
-    let sum : (x : ℕ) → held_times x (after ++ right ∷ []) ≡ held_times x views = λ x. (let a = held_set x views by (holder ns) left at in let b = held_snoc x after right in let c = cut x in omega arith) in (
-      h.0,
-      h.1,
-      fits_snoc h.0 h.1 after right (fits_set h.0 h.1 h.1 views by left (λ j u apart e. h.2 j u e) (λ g. absurd (off g))) refl,
-      (λ x. omega (arith, sum x, h.3 x)),
-      (λ x le. sum x ∙ h.4 x le),
-    )
+    let sum : (x : ℕ) → held_times x (after ++ right ∷ []) ≡ held_times x views = λ x. (let a = held_set x views by (holder ns) left at in let b = held_snoc x after right in let c = cut x in omega arith) in
+    record {
+      seat = h.seat;
+      next = h.next;
+      giver_is = fits_snoc h.seat h.next after right (fits_set h.seat h.next h.next views by left (λ j u apart e. h.giver_is j u e) (λ g. absurd (off g))) refl;
+      once = λ x. omega (arith, sum x, h.once x);
+      not_yet = λ x le. sum x ∙ h.not_yet x le;
+    }
 
 -- a holder takes in what another holds
 pub takes_in : (by : ℕ) (ns : List ℕ) (other : ℕ) (ms : List ℕ) → Merges AreOnce by (holder ns) other (holder ms) (holder (ns ++ ms)) (holder [])
@@ -100,21 +101,22 @@ takes_in by ns other ms words views h at apart there =
     let both = holder (ns ++ ms) in
     let mid = set views by both in
     let after = set mid other (holder []) in
-    let sum : (x : ℕ) → held_times x after ≡ held_times x views = λ x. (let a = held_set x views by (holder ns) both at in let b = held_set x mid other (holder ms) (holder []) there in let c = times-append x ns ms in omega arith) in (
-      h.0,
-      h.1,
-      fits_set h.0 h.1 h.1 mid other (holder [])
-          (λ j u _ e. fits_set h.0 h.1 h.1 views by both (λ i y _ e'. h.2 i y e') (λ g. absurd (off g)) j u e)
-          (λ g. absurd (off g)),
-      (λ x. omega (arith, sum x, h.3 x)),
-      (λ x le. sum x ∙ h.4 x le),
-    )
+    let sum : (x : ℕ) → held_times x after ≡ held_times x views = λ x. (let a = held_set x views by (holder ns) both at in let b = held_set x mid other (holder ms) (holder []) there in let c = times-append x ns ms in omega arith) in
+    record {
+      seat = h.seat;
+      next = h.next;
+      giver_is = fits_set h.seat h.next h.next mid other (holder [])
+          (λ j u _ e. fits_set h.seat h.next h.next views by both (λ i y _ e'. h.giver_is i y e') (λ g. absurd (off g)) j u e)
+          (λ g. absurd (off g));
+      once = λ x. omega (arith, sum x, h.once x);
+      not_yet = λ x le. sum x ∙ h.not_yet x le;
+    }
 
 -- a pass that looks
 pub looks : (by : ℕ) (v : Hand) → Turns AreOnce by v (λ x. x) Learns
 looks by v words views h at =
     let same = set_again views by v at in
-    (v, subst (AreOnce words) (sym same) h, (refl, λ x. (let a = at_most x views by v at in omega (arith, a, h.3 x))))
+    (v, subst (AreOnce words) (sym same) h, (refl, λ x. (let a = at_most x views by v at in omega (arith, a, h.once x))))
   where
     at_most : (x : ℕ) (views : List Hand) (by : ℕ) (v : Hand) → get_elem? views by ≡ some v → times x v.numbers ≤ held_times x views
     at_most x [] by v at = absurd (some-ne-none v (sym at))

@@ -56,12 +56,12 @@ abbrev pub both_of : Hand → Hand → Hand
 both_of v w = record { gives = v.gives; next = v.next; numbers = v.numbers ++ w.numbers }
 
 -- One hand gives numbers. No number is held twice, and none from the next one on.
-abbrev pub AreOnce : List ℕ → List Hand → Type 0
-AreOnce words views =
-    (seat : ℕ) × (next : ℕ)
-    × ((by : ℕ) (v : Hand) → get_elem? views by ≡ some v → v.gives ≡ true → (by ≡ seat) × (v.next ≡ next))
-    × ((x : ℕ) → held_times x views ≤ 1)
-    × ((x : ℕ) → next ≤ x → held_times x views ≡ 0)
+pub record AreOnce (words : List ℕ) (views : List Hand) : Type 0 where
+  pub seat : ℕ
+  pub next : ℕ
+  pub giver_is : (by : ℕ) (v : Hand) → get_elem? views by ≡ some v → v.gives ≡ true → (by ≡ seat) × (v.next ≡ next)
+  pub once : (x : ℕ) → held_times x views ≤ 1
+  pub not_yet : (x : ℕ) → next ≤ x → held_times x views ≡ 0
 
 -- a hand stays as it is, and holds no number twice
 abbrev pub Learns : Hand → List ℕ → List ℕ → Hand → Type 0
