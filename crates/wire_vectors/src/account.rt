@@ -1,10 +1,42 @@
 //! An account of what comes of a vector.
 
-use std::alloc::Global;
+use std::alloc::{AllocError, AllocFailed, Global};
 use std::fmt::{Display, Write};
 use std::io;
+use terms::NoMemory;
 
-/// What happened, one thing behind the other.
+/// Why nothing is told of a vector.
+#[derive(Clone, Copy)]
+pub(crate) enum Untold {
+    /// Its words are no vector.
+    NoVector,
+    /// There is no memory for what comes of it.
+    NoMemory,
+}
+
+impl From<AllocError> for Untold {
+    fn from(_fault: AllocError) -> Untold {
+        Untold::NoMemory
+    }
+}
+
+impl<T: Drop> From<AllocFailed<T>> for Untold {
+    fn from(_fault: AllocFailed<T>) -> Untold {
+        Untold::NoMemory
+    }
+}
+
+impl From<Untold> for io::Error {
+    fn from(why: Untold) -> io::Error {
+        match why {
+            Untold::NoVector => io::ErrorKind::InvalidData.into(),
+            Untold::NoMemory => io::ErrorKind::OutOfMemory.into(),
+        }
+    }
+}
+
+/// What happened, one thing behind the other. Words are compared, so spaces count for nothing but
+/// to part them.
 #[derive(Drop)]
 pub(crate) struct Account {
     pub(crate) alloc: Global,
@@ -21,15 +53,25 @@ impl Account {
     }
 
     /// Tells what happened, behind a semicolon where it isn't the first.
-    pub(crate) fn tell<T: Display + Drop>(&mut self, told: T) -> io::Result<()> {
+    pub(crate) fn tell(&mut self, told: &str) -> Result<(), NoMemory> {
         let comma = if self.text.is_empty() { "" } else { "; " };
-        write!(self.text, "{comma}{told}")?;
-        Ok(())
+        self.text.push_str(comma)?;
+        self.text.push_str(told)
+    }
+
+    /// Tells what happened once so many bytes had come, or so many times.
+    pub(crate) fn tell_at(&mut self, count: usize, told: &str) -> Result<(), NoMemory> {
+        self.tell("")?;
+        write!(self.text, "{count} {told}")
     }
 
     /// Goes on with what was told last.
-    pub(crate) fn add<T: Display + Drop>(&mut self, more: T) -> io::Result<()> {
-        write!(self.text, "{more}")?;
-        Ok(())
+    pub(crate) fn add(&mut self, more: &str) -> Result<(), NoMemory> {
+        self.text.push_str(more)
+    }
+
+    /// Adds a number, or bytes as they are spelled, behind a space.
+    pub(crate) fn add_number<N: Display + Drop>(&mut self, number: N) -> Result<(), NoMemory> {
+        write!(self.text, " {number}")
     }
 }

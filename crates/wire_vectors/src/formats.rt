@@ -2,13 +2,13 @@
 
 ghost use Rattle.std.specs.Prelude.{◌≡◌, ◌<◌, length};
 
-use crate::account::Account;
-use crate::words::{Spelled, bad};
+use crate::account::{Account, Untold};
+use crate::words::Spelled;
 use pixel_format::{Color, PixelFormat};
-use std::io;
+use terms::NoMemory;
 
 /// Formats by the number of their bits.
-pub(crate) fn of_bits(bits: u16) -> io::Result<PixelFormat> {
+pub(crate) fn of_bits(bits: u16) -> Result<PixelFormat, Untold> {
     let bytes = match bits {
         32 => return Ok(PixelFormat::host()),
         // The highest byte first: 5 bits of red, 6 of green, 5 of blue.
@@ -16,14 +16,14 @@ pub(crate) fn of_bits(bits: u16) -> io::Result<PixelFormat> {
         // 3 bits of green, 3 of red, 2 of blue.
         _ => [8, 8, 0, 1, 0, 7, 0, 7, 0, 3, 0, 3, 6, 0, 0, 0],
     };
-    PixelFormat::read(&bytes).map_err(|_| bad())
+    PixelFormat::read(&bytes).map_err(|_| Untold::NoVector)
 }
 
 // Tells a pixel's colour, and the pixel that is put from it; then the screen colour (255, 128, 0) as
 // the format has it.
-fn tell_format(account: &mut Account, format: &PixelFormat, pixel: &[u8]) -> io::Result<()> {
+fn tell_format(account: &mut Account, format: &PixelFormat, pixel: &[u8]) -> Result<(), NoMemory> {
     let size = format.bytes();
-    account.tell(format_args!("{size} bytes"))?;
+    account.tell_at(size, "bytes")?;
     if pixel.len() != size {
         return Ok(());
     }
@@ -36,17 +36,25 @@ fn tell_format(account: &mut Account, format: &PixelFormat, pixel: &[u8]) -> io:
     let mut put = [0; 4];
     let put = &mut put[..size];
     format.put(orange, put);
-    account.tell(format_args!("{r} {g} {b}"))?;
-    account.tell(format_args!("orange {}", Spelled(put)))
+    account.tell("")?;
+    for channel in [r, g, b] {
+        account.add_number(channel)?;
+    }
+    account.tell("orange")?;
+    account.add_number(Spelled(put))
 }
 
 /// Tells what a format of 16 bytes makes of the pixel behind it, or the number of its fault.
-pub(crate) fn run(account: &mut Account, bytes: &[u8]) -> io::Result<()> {
+pub(crate) fn run(account: &mut Account, bytes: &[u8]) -> Result<(), Untold> {
     let Some((first, pixel)) = bytes.split_first_chunk::<16>() else {
-        return Err(bad());
+        return Err(Untold::NoVector);
     };
     match PixelFormat::read(first) {
-        Ok(format) => tell_format(account, &format, pixel),
-        Err(fault) => account.tell(format_args!("refused {}", fault.number())),
+        Ok(format) => tell_format(account, &format, pixel)?,
+        Err(fault) => {
+            account.tell("refused")?;
+            account.add_number(fault.number())?;
+        }
     }
+    Ok(())
 }

@@ -2,7 +2,8 @@
 
 use crate::account::Account;
 use pixel_format::Color;
-use std::io;
+use std::fmt::Write;
+use terms::NoMemory;
 
 /// What has a colour at each place.
 pub(crate) trait Places {
@@ -11,7 +12,7 @@ pub(crate) trait Places {
 }
 
 // Adds the letter of a colour, or its numbers.
-fn write_letter(account: &mut Account, color: Option<Color>) -> io::Result<()> {
+fn write_letter(account: &mut Account, color: Option<Color>) -> Result<(), NoMemory> {
     let Some(Color { r, g, b }) = color else {
         return account.add("?");
     };
@@ -21,7 +22,7 @@ fn write_letter(account: &mut Account, color: Option<Color>) -> io::Result<()> {
         (0, 255, 0) => "g",
         (0, 0, 255) => "b",
         (255, 255, 255) => "w",
-        _ => return account.add(format_args!("({r},{g},{b})")),
+        _ => return write!(account.text, "({r},{g},{b})"),
     };
     account.add(letter)
 }
@@ -36,7 +37,7 @@ pub(crate) fn write_rows<P: Places>(
     account: &mut Account,
     places: &P,
     size: (u16, u16),
-) -> io::Result<()> {
+) -> Result<(), NoMemory> {
     let (width, height) = size;
     for y in 0..height {
         account.add(" ")?;

@@ -3,14 +3,26 @@
 ghost use Rattle.std.specs.Prelude.{◌<◌};
 
 use crate::account::Account;
-use std::alloc::{AllocError, Global};
-use std::io;
-use terms::WireFault;
+use std::alloc::Global;
+use terms::{NoMemory, WireFault};
 
-/// What is fed, and gives messages. `take` promises nothing, so that nothing is proved beside all
+/// What reads the stream of either side. It promises nothing, so that nothing is proved beside all
 /// that a reader does.
 pub(crate) trait Reader<M> {
+    /// Begins a new stream.
+    fn begin(&mut self, alloc: Global);
+
+    /// Reads the next piece of the stream.
     fn take(&mut self, piece: &[u8], messages: &mut Vec<M>) -> Result<(), WireFault>;
+
+    /// Reads the first message by the plain function: how many bytes it has, 0 where there are too
+    /// few.
+    fn take_first(
+        &self,
+        alloc: Global,
+        bytes: &[u8],
+        messages: &mut Vec<M>,
+    ) -> Result<usize, WireFault>;
 }
 
 /// A message of either side.
@@ -18,7 +30,7 @@ pub(crate) trait Message {
     fn is_same(&self, other: &Self) -> bool;
 
     /// Adds what it says. `read` are the bytes up to its last one.
-    fn describe(&self, account: &mut Account, read: &[u8]) -> io::Result<()>;
+    fn describe(&self, account: &mut Account, read: &[u8]) -> Result<(), NoMemory>;
 }
 
 /// What a reader gave, and how many bytes had come by then.
@@ -33,8 +45,8 @@ pub(crate) struct Given<M> {
 }
 
 impl<M: Message + Drop> Given<M> {
-    /// What is given before any byte.
-    pub(crate) fn new(alloc: Global) -> Given<M> {
+    // What is given before any byte.
+    fn new(alloc: Global) -> Given<M> {
         Given {
             messages: Vec::new(alloc),
             ends: Vec::new(alloc),
@@ -44,15 +56,8 @@ impl<M: Message + Drop> Given<M> {
         }
     }
 
-    /// Notes that a message is whole once so many bytes have come.
-    pub(crate) fn push(&mut self, message: M, end: usize) -> Result<(), AllocError> {
-        self.messages.push(message)?;
-        self.ends.push(end)?;
-        Ok(())
-    }
-
-    /// Notes the fault that is answered once so many bytes have come, if it is one.
-    pub(crate) fn stop(&mut self, fault: Option<WireFault>, end: usize) {
+    // Notes the fault that is answered once so many bytes have come, if it is one.
+    fn stop(&mut self, fault: Option<WireFault>, end: usize) {
         if self.fault.is_some() {
             self.went_on |= fault != self.fault;
         } else if fault.is_some() {
@@ -67,7 +72,7 @@ impl<M: Message + Drop> Given<M> {
         reader: &mut R,
         piece: &[u8],
         end: usize,
-    ) -> Result<(), AllocError> {
+    ) -> Result<(), NoMemory> {
         let fault = reader.take(piece, &mut self.messages).err();
         for _ in self.ends.len()..self.messages.len() {
             self.went_on |= self.fault.is_some();
@@ -77,8 +82,39 @@ impl<M: Message + Drop> Given<M> {
         Ok(())
     }
 
-    /// Whether the same messages and the same fault were given, wherever the pieces ended.
-    pub(crate) fn is_same(&self, other: &Given<M>) -> bool {
+    // Reads bytes, up to a cut in pieces of this length, and what is behind it as one piece.
+    fn read<R: Reader<M>>(
+        &mut self,
+        reader: &mut R,
+        bytes: &[u8],
+        cut: usize,
+        length: usize,
+    ) -> Result<(), NoMemory>
+        requires { 0 < length }
+    {
+        let (front, behind) = bytes.split_at_checked(cut).unwrap_or((bytes, &[]));
+        let mut end = 0usize;
+        for piece in front.chunks(length) {
+            end = end.saturating_add(piece.len());
+            self.take(reader, piece, end)?;
+        }
+        self.take(reader, behind, bytes.len())
+    }
+
+    // Reads bytes by the plain function, message by message.
+    fn read_plainly<R: Reader<M>>(&mut self, alloc: Global, reader: &R, bytes: &[u8]) {
+        let mut rest = bytes;
+        for _ in 0..bytes.len() {
+            match reader.take_first(alloc, rest, &mut self.messages) {
+                Ok(0) => return,
+                Ok(read) => rest = rest.get(read..).unwrap_or_default(),
+                Err(fault) => return self.stop(Some(fault), 0),
+            }
+        }
+    }
+
+    // Whether the same messages and the same fault were given, wherever the pieces ended.
+    fn is_same(&self, other: &Given<M>) -> bool {
         if self.messages.len() != other.messages.len() {
             return false;
         }
@@ -90,16 +126,16 @@ impl<M: Message + Drop> Given<M> {
         self.fault == other.fault && !self.went_on && !other.went_on
     }
 
-    /// Tells what was given of the bytes, and at which of them.
-    pub(crate) fn tell(&self, account: &mut Account, bytes: &[u8]) -> io::Result<()> {
+    // Tells what was given of the bytes, and at which of them.
+    fn tell(&self, account: &mut Account, bytes: &[u8]) -> Result<(), NoMemory> {
         for (message, end) in self.messages.iter().zip(&self.ends) {
-            account.tell(format_args!("{end} "))?;
+            account.tell_at(*end, "")?;
             message.describe(account, bytes.get(..*end).unwrap_or(bytes))?;
         }
         if let Some(fault) = &self.fault {
-            let (end, number) = (self.fault_end, fault.number());
-            account.tell(format_args!("{end} fault {number}"))?;
-            tell_cause(account, fault)?;
+            account.tell_at(self.fault_end, "fault")?;
+            account.add_number(fault.number())?;
+            add_cause(account, fault)?;
         }
         if self.went_on {
             account.tell("and it goes on")?;
@@ -109,60 +145,105 @@ impl<M: Message + Drop> Given<M> {
 }
 
 // Adds which encoding, or what of a format, is refused.
-fn tell_cause(account: &mut Account, fault: &WireFault) -> io::Result<()> {
+fn add_cause(account: &mut Account, fault: &WireFault) -> Result<(), NoMemory> {
     match fault {
-        WireFault::Encoding(encoding) => account.add(format_args!(" {encoding}")),
-        WireFault::BadFormat(format) => account.add(format_args!(" {}", format.number())),
+        WireFault::Encoding(encoding) => account.add_number(*encoding),
+        WireFault::BadFormat(format) => account.add_number(format.number()),
         _ => Ok(()),
     }
 }
 
-/// What a reader makes of bytes that come in pieces of this length, the last of them alone.
-pub(crate) fn read<M: Message + Drop, R: Reader<M>>(
+// Whether bytes that are read in pieces of this length up to a cut give the same.
+fn is_cut_alike<M: Message + Drop, R: Reader<M>>(
     alloc: Global,
     reader: &mut R,
     bytes: &[u8],
+    given: &Given<M>,
+    cut: usize,
     length: usize,
-) -> io::Result<Given<M>>
+) -> Result<bool, NoMemory>
     requires { 0 < length }
 {
-    let mut given = Given::new(alloc);
-    let mut end = 0usize;
-    let Some((last, front)) = bytes.split_last() else {
-        return Ok(given);
-    };
-    for piece in front.chunks(length) {
-        end = end.saturating_add(piece.len());
-        given.take(reader, piece, end)?;
-    }
-    given.take(reader, &[*last], bytes.len())?;
-    Ok(given)
+    let mut again = Given::new(alloc);
+    reader.begin(alloc);
+    again.read(reader, bytes, cut, length)?;
+    Ok(given.is_same(&again))
 }
 
-/// What a reader makes of bytes that come in two pieces, of which the first has so many.
-pub(crate) fn read_cut<M: Message + Drop, R: Reader<M>>(
+// Whether bytes that are read by the plain function give the same.
+fn is_plainly_alike<M: Message + Drop, R: Reader<M>>(
+    alloc: Global,
+    reader: &R,
+    bytes: &[u8],
+    given: &Given<M>,
+) -> bool {
+    let mut again = Given::new(alloc);
+    again.read_plainly(alloc, reader, bytes);
+    given.is_same(&again)
+}
+
+// Tells what is given, and what is otherwise if the bytes come in longer pieces, or are read by the
+// plain function. The last byte comes alone.
+fn tell_all<M: Message + Drop, R: Reader<M>>(
+    account: &mut Account,
+    reader: &mut R,
+    bytes: &[u8],
+    given: &Given<M>,
+) -> Result<(), NoMemory> {
+    given.tell(account, bytes)?;
+    let front = bytes.len().saturating_sub(1);
+    for length in 1..=longest(bytes) {
+        if !is_cut_alike(account.alloc, reader, bytes, given, front, length)? {
+            account.tell("otherwise in pieces of")?;
+            return account.add_number(length);
+        }
+    }
+    if !is_plainly_alike(account.alloc, reader, bytes, given) {
+        return account.tell("otherwise by the plain function");
+    }
+    Ok(())
+}
+
+/// Tells what comes of a stream: each message and the fault, behind the number of bytes that had
+/// come by then.
+pub(crate) fn run<M: Message + Drop, R: Reader<M>>(
+    account: &mut Account,
+    reader: &mut R,
+    bytes: &[u8],
+) -> Result<(), NoMemory> {
+    let mut given = Given::new(account.alloc);
+    let front = bytes.len().saturating_sub(1);
+    given.read(reader, bytes, front, finest(bytes))?;
+    tell_all(account, reader, bytes, &given)
+}
+
+/// Whether a stream gives the same however it is cut in two.
+pub(crate) fn is_alike<M: Message + Drop, R: Reader<M>>(
     alloc: Global,
     reader: &mut R,
     bytes: &[u8],
-    cut: usize,
-) -> io::Result<Given<M>> {
+) -> Result<bool, NoMemory> {
     let mut given = Given::new(alloc);
-    let (front, behind) = bytes.split_at_checked(cut).unwrap_or((bytes, &[]));
-    given.take(reader, front, cut)?;
-    given.take(reader, behind, bytes.len())?;
-    Ok(given)
+    reader.begin(alloc);
+    given.read(reader, bytes, bytes.len(), 1)?;
+    for cut in 0..bytes.len() {
+        if !is_cut_alike(alloc, reader, bytes, &given, cut, cut.max(1))? {
+            return Ok(false);
+        }
+    }
+    Ok(true)
 }
 
-/// The length of the pieces by whose ends it is told when a message came: one byte, but for bytes
-/// that are very many.
-pub(crate) fn finest(bytes: &[u8]) -> usize
+// The length of the pieces by whose ends it is told when a message came: one byte, but for bytes
+// that are very many.
+fn finest(bytes: &[u8]) -> usize
     ensures { 0 < result }
 {
     if bytes.len() > 100_000 { 65_536 } else { 1 }
 }
 
-/// The longest of the pieces that bytes are cut into once more; 0 for bytes that are very many.
-pub(crate) fn longest(bytes: &[u8]) -> usize {
+// The longest of the pieces that bytes are cut into once more; 0 for bytes that are very many.
+fn longest(bytes: &[u8]) -> usize {
     if bytes.len() > 100_000 {
         0
     } else {

@@ -1,13 +1,11 @@
 //! Data of rectangles.
 
-use crate::account::Account;
+use crate::account::{Account, Untold};
 use crate::formats;
 use crate::picture::{Places, write_rows};
-use crate::words::bad;
 use pixel_format::{Color, PixelFormat};
 use rect_data::{Encoding, Judging, measure};
-use std::io;
-use terms::{Area, ScreenSize, WireFault};
+use terms::{Area, NoMemory, ScreenSize, WireFault};
 use wire_tests::{HEIGHT, Kind, Short, TestCanvas, WIDTH, hextile_in_pieces};
 
 impl Places for TestCanvas {
@@ -28,31 +26,46 @@ pub(crate) fn run_painted(
     bits: u16,
     size: (u16, u16),
     bytes: &[u8],
-) -> io::Result<()> {
+) -> Result<(), Untold> {
     let format = formats::of_bits(bits)?;
+    match kind {
+        "rre" => tell_painted(account, Kind::Rre, &format, size, bytes),
+        "hextile" => tell_painted(account, Kind::Hextile, &format, size, bytes),
+        _ => Err(Untold::NoVector),
+    }
+}
+
+fn tell_painted(
+    account: &mut Account,
+    kind: Kind,
+    format: &PixelFormat,
+    size: (u16, u16),
+    bytes: &[u8],
+) -> Result<(), Untold> {
     let (w, h) = size;
-    let kind = match kind {
-        "rre" => Kind::Rre,
-        "hextile" => Kind::Hextile,
-        _ => return Err(bad()),
-    };
     for count in 0..=bytes.len() {
         let data = bytes.get(..count).unwrap_or(bytes);
-        let answer = kind.measure(&format, w, h, data);
-        let pieces = hextile_in_pieces(&format, w, h, data).map_err(Short::from);
+        let answer = kind.measure(format, w, h, data);
+        let pieces = hextile_in_pieces(format, w, h, data).map_err(Short::from);
         if kind == Kind::Hextile && pieces != answer {
-            return account.tell(format_args!("{count} otherwise in pieces"));
+            return Ok(account.tell_at(count, "otherwise in pieces")?);
         }
         match answer {
             Err(Short::NeedMore) => {}
-            Err(Short::Bad) => return account.tell(format_args!("{count} bad")),
+            Err(Short::Bad) => return Ok(account.tell_at(count, "bad")?),
             Ok(length) => {
-                account.tell(format_args!("{count} whole {length}"))?;
-                return write_picture(account, kind, &format, size, data);
+                tell_whole(account, count, length)?;
+                return write_picture(account, kind, format, size, data);
             }
         }
     }
-    account.tell("needs more")
+    Ok(account.tell("needs more")?)
+}
+
+// Tells at which byte data are whole, and how many they are.
+fn tell_whole(account: &mut Account, count: usize, length: usize) -> Result<(), NoMemory> {
+    account.tell_at(count, "whole")?;
+    account.add_number(length)
 }
 
 // Adds the rows that whole data paint, where they have an area and fit on the canvas.
@@ -62,14 +75,14 @@ fn write_picture(
     format: &PixelFormat,
     size: (u16, u16),
     data: &[u8],
-) -> io::Result<()> {
+) -> Result<(), Untold> {
     let (w, h) = size;
     if w == 0 || h == 0 || w >= WIDTH || h >= HEIGHT {
         return Ok(());
     }
     match kind.painted(format, w, h, data) {
-        Ok(canvas) => write_rows(account, &canvas, (w + 1, h + 1)),
-        Err(_) => Err(bad()),
+        Ok(canvas) => Ok(write_rows(account, &canvas, (w + 1, h + 1))?),
+        Err(_) => Err(Untold::NoVector),
     }
 }
 
@@ -104,7 +117,7 @@ pub(crate) fn run_measured(
     size: ScreenSize,
     area: Area,
     bytes: &[u8],
-) -> io::Result<()> {
+) -> Result<(), NoMemory> {
     let Some(encoding) = Encoding::from_number(u32::from(number)) else {
         return account.tell("no encoding");
     };
@@ -113,12 +126,15 @@ pub(crate) fn run_measured(
         let data = bytes.get(..count).unwrap_or(bytes);
         let answer = measure(&host, size, encoding, area, data);
         if in_pieces(size, encoding, area, data) != answer {
-            return account.tell(format_args!("{count} otherwise in pieces"));
+            return account.tell_at(count, "otherwise in pieces");
         }
         match answer {
             Ok(None) => {}
-            Ok(Some(length)) => return account.tell(format_args!("{count} whole {length}")),
-            Err(fault) => return account.tell(format_args!("{count} fault {}", fault.number())),
+            Ok(Some(length)) => return tell_whole(account, count, length),
+            Err(fault) => {
+                account.tell_at(count, "fault")?;
+                return account.add_number(fault.number());
+            }
         }
     }
     account.tell("needs more")

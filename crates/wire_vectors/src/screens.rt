@@ -1,13 +1,12 @@
 //! Screens that updates paint.
 
-use crate::account::Account;
+use crate::account::{Account, Untold};
 use crate::picture::{Places, write_rows};
-use crate::words::{Spelled, bad, bytes};
+use crate::words::{Spelled, bytes};
 use painter::Screen;
 use pixel_format::{Color, Format};
 use rfb_wire::HostMessage;
 use std::alloc::Global;
-use std::io;
 use terms::ScreenSize;
 
 impl Places for Screen {
@@ -21,52 +20,60 @@ impl Places for Screen {
     }
 }
 
-// Paints an update on a screen.
-fn paint(alloc: Global, screen: &mut Screen, bytes: &[u8]) -> io::Result<()> {
+// Paints an update on a screen, if there is one.
+fn paint(alloc: Global, screen: &mut Screen, bytes: &[u8]) -> Result<(), Untold> {
+    if bytes.is_empty() {
+        return Ok(());
+    }
     let Ok(message) = HostMessage::from_bytes(alloc, screen.size(), bytes) else {
-        return Err(bad());
+        return Err(Untold::NoVector);
     };
     if message.size() != screen.size() {
-        return Err(bad());
+        return Err(Untold::NoVector);
     }
     screen.paint(&message);
     Ok(())
 }
 
 // Paints the updates that commas part.
-fn paint_all(alloc: Global, screen: &mut Screen, text: &str) -> io::Result<()> {
+fn paint_all(alloc: Global, screen: &mut Screen, text: &str) -> Result<(), Untold> {
     for update in text.split(",") {
-        let bytes = bytes(alloc, update)?;
-        if !bytes.is_empty() {
-            paint(alloc, screen, &bytes)?;
-        }
+        paint(alloc, screen, &bytes(alloc, update)?)?;
     }
     Ok(())
 }
 
 /// Tells the rows of a screen of this size that updates paint, which commas part.
-pub(crate) fn run(account: &mut Account, size: ScreenSize, text: &str) -> io::Result<()> {
+pub(crate) fn run(account: &mut Account, size: ScreenSize, text: &str) -> Result<(), Untold> {
     let mut screen = Screen::black(account.alloc, size)?;
     paint_all(account.alloc, &mut screen, text)?;
-    write_rows(account, &screen, (size.width, size.height))
+    write_rows(account, &screen, (size.width, size.height))?;
+    Ok(())
 }
 
 // A black screen of this size that an update painted.
-fn painted(alloc: Global, size: ScreenSize, bytes: &[u8]) -> io::Result<Screen> {
+fn painted(alloc: Global, size: ScreenSize, bytes: &[u8]) -> Result<Screen, Untold> {
     let mut screen = Screen::black(alloc, size)?;
     paint(alloc, &mut screen, bytes)?;
     Ok(screen)
 }
 
-/// Tells the key screen of a screen that an update paints, where it paints the same.
-pub(crate) fn run_key(account: &mut Account, size: ScreenSize, bytes: &[u8]) -> io::Result<()> {
-    let screen = painted(account.alloc, size, bytes)?;
-    if !Format::One.limits().allow(screen.size()) {
-        return Err(bad());
+// Tells a key screen of this screen, where it paints the same.
+fn tell_key(account: &mut Account, screen: &Screen) -> Result<(), Untold> {
+    let size = screen.size();
+    if !Format::One.limits().allow(size) {
+        return Err(Untold::NoVector);
     }
     let key = screen.key(account.alloc, Format::One)?;
-    if !painted(account.alloc, size, key.bytes())?.same(&screen) {
-        return account.tell("another screen");
+    if painted(account.alloc, size, key.bytes())?.same(screen) {
+        account.add_number(Spelled(key.bytes()))?;
+    } else {
+        account.tell("another screen")?;
     }
-    account.tell(Spelled(key.bytes()))
+    Ok(())
+}
+
+/// Tells the key screen of a screen that an update paints.
+pub(crate) fn run_key(account: &mut Account, size: ScreenSize, bytes: &[u8]) -> Result<(), Untold> {
+    tell_key(account, &painted(account.alloc, size, bytes)?)
 }

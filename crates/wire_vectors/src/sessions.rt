@@ -7,8 +7,7 @@ use host_session::{HostFault, HostSession};
 use pixel_format::Format;
 use rfb_wire::HostMessage;
 use std::alloc::Global;
-use std::io;
-use terms::ScreenSize;
+use terms::{NoMemory, ScreenSize};
 
 /// The host that a session waits for: for a recording of which format, and of which size, if one is
 /// expected.
@@ -41,7 +40,7 @@ impl Talk {
     }
 
     // Feeds a piece, and puts out what is due.
-    fn feed(&mut self, piece: &[u8]) -> io::Result<()> {
+    fn feed(&mut self, piece: &[u8]) -> Result<(), NoMemory> {
         let (count, length) = (self.messages.len(), self.said.len());
         let fault = self.session.feed(piece, &mut self.messages).err();
         self.session.out(&mut self.said)?;
@@ -68,15 +67,18 @@ impl Talk {
         self.said == other.said && self.fault == other.fault && !other.went_on
     }
 
-    // Adds what the session knows in the end.
-    fn tell(&self, account: &mut Account) -> io::Result<()> {
+    // Tells what the session knows in the end.
+    fn tell(&self, account: &mut Account) -> Result<(), NoMemory> {
         if let Some(size) = self.session.size() {
-            let name = Spelled(self.session.name());
-            account.tell(format_args!("size {} {}; name {name}", size.width, size.height))?;
+            account.tell("size")?;
+            account.add_number(size.width)?;
+            account.add_number(size.height)?;
+            account.tell("name")?;
+            account.add_number(Spelled(self.session.name()))?;
         }
         if !self.session.reason().is_empty() {
-            let reason = Spelled(self.session.reason());
-            account.tell(format_args!("reason {reason}"))?;
+            account.tell("reason")?;
+            account.add_number(Spelled(self.session.reason()))?;
         }
         if self.went_on {
             account.tell("and it goes on")?;
@@ -84,20 +86,27 @@ impl Talk {
         Ok(())
     }
 
-    // Feeds one more byte, the one of this number, and adds what it brought.
-    fn tell_byte(&mut self, account: &mut Account, number: usize, byte: u8) -> io::Result<()> {
+    // Feeds one more byte, the one of this number, and tells what it brought.
+    fn tell_byte(
+        &mut self,
+        account: &mut Account,
+        number: usize,
+        byte: u8,
+    ) -> Result<(), NoMemory> {
         let (count, length, fault) = (self.messages.len(), self.said.len(), self.fault);
         self.feed(&[byte])?;
         let said = self.said.get(length..).unwrap_or_default();
         if !said.is_empty() {
-            account.tell(format_args!("{number} says {}", Spelled(said)))?;
+            account.tell_at(number, "says")?;
+            account.add_number(Spelled(said))?;
         }
         if self.messages.len() > count {
-            account.tell(format_args!("{number} message"))?;
+            account.tell_at(number, "message")?;
         }
         match self.fault {
             Some(new) if fault.is_none() => {
-                account.tell(format_args!("{number} fault {}", new.number()))
+                account.tell_at(number, "fault")?;
+                account.add_number(new.number())
             }
             _ => Ok(()),
         }
@@ -110,11 +119,26 @@ fn is_cut_alike(
     awaited: Awaited,
     pieces: (&[u8], &[u8]),
     talk: &Talk,
-) -> io::Result<bool> {
+) -> Result<bool, NoMemory> {
     let mut again = Talk::new(alloc, awaited);
     again.feed(pieces.0)?;
     again.feed(pieces.1)?;
     Ok(talk.is_same(&again))
+}
+
+// Tells what is otherwise where the bytes are cut in two.
+fn tell_difference(
+    account: &mut Account,
+    awaited: Awaited,
+    bytes: &[u8],
+    talk: &Talk,
+) -> Result<(), NoMemory> {
+    for cut in 0..=bytes.len().min(100) {
+        if !is_cut_alike(account.alloc, awaited, bytes.split_at(cut), talk)? {
+            return account.tell_at(cut, "is where it may not be cut");
+        }
+    }
+    Ok(())
 }
 
 // Tells what comes of the bytes, and what is otherwise where they are cut in two.
@@ -123,22 +147,17 @@ fn tell_all(
     awaited: Awaited,
     bytes: &[u8],
     talk: &mut Talk,
-) -> io::Result<()> {
+) -> Result<(), NoMemory> {
     for (number, byte) in (1usize..).zip(bytes) {
         talk.tell_byte(account, number, *byte)?;
     }
     talk.tell(account)?;
-    for cut in 0..=bytes.len().min(100) {
-        if !is_cut_alike(account.alloc, awaited, bytes.split_at(cut), talk)? {
-            return account.tell(format_args!("otherwise if it is cut at {cut}"));
-        }
-    }
-    Ok(())
+    tell_difference(account, awaited, bytes, talk)
 }
 
 /// Tells what comes of what a host sends: what is said to it, its messages and the fault, behind the
 /// number of bytes that had come by then; and in the end the screen's size and name, or the reason.
-pub(crate) fn run(account: &mut Account, awaited: Awaited, bytes: &[u8]) -> io::Result<()> {
+pub(crate) fn run(account: &mut Account, awaited: Awaited, bytes: &[u8]) -> Result<(), NoMemory> {
     let mut talk = Talk::new(account.alloc, awaited);
     tell_all(account, awaited, bytes, &mut talk)
 }

@@ -1,23 +1,39 @@
 //! A viewer's stream.
 
-ghost use Rattle.std.specs.Prelude.{◌<◌};
-
 use crate::account::Account;
-use crate::readings::{Given, Message, Reader, finest, longest, read};
+use crate::readings::{Message, Reader};
 use crate::words::Spelled;
 use client_wire::{ClientMessage, ClientReader, read_client_message};
 use std::alloc::Global;
-use std::io;
-use terms::WireFault;
+use terms::{NoMemory, WireFault};
 
 impl Reader<ClientMessage> for ClientReader {
+    fn begin(&mut self, alloc: Global) {
+        *self = ClientReader::new(alloc);
+    }
+
     fn take(&mut self, piece: &[u8], messages: &mut Vec<ClientMessage>) -> Result<(), WireFault> {
         self.feed(piece, messages)
+    }
+
+    fn take_first(
+        &self,
+        alloc: Global,
+        bytes: &[u8],
+        messages: &mut Vec<ClientMessage>,
+    ) -> Result<usize, WireFault> {
+        match read_client_message(alloc, bytes)? {
+            Some((message, behind)) => {
+                messages.push(message)?;
+                Ok(bytes.len().saturating_sub(behind.len()))
+            }
+            None => Ok(0),
+        }
     }
 }
 
 // What an area of a request is, as its four numbers.
-type Numbers = (u16, u16, u16, u16);
+type Numbers = [u16; 4];
 
 // A request: whether it is incremental, and its area.
 fn request_of(message: &ClientMessage) -> Option<(bool, Numbers)> {
@@ -28,7 +44,7 @@ fn request_of(message: &ClientMessage) -> Option<(bool, Numbers)> {
             y,
             w,
             h,
-        } => Some((*incremental, (*x, *y, *w, *h))),
+        } => Some((*incremental, [*x, *y, *w, *h])),
         _ => None,
     }
 }
@@ -47,82 +63,46 @@ impl Message for ClientMessage {
         }
     }
 
-    fn describe(&self, account: &mut Account, _read: &[u8]) -> io::Result<()> {
+    fn describe(&self, account: &mut Account, _read: &[u8]) -> Result<(), NoMemory> {
         match self {
             ClientMessage::SetPixelFormat(format) => {
-                account.add(format_args!("format {}", Spelled(&format.write())))?;
+                account.add("format")?;
+                account.add_number(Spelled(&format.write()))
             }
             ClientMessage::SetEncodings(encodings) => {
-                account.add("encodings")?;
-                for number in encodings.as_slice() {
-                    account.add(format_args!(" {number}"))?;
-                }
+                describe_encodings(account, encodings.as_slice())
             }
-            ClientMessage::Input(kind) => account.add(format_args!("input {kind}"))?,
+            ClientMessage::Input(kind) => {
+                account.add("input")?;
+                account.add_number(*kind)
+            }
             ClientMessage::Request {
                 incremental,
                 x,
                 y,
                 w,
                 h,
-            } => {
-                let kind = if *incremental { "changes" } else { "request" };
-                account.add(format_args!("{kind} {x} {y} {w} {h}"))?;
-            }
+            } => describe_request(account, *incremental, [*x, *y, *w, *h]),
         }
-        Ok(())
     }
 }
 
-// What the plain function makes of the bytes, message by message.
-fn plain(alloc: Global, bytes: &[u8]) -> io::Result<Given<ClientMessage>> {
-    let mut given = Given::new(alloc);
-    let mut rest = bytes;
-    for _ in 0..bytes.len() {
-        match read_client_message(alloc, rest) {
-            Ok(Some((message, behind))) => {
-                given.push(message, 0)?;
-                rest = behind;
-            }
-            Ok(None) => break,
-            Err(fault) => {
-                given.stop(Some(fault), 0);
-                break;
-            }
-        }
-    }
-    Ok(given)
-}
-
-// What a stream gives in pieces of this length.
-fn in_pieces(alloc: Global, bytes: &[u8], length: usize) -> io::Result<Given<ClientMessage>>
-    requires { 0 < length }
-{
-    let mut reader = ClientReader::new(alloc);
-    read(alloc, &mut reader, bytes, length)
-}
-
-// What is otherwise if the bytes come in longer pieces, or are read by the plain function.
-fn tell_difference(
-    account: &mut Account,
-    bytes: &[u8],
-    given: &Given<ClientMessage>,
-) -> io::Result<()> {
-    for length in 1..=longest(bytes) {
-        if !given.is_same(&in_pieces(account.alloc, bytes, length)?) {
-            return account.tell(format_args!("otherwise in pieces of {length}"));
-        }
-    }
-    if !given.is_same(&plain(account.alloc, bytes)?) {
-        return account.tell("otherwise by the plain function");
+fn describe_encodings(account: &mut Account, encodings: &[i32]) -> Result<(), NoMemory> {
+    account.add("encodings")?;
+    for number in encodings {
+        account.add_number(*number)?;
     }
     Ok(())
 }
 
-/// Tells what comes of a viewer's stream: each message and the fault, behind the number of bytes
-/// that had come by then.
-pub(crate) fn run(account: &mut Account, bytes: &[u8]) -> io::Result<()> {
-    let given = in_pieces(account.alloc, bytes, finest(bytes))?;
-    given.tell(account, bytes)?;
-    tell_difference(account, bytes, &given)
+fn describe_request(
+    account: &mut Account,
+    incremental: bool,
+    area: Numbers,
+) -> Result<(), NoMemory> {
+    account.add(if incremental { "changes" } else { "request" })?;
+    for number in area {
+        account.add_number(number)?;
+    }
+    Ok(())
 }

@@ -1,15 +1,12 @@
 //! The words of a vector.
 
+use crate::account::Untold;
 use std::alloc::Global;
-use std::{fmt, io};
-
-/// What is answered to words that are no vector.
-pub(crate) fn bad() -> io::Error {
-    io::ErrorKind::InvalidData.into()
-}
+use std::fmt;
+use terms::NoMemory;
 
 /// The lines of a part of a file that aren't comments, one behind the other.
-pub(crate) fn without_comments(alloc: Global, part: &str) -> io::Result<String> {
+pub(crate) fn without_comments(alloc: Global, part: &str) -> Result<String, NoMemory> {
     let mut kept = String::new(alloc);
     for line in part.lines() {
         if !line.starts_with("#") {
@@ -32,11 +29,11 @@ pub(crate) fn are_same(first: &str, second: &str) -> bool {
 }
 
 /// The numbers behind the first word.
-pub(crate) fn numbers(alloc: Global, head: &str) -> io::Result<Vec<u16>> {
+pub(crate) fn numbers(alloc: Global, head: &str) -> Result<Vec<u16>, Untold> {
     let mut numbers = Vec::new(alloc);
     for word in head.split_whitespace().skip(1) {
         let Ok(number) = word.parse::<u16>() else {
-            return Err(bad());
+            return Err(Untold::NoVector);
         };
         numbers.push(number)?;
     }
@@ -51,17 +48,23 @@ fn repeated(word: &str) -> (&str, usize) {
     }
 }
 
+// Appends the bytes that a word spells.
+fn append_word(alloc: Global, word: &str, bytes: &mut Vec<u8>) -> Result<(), Untold> {
+    let (digits, count) = repeated(word);
+    let Ok(part) = hex::decode(alloc, digits) else {
+        return Err(Untold::NoVector);
+    };
+    for _ in 0..count {
+        bytes.extend_from_slice(&part)?;
+    }
+    Ok(())
+}
+
 /// The bytes that words spell: hexadecimal digits, and `*` with a count where they are repeated.
-pub(crate) fn bytes(alloc: Global, text: &str) -> io::Result<Vec<u8>> {
+pub(crate) fn bytes(alloc: Global, text: &str) -> Result<Vec<u8>, Untold> {
     let mut bytes = Vec::new(alloc);
     for word in text.split_whitespace() {
-        let (digits, count) = repeated(word);
-        let Ok(part) = hex::decode(alloc, digits) else {
-            return Err(bad());
-        };
-        for _ in 0..count {
-            bytes.extend_from_slice(&part)?;
-        }
+        append_word(alloc, word, &mut bytes)?;
     }
     Ok(bytes)
 }

@@ -5,39 +5,33 @@ use crate::tests::samples::area;
 use client_wire::*;
 use pixel_format::PixelFormat;
 use std::test::Fail;
+use terms::NoMemory;
 
-// A SetEncodings of the encodings -239 and 5.
-const ENCODINGS: [u8; 12] = [2, 0, 0, 2, 255, 255, 255, 17, 0, 0, 0, 5];
+// What `write_all` writes, a line for each message.
+const WRITTEN: [u8; 66] = [
+    0, 0, 0, 0, 0x20, 0x18, 0, 1, 0, 255, 0, 255, 0, 255, 16, 8, 0, 0, 0, 0, //
+    2, 0, 0, 2, 255, 255, 255, 17, 0, 0, 0, 5, //
+    3, 1, 0, 1, 1, 2, 0, 3, 255, 255, //
+    4, 1, 0, 0, 1, 2, 255, 13, //
+    5, 5, 1, 2, 0, 3, //
+    6, 0, 0, 0, 0, 0, 0, 2, 104, 105,
+];
 
-#[test]
-fn messages_that_are_written(rt: HostRuntime) -> Result<(), Fail> {
-    let mut out = Vec::new(rt.alloc());
-    write_set_pixel_format(&PixelFormat::host(), &mut out)?;
-    let format = [
-        0, 0, 0, 0, 0x20, 0x18, 0, 1, 0, 255, 0, 255, 0, 255, 16, 8, 0, 0, 0, 0,
-    ];
-    assert!(rt; out.as_slice() == format.as_slice());
-    out.clear();
-    let encodings = Encodings::from_vec(Vec::from_slice(rt.alloc(), &[-239, 5])?);
-    write_set_encodings(&encodings.into_vec(), &mut out)?;
-    assert!(rt; out.as_slice() == ENCODINGS.as_slice());
-    out.clear();
-    write_request(true, area(1, 258, 3, 65_535), &mut out)?;
-    assert!(rt; out.as_slice() == [3, 1, 0, 1, 1, 2, 0, 3, 255, 255].as_slice());
-    Ok(())
+fn write_all(encodings: &[i32], out: &mut Vec<u8>) -> Result<(), NoMemory> {
+    write_set_pixel_format(&PixelFormat::host(), out)?;
+    write_set_encodings(encodings, out)?;
+    write_request(true, area(1, 258, 3, 65_535), out)?;
+    write_key_event(true, 0x0102_ff0d, out)?;
+    write_pointer_event(5, 258, 3, out)?;
+    write_client_cut_text(b"hi", out)
 }
 
 #[test]
-fn input_that_is_written(rt: HostRuntime) -> Result<(), Fail> {
+fn messages_that_are_written(rt: HostRuntime) -> Result<(), Fail> {
+    let encodings = Encodings::from_vec(Vec::from_slice(rt.alloc(), &[-239, 5])?);
     let mut out = Vec::new(rt.alloc());
-    write_key_event(true, 0x0102_ff0d, &mut out)?;
-    assert!(rt; out.as_slice() == [4, 1, 0, 0, 1, 2, 255, 13].as_slice());
-    out.clear();
-    write_pointer_event(5, 258, 3, &mut out)?;
-    assert!(rt; out.as_slice() == [5, 5, 1, 2, 0, 3].as_slice());
-    out.clear();
-    write_client_cut_text(b"hi", &mut out)?;
-    assert!(rt; out.as_slice() == [6, 0, 0, 0, 0, 0, 0, 2, 104, 105].as_slice());
+    write_all(&encodings.into_vec(), &mut out)?;
+    assert!(rt; out.as_slice() == WRITTEN.as_slice());
     Ok(())
 }
 

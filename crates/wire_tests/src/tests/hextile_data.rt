@@ -139,31 +139,55 @@ fn plain(tiles: &[Drawn], w: u16, column: u16, row: u16) -> Color {
     background.unwrap_or(BLACK)
 }
 
+// Draws nine tiles, of which those at the right and the bottom are narrower and lower than 16.
+fn draw(
+    alloc: Global,
+    seed: &mut u64,
+    edge: u8,
+    tiles: &mut Vec<Drawn>,
+    bytes: &mut Vec<u8>,
+) -> Result<(), NoMemory>
+    requires within { edge < 16 }
+    requires some { 0 < edge }
+{
+    for number in 0..9 {
+        let width = if number % 3 == 2 { edge } else { 16 };
+        let height = if number / 3 == 2 { 16 - edge } else { 16 };
+        let tile = any_tile(alloc, seed, number == 0, width, height)?;
+        write_tile(&tile, bytes)?;
+        tiles.push(tile)?;
+    }
+    Ok(())
+}
+
+// Whether the data of a rectangle of w by h show its tiles.
+fn are_shown(tiles: &[Drawn], w: u16, h: u16, bytes: &[u8]) -> bool
+    requires columns { w ≤ 320 }
+    requires rows { h ≤ 120 }
+{
+    let host = PixelFormat::host();
+    let Ok(canvas) = Kind::Hextile.painted(&host, w, h, bytes) else {
+        return false;
+    };
+    for row in 0..h {
+        for column in 0..w {
+            if canvas.color(column, row) != plain(tiles, w, column, row) {
+                return false;
+            }
+        }
+    }
+    measure(&host, w, h, bytes) == Ok(bytes.len())
+}
+
 #[test]
 fn as_the_plain_way(rt: HostRuntime) -> Result<(), Fail> {
-    let host = PixelFormat::host();
     let mut seed = 1;
-    for edge in 1..16u16 {
-        let (w, h) = (32 + edge, 48 - edge);
+    for edge in 1..16u8 {
         let mut tiles = Vec::new(rt.alloc());
         let mut bytes = Vec::new(rt.alloc());
-        for row in 0..3 {
-            for column in 0..3 {
-                let width = if column == 2 { edge as u8 } else { 16 };
-                let height = if row == 2 { 16 - edge as u8 } else { 16 };
-                let first = row == 0 && column == 0;
-                let tile = any_tile(rt.alloc(), &mut seed, first, width, height)?;
-                write_tile(&tile, &mut bytes)?;
-                tiles.push(tile)?;
-            }
-        }
-        assert!(rt; measure(&host, w, h, &bytes) == Ok(bytes.len()));
-        let test_canvas = Kind::Hextile.painted(&host, w, h, &bytes)?;
-        for row in 0..h {
-            for column in 0..w {
-                assert!(rt; test_canvas.color(column, row) == plain(&tiles, w, column, row));
-            }
-        }
+        draw(rt.alloc(), &mut seed, edge, &mut tiles, &mut bytes)?;
+        let (w, h) = (32 + u16::from(edge), 48 - u16::from(edge));
+        assert!(rt; are_shown(&tiles, w, h, &bytes), "with an edge of {edge}");
     }
     Ok(())
 }
@@ -211,101 +235,97 @@ fn comes_through(
 
 #[test]
 fn encoded_and_painted(rt: HostRuntime) -> Result<(), Fail> {
-    let alloc = rt.alloc();
     let mut seed = 1;
     for edge in 1..17u16 {
         let (w, h) = (16 + edge, 17 - edge);
-        let picture = any_picture(alloc, &mut seed, w, h)?;
-        assert!(rt; comes_through(alloc, &PixelFormat::host(), w, h, &picture)?);
-        assert!(rt; comes_through(alloc, &PixelFormat::read(&SIXTEEN)?, w, h, &picture)?);
-        assert!(rt; comes_through(alloc, &PixelFormat::read(&EIGHT)?, w, h, &picture)?);
+        let picture = any_picture(rt.alloc(), &mut seed, w, h)?;
+        for bytes in [PixelFormat::host().write(), SIXTEEN, EIGHT] {
+            let format = PixelFormat::read(&bytes)?;
+            assert!(rt; comes_through(rt.alloc(), &format, w, h, &picture)?);
+        }
     }
     Ok(())
 }
 
-// The data of a row of places, in the host format.
-fn encoded(alloc: Global, w: u16, picture: &[Color]) -> Result<Vec<u8>, NoMemory>
-    requires { length picture.now ≡ 1 * w }
-{
+// The colour of a letter: red, green, blue, or one of its own.
+fn color_of(letter: u8) -> Color {
+    match letter {
+        b'r' => RED,
+        b'g' => GREEN,
+        b'b' => BLUE,
+        _ => Color {
+            r: letter.into(),
+            g: 100,
+            b: 200,
+        },
+    }
+}
+
+// The data of a row of three tiles, whose colours are given in letters, in the host format.
+fn encoded(alloc: Global, row: &[u8; 48]) -> Result<Vec<u8>, NoMemory> {
     let host = PixelFormat::host();
-    let colors = converted(alloc, &host, picture)?;
+    let mut colors = vec![in alloc; RED; 48]?;
+    for k in 0..48 {
+        colors[k] = color_of(row[k]);
+    }
+    let colors = converted(alloc, &host, &colors)?;
     let mut bytes = Vec::new(alloc);
-    encode(alloc, &host, w, 1, &colors, &mut bytes)?;
+    encode(alloc, &host, 48, 1, &colors, &mut bytes)?;
     Ok(bytes)
 }
 
-// Whether a row of 48 places has these data, in the host format.
-fn encodes(alloc: Global, picture: &[Color], data: &[u8]) -> Result<bool, NoMemory>
-    requires { length picture.now ≡ 48 }
-{
-    Ok(encoded(alloc, 48, picture)?.as_slice() == data)
-}
+// Rows of three tiles, and their data, a line for each tile.
+const ROWS: [(&[u8; 48], &[u8]); 6] = [
+    // What is as before isn't told again.
+    (
+        b"rrrrrrrrrrrrrrrrrrrrrrrrrrrrrrrrrrrrrrrrrrrrrrrr",
+        b"\x02\0\0\xff\0\
+        \0\
+        \0",
+    ),
+    // Green in two tiles: its pixel once.
+    (
+        b"rrrggrrrrrrrrrrrrrrrrrrrrrrrrrgrrrrrrrrrrrrrrrrr",
+        b"\x0e\0\0\xff\0\0\xff\0\0\x01\x30\x10\
+        \x08\x01\xe0\0\
+        \0",
+    ),
+    // Green and blue in one tile: pixels of their own, and the next background is named.
+    (
+        b"rrrggrrrrrrrrrrrrrrrbrrrrrrrrrgrrrrrrrrrrrrrrrrr",
+        b"\x0e\0\0\xff\0\0\xff\0\0\x01\x30\x10\
+        \x18\x02\xff\0\0\0\x40\0\0\xff\0\0\xe0\0\
+        \x02\0\0\xff\0",
+    ),
+    // Many colours: a raw tile, and the next background is named.
+    (
+        b"rrrggrrrrrrrrrrrABCDEFGHIJKLMNOPrrrrrrrrrrrrrrrr",
+        b"\x0e\0\0\xff\0\0\xff\0\0\x01\x30\x10\
+        \x01\xc8dA\0\xc8dB\0\xc8dC\0\xc8dD\0\xc8dE\0\xc8dF\0\xc8dG\0\xc8dH\0\
+        \xc8dI\0\xc8dJ\0\xc8dK\0\xc8dL\0\xc8dM\0\xc8dN\0\xc8dO\0\xc8dP\0\
+        \x02\0\0\xff\0",
+    ),
+    // Behind a raw tile, and behind a coloured one, background and foreground are named again, though
+    // they are those of the tile before it.
+    (
+        b"rrrggrrrrrrrrrrrABCDEFGHIJKLMNOPrrrrrrrrrrrrrrgr",
+        b"\x0e\0\0\xff\0\0\xff\0\0\x01\x30\x10\
+        \x01\xc8dA\0\xc8dB\0\xc8dC\0\xc8dD\0\xc8dE\0\xc8dF\0\xc8dG\0\xc8dH\0\
+        \xc8dI\0\xc8dJ\0\xc8dK\0\xc8dL\0\xc8dM\0\xc8dN\0\xc8dO\0\xc8dP\0\
+        \x0e\0\0\xff\0\0\xff\0\0\x01\xe0\0",
+    ),
+    (
+        b"rrrggrrrrrrrrrrrrrrrgrrrrrrrrrbrrrrrrrrrrrrrrrgr",
+        b"\x0e\0\0\xff\0\0\xff\0\0\x01\x30\x10\
+        \x18\x02\0\xff\0\0\x40\0\xff\0\0\0\xe0\0\
+        \x0e\0\0\xff\0\0\xff\0\0\x01\xe0\0",
+    ),
+];
 
-// A red tile, and what behind it is told again or not.
 #[test]
 fn encoded_shortly(rt: HostRuntime) -> Result<(), Fail> {
-    let mut picture = vec![in rt.alloc(); RED; 48]?;
-    let red = [2, 0, 0, 255, 0, 0, 0];
-    assert!(rt; encodes(rt.alloc(), &picture, &red)?);
-    // green in two tiles: its pixel once
-    picture[3] = GREEN;
-    picture[4] = GREEN;
-    picture[30] = GREEN;
-    let twice = [
-        14, 0, 0, 255, 0, 0, 255, 0, 0, 1, 0x30, 0x10, 8, 1, 0xe0, 0, 0,
-    ];
-    assert!(rt; encodes(rt.alloc(), &picture, &twice)?);
-    // green and blue in one tile: pixels of their own, and the next background is named
-    picture[20] = BLUE;
-    let colored = [
-        14, 0, 0, 255, 0, 0, 255, 0, 0, 1, 0x30, 0x10, 24, 2, 255, 0, 0, 0, 0x40, 0, 0, 255, 0, 0,
-        0xe0, 0, 2, 0, 0, 255, 0,
-    ];
-    assert!(rt; encodes(rt.alloc(), &picture, &colored)?);
-    // many colours: a raw tile, and the next background is named
-    let mut seed = 1;
-    for k in 16..32 {
-        picture[k] = any_color(&mut seed);
+    for (row, data) in ROWS {
+        assert!(rt; encoded(rt.alloc(), row)?.as_slice() == data);
     }
-    let raw = encoded(rt.alloc(), 48, &picture)?;
-    assert!(rt; raw.len() == 12 + 65 + 5);
-    assert!(rt; raw[12] == 1);
-    assert!(rt; &raw[77..] == [2, 0, 0, 255, 0].as_slice());
-    Ok(())
-}
-
-// Behind a raw tile, and behind a coloured one, background and foreground are named again, though
-// they are those of the tile before it.
-#[test]
-fn named_again(rt: HostRuntime) -> Result<(), Fail> {
-    let mut picture = vec![in rt.alloc(); RED; 48]?;
-    picture[3] = GREEN;
-    picture[4] = GREEN;
-    picture[46] = GREEN;
-    for k in 16..32 {
-        picture[k] = Color {
-            r: k as u16,
-            g: 100,
-            b: 200,
-        };
-    }
-    let raw = [
-        14, 0, 0, 255, 0, 0, 255, 0, 0, 1, 0x30, 0x10, 1, 200, 100, 16, 0, 200, 100, 17, 0, 200,
-        100, 18, 0, 200, 100, 19, 0, 200, 100, 20, 0, 200, 100, 21, 0, 200, 100, 22, 0, 200, 100,
-        23, 0, 200, 100, 24, 0, 200, 100, 25, 0, 200, 100, 26, 0, 200, 100, 27, 0, 200, 100, 28, 0,
-        200, 100, 29, 0, 200, 100, 30, 0, 200, 100, 31, 0, 14, 0, 0, 255, 0, 0, 255, 0, 0, 1, 0xe0,
-        0,
-    ];
-    assert!(rt; encodes(rt.alloc(), &picture, &raw)?);
-    for k in 16..32 {
-        picture[k] = RED;
-    }
-    picture[20] = GREEN;
-    picture[30] = BLUE;
-    let colored = [
-        14, 0, 0, 255, 0, 0, 255, 0, 0, 1, 0x30, 0x10, 24, 2, 0, 255, 0, 0, 0x40, 0, 255, 0, 0, 0,
-        0xe0, 0, 14, 0, 0, 255, 0, 0, 255, 0, 0, 1, 0xe0, 0,
-    ];
-    assert!(rt; encodes(rt.alloc(), &picture, &colored)?);
     Ok(())
 }

@@ -5,42 +5,59 @@ use crate::tests::readers::gives;
 use crate::tests::samples::{RED_UPDATE as RED, area, size};
 use pixel_format::Color;
 use rfb_wire::*;
+use std::alloc::Global;
 use std::test::Fail;
+use terms::NoMemory;
 
-#[test]
-fn messages_told_apart(rt: HostRuntime) -> Result<(), Fail> {
-    let red = HostMessage::from_bytes(rt.alloc(), size(1, 1), &RED)?;
-    let bell = HostMessage::from_bytes(rt.alloc(), size(1, 1), &[2])?;
-    let other = HostMessage::from_bytes(rt.alloc(), size(2, 1), &[2])?;
-    assert!(rt; red.is_update() && !bell.is_update());
-    assert!(rt; red.same(&red.copy(rt.alloc())?) && !red.same(&bell) && !bell.same(&other));
-    assert!(rt; ServerReader::new(rt.alloc(), size(3, 2)).size() == size(3, 2));
+// A red pixel, a bell, a bell on a wider screen, and the red pixel copied.
+fn four_messages(alloc: Global, messages: &mut Vec<HostMessage>) -> Result<(), Fail> {
+    for (width, bytes) in [(1, RED.as_slice()), (1, &[2]), (2, &[2])] {
+        messages.push(HostMessage::from_bytes(alloc, size(width, 1), bytes)?)?;
+    }
+    let copy = messages[0].copy(alloc)?;
+    messages.push(copy)?;
     Ok(())
 }
 
 #[test]
-fn messages_that_are_written(rt: HostRuntime) -> Result<(), Fail> {
-    let alloc = rt.alloc();
-    let mut host = Vec::new(alloc);
-    write_cut_text(b"hi", &mut host)?;
-    assert!(rt; host.as_slice() == [3, 0, 0, 0, 0, 0, 0, 2, 104, 105].as_slice());
-    host.clear();
-    write_bell(&mut host)?;
-    assert!(rt; host.as_slice() == [2].as_slice());
-    // One red pixel, as a viewer of 16 bits has it.
-    host.clear();
-    write_raw_update(area(1, 258, 1, 1), &[0, 248], &mut host)?;
-    let update = [0, 0, 0, 1, 0, 1, 1, 2, 0, 1, 0, 1, 0, 0, 0, 0, 0, 248];
-    assert!(rt; host.as_slice() == update.as_slice());
-    host.clear();
+fn messages_told_apart(rt: HostRuntime) -> Result<(), Fail> {
+    let mut messages = Vec::new(rt.alloc());
+    four_messages(rt.alloc(), &mut messages)?;
+    let [red, bell, wider, copy] = messages.as_slice() else {
+        return Err(Fail::from("four messages"));
+    };
+    assert!(rt; red.is_update() && !bell.is_update());
+    assert!(rt; red.same(copy) && !red.same(bell) && !bell.same(wider));
+    assert!(rt; ServerReader::new(rt.alloc(), size(3, 2)).size() == size(3, 2));
+    Ok(())
+}
+
+// What `write_all` writes, a line for each message. The update is of one red pixel, as a viewer of 16
+// bits has it.
+const WRITTEN: [u8; 41] = [
+    3, 0, 0, 0, 0, 0, 0, 2, 104, 105, //
+    2, //
+    0, 0, 0, 1, 0, 1, 1, 2, 0, 1, 0, 1, 0, 0, 0, 0, 0, 248, //
+    1, 0, 1, 2, 0, 1, 255, 255, 1, 0, 0, 1,
+];
+
+fn write_all(out: &mut Vec<u8>) -> Result<(), NoMemory> {
     let color = Color {
         r: 65_535,
         g: 256,
         b: 1,
     };
-    write_color_map(258, &[color], &mut host)?;
-    let map = [1, 0, 1, 2, 0, 1, 255, 255, 1, 0, 0, 1];
-    assert!(rt; host.as_slice() == map.as_slice());
+    write_cut_text(b"hi", out)?;
+    write_bell(out)?;
+    write_raw_update(area(1, 258, 1, 1), &[0, 248], out)?;
+    write_color_map(258, &[color], out)
+}
+
+#[test]
+fn messages_that_are_written(rt: HostRuntime) -> Result<(), Fail> {
+    let mut out = Vec::new(rt.alloc());
+    write_all(&mut out)?;
+    assert!(rt; out.as_slice() == WRITTEN.as_slice());
     Ok(())
 }
 

@@ -53,26 +53,39 @@ fn plain(background: Color, parts: &[Subrectangle], column: u16, row: u16) -> Co
     background
 }
 
+// Whether the data of 16 by 12 places show the subrectangles.
+fn are_shown(background: Color, parts: &[Subrectangle], bytes: &[u8]) -> bool {
+    let host = PixelFormat::host();
+    let Ok(canvas) = Kind::Rre.painted(&host, 16, 12, bytes) else {
+        return false;
+    };
+    for row in 0..12 {
+        for column in 0..16 {
+            if canvas.color(column, row) != plain(background, parts, column, row) {
+                return false;
+            }
+        }
+    }
+    measure(&host, 16, 12, bytes) == Ok(bytes.len())
+}
+
+// So many subrectangles over one another.
+fn any_parts(alloc: Global, seed: &mut u64, count: usize) -> Result<Vec<Subrectangle>, NoMemory> {
+    let mut parts = Vec::new(alloc);
+    for _ in 0..count {
+        parts.push(any_part(seed))?;
+    }
+    Ok(parts)
+}
+
 #[test]
 fn as_the_plain_way(rt: HostRuntime) -> Result<(), Fail> {
-    let host = PixelFormat::host();
     let mut seed = 1;
     for count in 0..40 {
         let background = any_color(&mut seed);
-        let mut parts = Vec::new(rt.alloc());
-        for _ in 0..count {
-            parts.push(any_part(&mut seed))?;
-        }
+        let parts = any_parts(rt.alloc(), &mut seed, count)?;
         let bytes = written(rt.alloc(), background, &parts)?;
-        assert!(rt; measure(&host, 16, 12, &bytes) == Ok(bytes.len()));
-        let test_canvas = Kind::Rre.painted(&host, 16, 12, &bytes)?;
-        for row in 0..12 {
-            for column in 0..16 {
-                assert!(rt;
-                    test_canvas.color(column, row) == plain(background, &parts, column, row)
-                );
-            }
-        }
+        assert!(rt; are_shown(background, &parts, &bytes), "with {count}");
     }
     Ok(())
 }
@@ -112,13 +125,12 @@ fn comes_through(alloc: Global, format: &PixelFormat, picture: &[Color]) -> Resu
 
 #[test]
 fn encoded_and_painted(rt: HostRuntime) -> Result<(), Fail> {
-    let alloc = rt.alloc();
     let mut seed = 1;
     for _ in 0..7 {
-        let picture = any_picture(alloc, &mut seed)?;
-        assert!(rt; comes_through(alloc, &PixelFormat::host(), &picture)?);
-        assert!(rt; comes_through(alloc, &PixelFormat::read(&SIXTEEN)?, &picture)?);
-        assert!(rt; comes_through(alloc, &PixelFormat::read(&EIGHT)?, &picture)?);
+        let picture = any_picture(rt.alloc(), &mut seed)?;
+        for bytes in [PixelFormat::host().write(), SIXTEEN, EIGHT] {
+            assert!(rt; comes_through(rt.alloc(), &PixelFormat::read(&bytes)?, &picture)?);
+        }
     }
     Ok(())
 }

@@ -239,13 +239,18 @@ fn written_and_painted(rt: HostRuntime) -> Result<(), Fail> {
     let mut seed = 1;
     let flat = any_picture(alloc, &mut seed, true)?;
     let many = any_picture(alloc, &mut seed, false)?;
+    let rows = [
+        (&flat, Encoding::Raw, 0),
+        (&flat, Encoding::Rre, 2),
+        (&flat, Encoding::Hextile, 5),
+        (&many, Encoding::Rre, 0),
+        (&many, Encoding::Hextile, 0),
+    ];
     for bytes in [PixelFormat::host().write(), SIXTEEN, EIGHT] {
         let format = PixelFormat::read(&bytes)?;
-        assert!(rt; is_written(alloc, &format, &flat, Encoding::Raw, 0)?);
-        assert!(rt; is_written(alloc, &format, &flat, Encoding::Rre, 2)?);
-        assert!(rt; is_written(alloc, &format, &flat, Encoding::Hextile, 5)?);
-        assert!(rt; is_written(alloc, &format, &many, Encoding::Rre, 0)?);
-        assert!(rt; is_written(alloc, &format, &many, Encoding::Hextile, 0)?);
+        for (picture, encoding, number) in rows {
+            assert!(rt; is_written(alloc, &format, picture, encoding, number)?);
+        }
     }
     Ok(())
 }
