@@ -1,5 +1,7 @@
 //! What vectors can't say of a viewer's messages: how they are written, and want of memory.
 
+ghost use Rattle.std.specs.Prelude.{◌≡◌, length};
+
 use crate::tests::readers::gives;
 use crate::tests::samples::area;
 use client_wire::*;
@@ -17,7 +19,9 @@ const WRITTEN: [u8; 66] = [
     6, 0, 0, 0, 0, 0, 0, 2, 104, 105,
 ];
 
-fn write_all(encodings: &[i32], out: &mut Vec<u8>) -> Result<(), NoMemory> {
+fn write_all(encodings: &[i32], out: &mut Vec<u8>) -> Result<(), NoMemory>
+    requires { length encodings.now ≡ 2 }
+{
     write_set_pixel_format(&PixelFormat::host(), out)?;
     write_set_encodings(encodings, out)?;
     write_request(true, area(1, 258, 3, 65_535), out)?;

@@ -231,26 +231,33 @@ fn is_written(
     Ok(is_as_long && written.get(15) == Some(&number))
 }
 
-// In each format a flat picture is written in the encoding that is asked for, and one of many
-// colours in Raw.
+// Whether a flat picture is written in the encoding that is asked for, and one of many colours in Raw.
+fn are_written(
+    alloc: Global,
+    format: &PixelFormat,
+    flat: &[Color],
+    many: &[Color],
+) -> Result<bool, Fail>
+    requires flat { length flat.now ≡ 18 * 21 }
+    requires many { length many.now ≡ 18 * 21 }
+{
+    let is_flat_written = is_written(alloc, format, flat, Encoding::Raw, 0)?
+        && is_written(alloc, format, flat, Encoding::Rre, 2)?
+        && is_written(alloc, format, flat, Encoding::Hextile, 5)?;
+    Ok(
+        is_flat_written
+            && is_written(alloc, format, many, Encoding::Rre, 0)?
+            && is_written(alloc, format, many, Encoding::Hextile, 0)?,
+    )
+}
+
 #[test]
 fn written_and_painted(rt: HostRuntime) -> Result<(), Fail> {
-    let alloc = rt.alloc();
     let mut seed = 1;
-    let flat = any_picture(alloc, &mut seed, true)?;
-    let many = any_picture(alloc, &mut seed, false)?;
-    let rows = [
-        (&flat, Encoding::Raw, 0),
-        (&flat, Encoding::Rre, 2),
-        (&flat, Encoding::Hextile, 5),
-        (&many, Encoding::Rre, 0),
-        (&many, Encoding::Hextile, 0),
-    ];
+    let flat = any_picture(rt.alloc(), &mut seed, true)?;
+    let many = any_picture(rt.alloc(), &mut seed, false)?;
     for bytes in [PixelFormat::host().write(), SIXTEEN, EIGHT] {
-        let format = PixelFormat::read(&bytes)?;
-        for (picture, encoding, number) in rows {
-            assert!(rt; is_written(alloc, &format, picture, encoding, number)?);
-        }
+        assert!(rt; are_written(rt.alloc(), &PixelFormat::read(&bytes)?, &flat, &many)?);
     }
     Ok(())
 }

@@ -217,15 +217,38 @@ fn windows(alloc: Global, seed: &mut u64) -> Result<Vec<Color>, NoMemory>
     Ok(picture)
 }
 
+/// How a picture is made at random.
+#[derive(Clone, Copy)]
+enum Random {
+    Squares,
+    Windows,
+    /// Of so many colours.
+    Noise(u16),
+}
+
+fn made_at_random(alloc: Global, seed: &mut u64, kind: Random) -> Result<Vec<Color>, NoMemory>
+    ensures { IfOk result (λ v. length v.items ≡ 12 * 16) }
+{
+    match kind {
+        Random::Squares => any_picture(alloc, seed),
+        Random::Windows => windows(alloc, seed),
+        Random::Noise(colors) => noise(alloc, seed, colors),
+    }
+}
+
 #[test]
 fn random_pictures_take_no_more_subrectangles(rt: HostRuntime) -> Result<(), Fail> {
-    let alloc = rt.alloc();
     let mut seed = 1;
     for _ in 0..40 {
-        assert!(rt; is_short(alloc, 16, 12, &any_picture(alloc, &mut seed)?)?);
-        assert!(rt; is_short(alloc, 16, 12, &windows(alloc, &mut seed)?)?);
-        for colors in [2, 3, 8] {
-            assert!(rt; is_short(alloc, 16, 12, &noise(alloc, &mut seed, colors)?)?);
+        for kind in [
+            Random::Squares,
+            Random::Windows,
+            Random::Noise(2),
+            Random::Noise(3),
+            Random::Noise(8),
+        ] {
+            let picture = made_at_random(rt.alloc(), &mut seed, kind)?;
+            assert!(rt; is_short(rt.alloc(), 16, 12, &picture)?);
         }
     }
     Ok(())
