@@ -48,34 +48,41 @@ fn below(seed: &mut u64, limit: u16) -> u16
     (*seed >> 48) as u16 % limit
 }
 
-// Bytes that are read from their front, with pixels in this format.
+// Bytes that are still to be read, with pixels in this format.
 #[derive(Drop)]
 struct Cursor<'a> {
-    bytes: &'a [u8],
-    at: usize,
+    rest: &'a [u8],
     format: &'a PixelFormat,
 }
 
 fn byte(cursor: &mut Cursor) -> Option<u8> {
-    let byte = *cursor.bytes.get(cursor.at)?;
-    cursor.at += 1;
-    Some(byte)
+    let (byte, rest) = cursor.rest.split_first()?;
+    cursor.rest = rest;
+    Some(*byte)
 }
 
 fn number(cursor: &mut Cursor) -> Option<u16> {
-    let high = byte(cursor)?;
-    let low = byte(cursor)?;
-    Some(u16::from_be_bytes([high, low]))
+    let (bytes, rest) = cursor.rest.split_first_chunk::<2>()?;
+    cursor.rest = rest;
+    Some(u16::from_be_bytes(*bytes))
+}
+
+fn area(cursor: &mut Cursor) -> Option<Area> {
+    let (bytes, rest) = cursor.rest.split_first_chunk::<8>()?;
+    cursor.rest = rest;
+    let [x, x_low, y, y_low, w, w_low, h, h_low] = *bytes;
+    Some(Area {
+        x: u16::from_be_bytes([x, x_low]),
+        y: u16::from_be_bytes([y, y_low]),
+        w: u16::from_be_bytes([w, w_low]),
+        h: u16::from_be_bytes([h, h_low]),
+    })
 }
 
 fn color(cursor: &mut Cursor) -> Option<Color> {
-    let end = cursor.at.checked_add(cursor.format.bytes())?;
-    if end > cursor.bytes.len() {
-        return None;
-    }
-    let color = cursor.format.pixel(&cursor.bytes[cursor.at..end]);
-    cursor.at = end;
-    Some(color)
+    let (pixel, rest) = cursor.rest.split_at_checked(cursor.format.bytes())?;
+    cursor.rest = rest;
+    Some(cursor.format.pixel(pixel))
 }
 
 // A part of an area.
@@ -114,9 +121,7 @@ fn paint_raw(cursor: &mut Cursor, area: Area, pixels: &mut [Color]) -> Option<()
 }
 
 // The places from here on become those of the area; from its end where they stand before it.
-fn paint_copy(cursor: &mut Cursor, area: Area, pixels: &mut [Color]) -> Option<()> {
-    let x = number(cursor)?;
-    let y = number(cursor)?;
+fn copy(x: u16, y: u16, area: Area, pixels: &mut [Color]) -> Option<()> {
     let forward = y > area.y || y == area.y && x >= area.x;
     for row in 0..area.h {
         for column in 0..area.w {
@@ -132,18 +137,20 @@ fn paint_copy(cursor: &mut Cursor, area: Area, pixels: &mut [Color]) -> Option<(
     Some(())
 }
 
-fn paint_rre(cursor: &mut Cursor, area: Area, pixels: &mut [Color]) -> Option<()> {
+fn paint_copy(cursor: &mut Cursor, area: Area, pixels: &mut [Color]) -> Option<()> {
+    let x = number(cursor)?;
+    let y = number(cursor)?;
+    copy(x, y, area, pixels)
+}
+
+fn paint_rre(cursor: &mut Cursor, within: Area, pixels: &mut [Color]) -> Option<()> {
     let _high = number(cursor)?;
     let count = number(cursor)?;
-    let background = color(cursor)?;
-    fill(pixels, area, background);
+    fill(pixels, within, color(cursor)?);
     for _ in 0..count {
         let color = color(cursor)?;
-        let x = number(cursor)?;
-        let y = number(cursor)?;
-        let w = number(cursor)?;
-        let h = number(cursor)?;
-        fill(pixels, part(area, x, y, w, h), color);
+        let Area { x, y, w, h } = area(cursor)?;
+        fill(pixels, part(within, x, y, w, h), color);
     }
     Some(())
 }
@@ -155,38 +162,52 @@ struct Named {
     foreground: Color,
 }
 
-fn paint_tile(
-    cursor: &mut Cursor,
-    tile: Area,
-    before: Named,
-    pixels: &mut [Color],
-) -> Option<Named> {
-    let mut named = before;
-    let mask = byte(cursor)?;
-    if mask & 1 != 0 {
-        paint_raw(cursor, tile, pixels)?;
-        return Some(named);
-    }
+fn read_named(cursor: &mut Cursor, mask: u8, named: &mut Named) -> Option<()> {
     if mask & 2 != 0 {
         named.background = color(cursor)?;
     }
-    fill(pixels, tile, named.background);
     if mask & 4 != 0 {
         named.foreground = color(cursor)?;
     }
-    let count = if mask & 8 != 0 { byte(cursor)? } else { 0 };
-    for _ in 0..count {
-        let color = if mask & 16 != 0 {
-            color(cursor)?
-        } else {
-            named.foreground
-        };
-        let corner = u16::from(byte(cursor)?);
-        let size = u16::from(byte(cursor)?);
-        let area = part(tile, corner / 16, corner % 16, size / 16 + 1, size % 16 + 1);
-        fill(pixels, area, color);
+    Some(())
+}
+
+// A subrectangle, which has a colour of its own where none is given.
+fn paint_part(
+    cursor: &mut Cursor,
+    tile: Area,
+    given: Option<Color>,
+    pixels: &mut [Color],
+) -> Option<()> {
+    let color = match given {
+        Some(color) => color,
+        None => color(cursor)?,
+    };
+    let corner = u16::from(byte(cursor)?);
+    let size = u16::from(byte(cursor)?);
+    let area = part(tile, corner / 16, corner % 16, size / 16 + 1, size % 16 + 1);
+    fill(pixels, area, color);
+    Some(())
+}
+
+fn paint_tile(
+    cursor: &mut Cursor,
+    tile: Area,
+    named: &mut Named,
+    pixels: &mut [Color],
+) -> Option<()> {
+    let mask = byte(cursor)?;
+    if mask & 1 != 0 {
+        return paint_raw(cursor, tile, pixels);
     }
-    Some(named)
+    read_named(cursor, mask, named)?;
+    fill(pixels, tile, named.background);
+    let count = if mask & 8 != 0 { byte(cursor)? } else { 0 };
+    let given = (mask & 16 == 0).then_some(named.foreground);
+    for _ in 0..count {
+        paint_part(cursor, tile, given, pixels)?;
+    }
+    Some(())
 }
 
 fn paint_hextile(cursor: &mut Cursor, area: Area, pixels: &mut [Color]) -> Option<()> {
@@ -199,39 +220,34 @@ fn paint_hextile(cursor: &mut Cursor, area: Area, pixels: &mut [Color]) -> Optio
             let (x, y) = (column.wrapping_mul(16), row.wrapping_mul(16));
             let (w, h) = (area.w.wrapping_sub(x), area.h.wrapping_sub(y));
             let tile = part(area, x, y, w.min(16), h.min(16));
-            named = paint_tile(cursor, tile, named, pixels)?;
+            paint_tile(cursor, tile, &mut named, pixels)?;
         }
     }
     Some(())
 }
 
+fn paint_rectangle(cursor: &mut Cursor, pixels: &mut [Color]) -> Option<()> {
+    let area = area(cursor)?;
+    let _high = number(cursor)?;
+    match number(cursor)? {
+        0 => paint_raw(cursor, area, pixels),
+        1 => paint_copy(cursor, area, pixels),
+        2 => paint_rre(cursor, area, pixels),
+        5 => paint_hextile(cursor, area, pixels),
+        _ => None,
+    }
+}
+
 // Paints an update; nothing where it isn't one, or bytes are left.
 fn paint(update: &[u8], format: &PixelFormat, pixels: &mut [Color]) -> Option<()> {
     let mut cursor = Cursor {
-        bytes: update,
-        at: 0,
+        rest: update.strip_prefix(&[0, 0])?,
         format,
     };
-    if number(&mut cursor)? != 0 {
-        return None;
-    }
     for _ in 0..number(&mut cursor)? {
-        let area = Area {
-            x: number(&mut cursor)?,
-            y: number(&mut cursor)?,
-            w: number(&mut cursor)?,
-            h: number(&mut cursor)?,
-        };
-        let _high = number(&mut cursor)?;
-        match number(&mut cursor)? {
-            0 => paint_raw(&mut cursor, area, pixels)?,
-            1 => paint_copy(&mut cursor, area, pixels)?,
-            2 => paint_rre(&mut cursor, area, pixels)?,
-            5 => paint_hextile(&mut cursor, area, pixels)?,
-            _ => return None,
-        }
+        paint_rectangle(&mut cursor, pixels)?;
     }
-    (cursor.at == update.len()).then_some(())
+    cursor.rest.is_empty().then_some(())
 }
 
 // An update of one rectangle: a copy, or Raw in three colours.
@@ -382,25 +398,44 @@ fn begun(alloc: Global) -> Result<Box<Session>, Fail>
     Ok(session)
 }
 
-// After each answer the viewer shows the converted screen in the area that it asked for.
+// Goes on and looks so many times: whether the viewer, once it is answered, then shows the converted
+// screen in the area that it asked for.
+fn look_on(
+    alloc: Global,
+    session: &mut Session,
+    screen: &mut Screen,
+    viewer: &mut Viewer,
+    times: usize,
+) -> Result<bool, Fail>
+    requires width { session.old.view.screen.width ≡ WIDTH }
+    requires height { session.old.view.screen.height ≡ HEIGHT }
+    requires across { screen.old.width ≡ WIDTH }
+    requires down { screen.old.height ≡ HEIGHT }
+{
+    let mut seed = 1;
+    for _ in 0..times {
+        go_on(alloc, &mut seed, session, screen)?;
+        let Some(asked) = look(alloc, &mut seed, session, viewer)? else {
+            return Ok(false);
+        };
+        if viewer.answered && !shows(screen, &viewer.format, &viewer.pixels, asked) {
+            return Ok(false);
+        }
+    }
+    Ok(true)
+}
+
 #[test]
 fn painted(rt: HostRuntime) -> Result<(), Fail> {
-    let alloc = rt.alloc();
-    let mut seed = 1;
-    let mut session = begun(alloc)?;
-    let mut screen = Screen::black(alloc, SIZE)?;
+    let mut session = begun(rt.alloc())?;
+    let mut screen = Screen::black(rt.alloc(), SIZE)?;
     let mut viewer = Viewer {
-        pixels: vec![in alloc; BLACK; 360]?,
+        pixels: vec![in rt.alloc(); BLACK; 360]?,
         format: PixelFormat::host(),
         answered: false,
         copied: false,
     };
-    for _ in 0..400 {
-        go_on(alloc, &mut seed, &mut session, &mut screen)?;
-        let asked = look(alloc, &mut seed, &mut session, &mut viewer)?.ok_or("no update")?;
-        let right = shows(&screen, &viewer.format, &viewer.pixels, asked);
-        assert!(rt; right || !viewer.answered);
-    }
+    assert!(rt; look_on(rt.alloc(), &mut session, &mut screen, &mut viewer, 400)?);
     assert!(rt; viewer.copied);
     Ok(())
 }
