@@ -18,6 +18,55 @@ impl Places for TestCanvas {
     }
 }
 
+// A rectangle of this size, whose data are in an encoding of subrectangles and a format.
+struct Drawn<'a> {
+    kind: Kind,
+    format: &'a PixelFormat,
+    size: (u16, u16),
+}
+
+impl Drawn<'_> {
+    // Adds the rows that whole data paint, where they have an area and fit on the canvas.
+    fn write(&self, account: &mut Account, data: &[u8]) -> Result<(), Untold> {
+        let (w, h) = self.size;
+        if w == 0 || h == 0 || w >= WIDTH || h >= HEIGHT {
+            return Ok(());
+        }
+        match self.kind.painted(self.format, w, h, data) {
+            Ok(canvas) => Ok(write_rows(account, &canvas, (w + 1, h + 1))?),
+            Err(_) => Err(Untold::NoVector),
+        }
+    }
+
+    // Tells at which byte data are whole, and what they paint; or where they are refused.
+    fn tell(&self, account: &mut Account, bytes: &[u8]) -> Result<(), Untold> {
+        let (w, h) = self.size;
+        for count in 0..=bytes.len() {
+            let data = bytes.get(..count).unwrap_or(bytes);
+            let answer = self.kind.measure(self.format, w, h, data);
+            let pieces = hextile_in_pieces(self.format, w, h, data).map_err(Short::from);
+            if self.kind == Kind::Hextile && pieces != answer {
+                return Ok(account.tell_at(count, "otherwise in pieces")?);
+            }
+            match answer {
+                Err(Short::NeedMore) => {}
+                Err(Short::Bad) => return Ok(account.tell_at(count, "bad")?),
+                Ok(length) => {
+                    tell_whole(account, count, length)?;
+                    return self.write(account, data);
+                }
+            }
+        }
+        Ok(account.tell("needs more")?)
+    }
+}
+
+// Tells at which byte data are whole, and how many they are.
+fn tell_whole(account: &mut Account, count: usize, length: usize) -> Result<(), NoMemory> {
+    account.tell_at(count, "whole")?;
+    account.add_number(length)
+}
+
 /// Tells at which byte data are whole, with one column and one row more than they paint, or refused.
 /// Of Hextile, also field by field.
 pub(crate) fn run_painted(
@@ -27,63 +76,13 @@ pub(crate) fn run_painted(
     size: (u16, u16),
     bytes: &[u8],
 ) -> Result<(), Untold> {
-    let format = formats::of_bits(bits)?;
-    match kind {
-        "rre" => tell_painted(account, Kind::Rre, &format, size, bytes),
-        "hextile" => tell_painted(account, Kind::Hextile, &format, size, bytes),
-        _ => Err(Untold::NoVector),
-    }
-}
-
-fn tell_painted(
-    account: &mut Account,
-    kind: Kind,
-    format: &PixelFormat,
-    size: (u16, u16),
-    bytes: &[u8],
-) -> Result<(), Untold> {
-    let (w, h) = size;
-    for count in 0..=bytes.len() {
-        let data = bytes.get(..count).unwrap_or(bytes);
-        let answer = kind.measure(format, w, h, data);
-        let pieces = hextile_in_pieces(format, w, h, data).map_err(Short::from);
-        if kind == Kind::Hextile && pieces != answer {
-            return Ok(account.tell_at(count, "otherwise in pieces")?);
-        }
-        match answer {
-            Err(Short::NeedMore) => {}
-            Err(Short::Bad) => return Ok(account.tell_at(count, "bad")?),
-            Ok(length) => {
-                tell_whole(account, count, length)?;
-                return write_picture(account, kind, format, size, data);
-            }
-        }
-    }
-    Ok(account.tell("needs more")?)
-}
-
-// Tells at which byte data are whole, and how many they are.
-fn tell_whole(account: &mut Account, count: usize, length: usize) -> Result<(), NoMemory> {
-    account.tell_at(count, "whole")?;
-    account.add_number(length)
-}
-
-// Adds the rows that whole data paint, where they have an area and fit on the canvas.
-fn write_picture(
-    account: &mut Account,
-    kind: Kind,
-    format: &PixelFormat,
-    size: (u16, u16),
-    data: &[u8],
-) -> Result<(), Untold> {
-    let (w, h) = size;
-    if w == 0 || h == 0 || w >= WIDTH || h >= HEIGHT {
-        return Ok(());
-    }
-    match kind.painted(format, w, h, data) {
-        Ok(canvas) => Ok(write_rows(account, &canvas, (w + 1, h + 1))?),
-        Err(_) => Err(Untold::NoVector),
-    }
+    let format = &formats::of_bits(bits)?;
+    let kind = match kind {
+        "rre" => Kind::Rre,
+        "hextile" => Kind::Hextile,
+        _ => return Err(Untold::NoVector),
+    };
+    Drawn { kind, format, size }.tell(account, bytes)
 }
 
 // How many bytes data have that are judged field by field; none where they need more.
