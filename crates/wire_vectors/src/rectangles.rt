@@ -19,6 +19,7 @@ impl Places for TestCanvas {
 }
 
 // A rectangle of this size, whose data are in an encoding of subrectangles and a format.
+#[derive(Clone, Copy)]
 struct Drawn<'a> {
     kind: Kind,
     format: &'a PixelFormat,
