@@ -72,7 +72,7 @@ impl Token {
     pub(crate) fn named<M: Mark>(self) -> (Log<M>, Front<M>, NumberSource<M>)
         requires { self ≡ M.names }
         ensures front { result.1 ≡ total [] }
-        ensures giver { result.2 ≡ 0 }
+        ensures numbers { result.2 ≡ 0 }
     {
         let Token { opened, counter } = self;
         let (log, front) = opened.named::<M>();
