@@ -117,6 +117,7 @@ where
         telling: &telling,
         last_error: &last_error,
     };
+    // These come first, so that no file is made where they can't be had.
     let bell = opening.given(Bell::new(rt), "make a bell for", plan.listen, Refusal::Net)?;
     let token = Token::new(rt.alloc())?;
     let opened = Box::new(rt.alloc(), opening.open(listen)?)?;
