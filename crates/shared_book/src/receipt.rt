@@ -45,7 +45,7 @@ impl<M: Mark> Receipt<M> {
 pub struct Ticket<M: Mark> {
     pub(crate) number: u64,
     pub(crate) front: Front<M>,
-    pub(crate) number_proof: NumberProof<M>,
+    pub(crate) proof: NumberProof<M>,
 }
 
 impl<M: Mark> Model for Ticket<M> {
@@ -61,7 +61,7 @@ impl<M: Mark> Model for Ticket<M> {
       earlier = last_time 0 (take t.number t.front.accepted);
     } };
 
-    ghost invariant = { λ t. M.is_modelled → (M.first + t.number_proof ≡ t.number) × (t.number < length t.front.accepted) };
+    ghost invariant = { λ t. M.is_modelled → (M.first + t.proof ≡ t.number) × (t.number < length t.front.accepted) };
 }
 
 impl<M: Mark> Ticket<M> {
