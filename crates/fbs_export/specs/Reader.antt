@@ -119,8 +119,7 @@ pub record Came {T : Type 0} (keeps : T → List Stamped → List Host → Type 
   pub count : length content ≡ n
   pub heard : (times s : List ℕ) → Stands keeps c times s → Stands keeps d times (s ++ content)
 
--- the reader failed; or the file ends here, and has no fewer bytes more than `least`, and fewer than
--- `most`
+-- the reader failed; or the file ends, with at least `least` bytes behind here and fewer than `most`
 abbrev pub IsStop : ℕ → ℕ → Option (List ℕ) → FbsFault → Type 0
 IsStop least most rest f =
     (f ≡ faults.Read) ⊎ ((f ≡ faults.Truncated) × IfSome rest (λ bytes. (least ≤ length bytes) × (length bytes < most)))

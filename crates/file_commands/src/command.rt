@@ -64,7 +64,7 @@ impl FileCommand<'_> {
     }
 
     // Does it.
-    fn work<R: Files<File = File> + AllocGlobal, O: Write>(
+    fn carry_out<R: Files<File = File> + AllocGlobal, O: Write>(
         &self,
         work: &mut Work<'_, R, O>,
     ) -> Result<(), Ended> {
@@ -104,5 +104,5 @@ pub fn run<R: Files<File = File> + AllocGlobal, O: Write, E: Write>(
     err: &mut E,
 ) -> io::Result<bool> {
     let mut work = Work { rt, progress, out };
-    answer(command.word(), command.work(&mut work), err)
+    answer(command.word(), command.carry_out(&mut work), err)
 }
