@@ -38,7 +38,7 @@ pub trait Disk {
     /// The number of bytes that reads give.
     fn len(&mut self) -> Result<u64, DiskFault>
         ensures length { is_modelled → IfOk result (λ n. n ≡ length (present (history self.old)).now) }
-        ensures same { is_modelled → history self.new ≡ history self.old }
+        ensures history { is_modelled → history self.new ≡ history self.old }
         ensures fault { OnErr result (after_fault self.old self.new) }
         ensures counts { is_modelled → CountsFailure (failures self.old) (failures self.new) result };
 
@@ -47,7 +47,7 @@ pub trait Disk {
         requires fits { place + length buffer.old < 2 ^ 64 }
         requires within { is_modelled → place + length buffer.old ≤ length (present (history self.old)).now }
         ensures read { is_modelled → OnOk result (buffer.new ≡ take (length buffer.old) (drop place (present (history self.old)).now)) }
-        ensures same { is_modelled → history self.new ≡ history self.old }
+        ensures history { is_modelled → history self.new ≡ history self.old }
         ensures fault { OnErr result (after_fault self.old self.new) }
         ensures counts { is_modelled → CountsFailure (failures self.old) (failures self.new) result };
 
@@ -87,7 +87,7 @@ pub(crate) fn one_more_failed(failures: &mut u64) -> DiskFault
 
 // Counts a call where it failed, and passes its answer on.
 pub(crate) fn counted<T>(failures: &mut u64, outcome: Result<T, DiskFault>) -> Result<T, DiskFault>
-    ensures same { result ≡ outcome }
+    ensures outcome { result ≡ outcome }
     ensures counts { CountsFailure failures.old failures.new result }
 {
     if outcome.is_err() {

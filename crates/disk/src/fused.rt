@@ -92,7 +92,7 @@ impl Disk for FusedDisk {
 
     fn len(&mut self) -> Result<u64, DiskFault>
         ensures length { IfOk result (λ n. n ≡ length (present (history_of self.old.disk.disk)).now) }
-        ensures same { LeavesAll self.old self.new }
+        ensures history { LeavesAll self.old self.new }
         ensures fault { OnErr result (IsAfterFault self.old self.new) }
         ensures counts { CountsFailure self.old.failures self.new.failures result }
     {
@@ -108,7 +108,7 @@ impl Disk for FusedDisk {
         requires within { place + length buffer.old ≤ length (present (history_of self.old.disk.disk)).now }
         ensures read { OnOk result
             (buffer.new ≡ take (length buffer.old) (drop place (present (history_of self.old.disk.disk)).now)) }
-        ensures same { LeavesAll self.old self.new }
+        ensures history { LeavesAll self.old self.new }
         ensures fault { OnErr result (IsAfterFault self.old self.new) }
         ensures counts { CountsFailure self.old.failures self.new.failures result }
     {

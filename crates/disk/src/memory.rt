@@ -145,7 +145,7 @@ impl Disk for MemoryDisk {
 
     fn len(&mut self) -> Result<u64, DiskFault>
         ensures length { IfOk result (λ n. n ≡ length (present (history_of self.old)).now) }
-        ensures same { history_of self.new ≡ history_of self.old }
+        ensures history { history_of self.new ≡ history_of self.old }
         ensures fault { OnErr result (IsAsBefore self.old self.new) }
         ensures counts { CountsFailure self.old.failures self.new.failures result }
         ensures never_fails { IsOk result }
@@ -158,7 +158,7 @@ impl Disk for MemoryDisk {
         requires within { place + length buffer.old ≤ length (present (history_of self.old)).now }
         ensures read { OnOk result
             (buffer.new ≡ take (length buffer.old) (drop place (present (history_of self.old)).now)) }
-        ensures same { history_of self.new ≡ history_of self.old }
+        ensures history { history_of self.new ≡ history_of self.old }
         ensures fault { OnErr result (IsAsBefore self.old self.new) }
         ensures counts { CountsFailure self.old.failures self.new.failures result }
         ensures never_fails { IsOk result }

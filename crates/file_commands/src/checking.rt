@@ -3,6 +3,7 @@
 use crate::command::Work;
 use crate::recording::{open_file, open_path};
 use crate::refusal::{Ended, Refusal};
+use fbs_export::Counted;
 use file_disk::{Progress, Watched};
 use std::fs::File;
 use std::io::{BufReader, Write};
@@ -23,22 +24,27 @@ impl<R: Files<File = File> + AllocGlobal, O: Write> Work<'_, R, O> {
     }
 }
 
+// What the FBS file at a path says.
+fn counted<R: Files<File = File> + AllocGlobal>(
+    rt: &R,
+    path: &str,
+    progress: Progress,
+) -> Result<Counted, Ended> {
+    let alloc = rt.alloc();
+    let inner = open_file(rt, path)?;
+    let mut reader = BufReader::new(alloc, Watched { inner, progress })?;
+    Ok(fbs_export::count(alloc, &mut reader).map_err(Refusal::Fbs)?)
+}
+
 impl<R: Files<File = File> + AllocGlobal, O: Write> Work<'_, R, O> {
     /// Reads the FBS file at a path, and writes its size, how many messages it has, and how many bytes of
     /// an unfinished last one.
     pub fn fbs_check(&mut self, path: &str) -> Result<(), Ended> {
-        let alloc = self.rt.alloc();
-        let watched = Watched {
-            inner: open_file(self.rt, path)?,
-            progress: self.progress,
-        };
-        let mut reader = BufReader::new(alloc, watched)?;
-        let told = match fbs_export::count(alloc, &mut reader) {
-            Ok(told) => told,
-            Err(fault) => return Err(Ended::Refused(Refusal::Fbs(fault))),
-        };
-        let ScreenSize { width, height } = told.size;
-        let (messages, rest) = (told.messages, told.rest);
+        let Counted {
+            size: ScreenSize { width, height },
+            messages,
+            rest,
+        } = counted(self.rt, path, self.progress)?;
         Ok(writeln!(
             self.out,
             "fbs {width} {height} messages {messages} rest {rest}"

@@ -4,7 +4,9 @@ use crate::command::Work;
 use crate::recording::{open_file, open_recording};
 use crate::refusal::{Ended, Refusal};
 use fbs_export::{ExportFault, first_exported};
-use file_disk::{Progress, Watched};
+use file_disk::{FileDisk, Progress, Watched};
+use key_index::Indexed;
+use std::alloc::Global;
 use std::fs::{File, Metadata, OpenOptions};
 use std::io;
 use std::io::{BufWriter, Write};
@@ -50,6 +52,23 @@ pub struct Extract<'a> {
     pub out: &'a str,
 }
 
+// Writes a part of an opened recording into a file: how many messages it has.
+fn write_part(
+    alloc: Global,
+    index: &mut Indexed<FileDisk>,
+    what: &Extract<'_>,
+    inner: File,
+    progress: Progress,
+) -> Result<u64, Ended> {
+    let mut writer = BufWriter::new(alloc, Watched { inner, progress })?;
+    let exported = fbs_export::export(alloc, index, what.from_block, what.to, &mut writer);
+    let count = exported.map_err(Refusal::Export)?;
+    writer
+        .flush()
+        .map_err(|_| Refusal::Export(ExportFault::Write))?;
+    Ok(count)
+}
+
 // Writes a part of a recording as an FBS file: how many messages it has.
 fn exported<R: Files<File = File> + AllocGlobal>(
     rt: &R,
@@ -61,23 +80,8 @@ fn exported<R: Files<File = File> + AllocGlobal>(
     let metadata = file.metadata()?;
     let mut index = open_recording(alloc, file, progress)?;
     first_exported(&index, what.from_block, what.to).map_err(Refusal::Export)?;
-    let file = open_out(rt, what.out, &metadata).map_err(|_| Refusal::File)?;
-    let watched = Watched {
-        inner: file,
-        progress,
-    };
-    let mut writer = BufWriter::new(alloc, watched)?;
-    let count = fbs_export::export(
-        alloc,
-        &mut index,
-        what.from_block,
-        what.to,
-        &mut writer,
-    ).map_err(Refusal::Export)?;
-    writer
-        .flush()
-        .map_err(|_| Refusal::Export(ExportFault::Write))?;
-    Ok(count)
+    let out = open_out(rt, what.out, &metadata).map_err(|_| Refusal::File)?;
+    write_part(alloc, &mut index, what, out, progress)
 }
 
 impl<R: Files<File = File> + AllocGlobal, O: Write> Work<'_, R, O> {

@@ -5,8 +5,10 @@ ghost use Rattle.std.specs.Prelude.{◌<◌};
 use crate::command::Work;
 use crate::recording::open_path;
 use crate::refusal::{Ended, Refusal};
-use file_disk::{Progress, Watched};
+use file_disk::{FileDisk, Progress, Watched};
+use key_index::Indexed;
 use pictures::{Film, FilmFault, write_frames};
+use std::alloc::Global;
 use std::fs::File;
 use std::io::{BufWriter, Write};
 use std::rt::Files;
@@ -39,21 +41,39 @@ impl Filming<'_> {
     }
 }
 
+impl From<FilmFault> for Ended {
+    fn from(fault: FilmFault) -> Ended {
+        match fault {
+            FilmFault::Read(fault) => Ended::Refused(Refusal::Screen(fault)),
+            FilmFault::Write(error) => Ended::Failed(error),
+        }
+    }
+}
+
+// Writes the frames of an opened recording, through a buffer.
+fn write_film<O: Write>(
+    alloc: Global,
+    index: &mut Indexed<FileDisk>,
+    film: &Film,
+    out: &mut O,
+    progress: Progress,
+) -> Result<(), Ended> {
+    let mut frames = BufWriter::new(
+        alloc,
+        Watched {
+            inner: out,
+            progress,
+        },
+    )?;
+    write_frames(alloc, index, film, &mut frames)?;
+    Ok(frames.flush()?)
+}
+
 impl<R: Files<File = File> + AllocGlobal, O: Write> Work<'_, R, O> {
     /// Writes the frames of a recording as PPM pictures, one behind the other.
     pub fn frames(&mut self, what: &Filming<'_>) -> Result<(), Ended> {
-        let alloc = self.rt.alloc();
         let mut index = open_path(self.rt, what.recording, self.progress)?;
         let film = what.film(index.last_time());
-        let watched = Watched {
-            inner: &mut *self.out,
-            progress: self.progress,
-        };
-        let mut frames = BufWriter::new(alloc, watched)?;
-        match write_frames(alloc, &mut index, &film, &mut frames) {
-            Ok(()) => Ok(frames.flush()?),
-            Err(FilmFault::Read(fault)) => Err(Ended::Refused(Refusal::Screen(fault))),
-            Err(FilmFault::Write(error)) => Err(Ended::Failed(error)),
-        }
+        write_film(self.rt.alloc(), &mut index, &film, self.out, self.progress)
     }
 }

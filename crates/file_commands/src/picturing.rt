@@ -80,18 +80,28 @@ fn write_file<R: Files<File = File> + AllocGlobal>(
     Ok(())
 }
 
+// The screen that is asked for, and which file it was read from.
+fn screen_in<R: Files<File = File> + AllocGlobal>(
+    rt: &R,
+    what: &Scene<'_>,
+    progress: Progress,
+) -> Result<(Screen, Metadata), Ended> {
+    let alloc = rt.alloc();
+    let file = open_file(rt, what.recording)?;
+    let metadata = file.metadata()?;
+    let mut index = open_recording(alloc, file, progress)?;
+    let screen = screen_of(alloc, &mut index, what.moment)?;
+    Ok((screen, metadata))
+}
+
 impl<R: Files<File = File> + AllocGlobal, O: Write> Work<'_, R, O> {
     /// Writes the screen at a moment of a recording as a picture.
     pub fn picture(&mut self, what: &Scene<'_>) -> Result<(), Ended> {
         let (rt, progress) = (self.rt, self.progress);
-        let alloc = rt.alloc();
-        let file = open_file(rt, what.recording)?;
-        let metadata = file.metadata()?;
-        let mut index = open_recording(alloc, file, progress)?;
-        let screen = screen_of(alloc, &mut index, what.moment)?;
+        let (screen, recording) = screen_in(rt, what, progress)?;
         match what.out {
-            Some(path) => write_file(rt, path, &metadata, &screen, *what, progress),
-            None => Ok(write_picture(alloc, &screen, what.format, self.out)?),
+            Some(path) => write_file(rt, path, &recording, &screen, *what, progress),
+            None => Ok(write_picture(rt.alloc(), &screen, what.format, self.out)?),
         }
     }
 }

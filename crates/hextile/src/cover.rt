@@ -90,7 +90,7 @@ fn run_length(numbers: &[u32], start: usize, most: u8, number: u32) -> u8
     requires { start + most ≤ length numbers.now }
     ensures most { result ≤ most }
     ensures some { 0 < most → slice_index numbers.now start ≡ number → 0 < result }
-    ensures same { (k : ℕ) → k < result → slice_index numbers.now (start + k) ≡ number }
+    ensures one_number { (k : ℕ) → k < result → slice_index numbers.now (start + k) ≡ number }
 {
     for k in 0..most {
         if numbers[start + k as usize] != number {

@@ -33,18 +33,32 @@ struct Conversation {
     said: Vec<u8>,
 }
 
+// Feeds a session a host's bytes, in pieces of this length.
+fn feed_all(
+    session: &mut HostSession,
+    bytes: &[u8],
+    length: usize,
+    talk: &mut Conversation,
+) -> Result<(), HostFault>
+    requires { 0 < length }
+{
+    for piece in bytes.chunks(length) {
+        session.feed(piece, &mut talk.messages)?;
+        session.out(&mut talk.said)?;
+    }
+    Ok(())
+}
+
 // What comes of a session with a host whose bytes come in pieces of this length.
 fn conversation_of(alloc: Global, bytes: &[u8], length: usize) -> Result<Conversation, HostFault>
     requires { 0 < length }
 {
     let mut session = HostSession::new(alloc, None);
-    let mut messages = Vec::new(alloc);
-    let mut said = Vec::new(alloc);
-    for piece in bytes.chunks(length) {
-        session.feed(piece, &mut messages)?;
-        session.out(&mut said)?;
-    }
-    Ok(Conversation { messages, said })
+    let mut talk = Conversation {
+        messages: Vec::new(alloc),
+        said: Vec::new(alloc),
+    };
+    feed_all(&mut session, bytes, length, &mut talk).map(|()| talk)
 }
 
 // What is to be said to a host of these messages: a request for each update.
@@ -58,8 +72,32 @@ fn answers_to(alloc: Global, messages: &[HostMessage]) -> io::Result<Vec<u8>> {
     Ok(answers)
 }
 
-/// Prints how many messages a session gives, and how many bytes it says, in one piece and in pieces
-/// of 1, 7 and 1,000 bytes, where the messages are these and a request answers each update.
+// Prints how many messages a session gives, and how many bytes it says, where its bytes come in
+// pieces of this length and it gives these messages and answers.
+fn print_session(
+    rt: &HostRuntime,
+    bytes: &[u8],
+    length: usize,
+    messages: &[HostMessage],
+    answers: &[u8],
+) -> io::Result<()>
+    requires { 0 < length }
+{
+    match conversation_of(rt.alloc(), bytes, length) {
+        Err(fault) => println!(rt; "session refused {}", fault.number()),
+        Ok(talk) if are_same(&talk.messages, messages) && talk.said.as_slice() == answers => {
+            println!(rt;
+                "session in pieces of {length}: {} messages, {} bytes said",
+                talk.messages.len(),
+                talk.said.len()
+            )
+        }
+        Ok(_) => println!(rt; "session in pieces of {length}: another"),
+    }
+}
+
+/// Prints what a session gives, in one piece and in pieces of 1, 7 and 1,000 bytes, where the
+/// messages are these and a request answers each update.
 pub(crate) fn print_sessions(
     rt: &HostRuntime,
     stream: &[u8],
@@ -70,17 +108,7 @@ pub(crate) fn print_sessions(
     bytes.extend_from_slice(stream)?;
     let answers = answers_to(alloc, messages)?;
     for length in [bytes.len().max(1), 1, 7, 1_000] {
-        match conversation_of(alloc, &bytes, length) {
-            Err(fault) => println!(rt; "session refused {}", fault.number())?,
-            Ok(talk) if are_same(&talk.messages, messages) && talk.said == answers => {
-                println!(rt;
-                    "session in pieces of {length}: {} messages, {} bytes said",
-                    talk.messages.len(),
-                    talk.said.len()
-                )?;
-            }
-            Ok(_) => println!(rt; "session in pieces of {length}: another")?,
-        }
+        print_session(rt, &bytes, length, messages, &answers)?;
     }
     Ok(())
 }

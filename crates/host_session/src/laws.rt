@@ -32,7 +32,7 @@ pub fn a_stopped_session_follows_its_stream()
 /// A stream is one conversation at most, and none that is refused is one. A stream that is refused
 /// is refused with one fault and one reason.
 pub fn one_conversation()
-    ensures same { (expected : ExpectedScreen) → (stream said answered : List ℕ)
+    ensures one_end { (expected : ExpectedScreen) → (stream said answered : List ℕ)
         → (told known : Option Told) → (messages others : List Host)
         → IsConversation expected stream told messages said
         → IsConversation expected stream known others answered

@@ -23,7 +23,7 @@ pub fn end_of_number(numbers: &[u32], start: usize, number: u32) -> usize
     requires { start ≤ length numbers.now }
     ensures reached { start ≤ result }
     ensures within { result ≤ length numbers.now }
-    ensures same { (k : ℕ) → start ≤ k → k < result → slice_index numbers.now k ≡ number }
+    ensures one_number { (k : ℕ) → start ≤ k → k < result → slice_index numbers.now k ≡ number }
     ensures another { result < length numbers.now → slice_index numbers.now result ≡ number → ⊥ }
 {
     let mut end = start;

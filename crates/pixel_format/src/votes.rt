@@ -9,7 +9,7 @@ ghost use Rattle.pixel_format.specs.Number.{HasMajority};
 pub fn most_voted(numbers: &[u32], run: usize) -> usize
     requires some { 0 < run }
     requires within { run ≤ length numbers.now }
-    requires same { (k : ℕ) → k < run → slice_index numbers.now k ≡ slice_index numbers.now 0 }
+    requires one_number { (k : ℕ) → k < run → slice_index numbers.now k ≡ slice_index numbers.now 0 }
     ensures within { result < length numbers.now }
     ensures majority { HasMajority numbers.now result }
 {

@@ -62,7 +62,7 @@ impl Timetable {
         ensures due { IsDue self.old.pace self.new.played result }
         ensures played { self.new.played ≡ self.old.played + shortened self.old.longest (time - self.old.last) }
         ensures last { self.old.last ≤ time → self.new.last ≡ time }
-        ensures same { (self.new.pace ≡ self.old.pace) × (self.new.longest ≡ self.old.longest) }
+        ensures program { (self.new.pace ≡ self.old.pace) × (self.new.longest ≡ self.old.longest) }
     {
         let pause = time.saturating_sub(self.last);
         self.played += u64::from(self.shortened(pause));

@@ -43,7 +43,7 @@ fn end_of_run(numbers: &[u32], start: usize) -> usize
     requires { start < length numbers.now }
     ensures some { start < result }
     ensures within { result ≤ length numbers.now }
-    ensures same { (k : ℕ) → start ≤ k → k < result → slice_index numbers.now k ≡ slice_index numbers.now start }
+    ensures one_number { (k : ℕ) → start ≤ k → k < result → slice_index numbers.now k ≡ slice_index numbers.now start }
 {
     end_of_number(numbers, start + 1, numbers[start])
 }
@@ -111,7 +111,7 @@ fn run_end(numbers: &[u32], start: usize, column: u16, row: u16, reach: &[u16]) 
     requires fits { start + length reach.now ≤ length numbers.now }
     ensures some { column < result }
     ensures within { result ≤ length reach.now }
-    ensures same { (k : ℕ) → column ≤ k → k < result → slice_index numbers.now (start + k) ≡ slice_index numbers.now (start + column) }
+    ensures one_number { (k : ℕ) → column ≤ k → k < result → slice_index numbers.now (start + k) ≡ slice_index numbers.now (start + column) }
 {
     let number = numbers[start + column as usize];
     let mut end = column + 1;

@@ -36,11 +36,11 @@ pub trait HostSource<T>: Drop {
     /// The next message, of the source's size and format; `None` ends the host.
     fn next(&mut self) -> Option<(u32, HostMessage)>
         ensures sized { IfSome result (λ r. (r.1.format ≡ format self.old) × (r.1.width ≡ width self.old) × (r.1.height ≡ height self.old)) }
-        ensures same { (format self.new ≡ format self.old) × (width self.new ≡ width self.old) × (height self.new ≡ height self.old) };
+        ensures screen { (format self.new ≡ format self.old) × (width self.new ≡ width self.old) × (height self.new ≡ height self.old) };
 
     /// Takes the ticket of the message that was given last.
     fn accepted(&mut self, ticket: T)
-        ensures same { (format self.new ≡ format self.old) × (width self.new ≡ width self.old) × (height self.new ≡ height self.old) };
+        ensures screen { (format self.new ≡ format self.old) × (width self.new ≡ width self.old) × (height self.new ≡ height self.old) };
 }
 
 /// What takes the flusher's receipts, one for each commit.
@@ -93,13 +93,13 @@ pub trait ViewerSink<T, E>: Drop {
 
     /// Takes word of its seat, which is behind so many messages: it stands there, without a screen.
     fn seated(&mut self, count: u64)
-        ensures same { (width self.new ≡ width self.old) × (height self.new ≡ height self.old) }
+        ensures size { (width self.new ≡ width self.old) × (height self.new ≡ height self.old) }
         ensures moved { position self.new ≡ count }
         ensures bare { fresh self.new ≡ true };
 
     /// What it wants. At `Seek` it stands behind so many messages from then on, without a screen.
     fn wish(&mut self) -> ViewerWish
-        ensures same { (width self.new ≡ width self.old) × (height self.new ≡ height self.old) }
+        ensures size { (width self.new ≡ width self.old) × (height self.new ≡ height self.old) }
         ensures moved { position self.new ≡ position_after result (position self.old) }
         ensures bare { fresh self.new ≡ fresh_after result (fresh self.old) };
 
@@ -109,7 +109,7 @@ pub trait ViewerSink<T, E>: Drop {
         requires place { (slice_of receipt).first ≡ position self.old }
         requires start { has_start (slice_of receipt) ≡ fresh self.old }
         requires room { (slice_of receipt).first + length (slice_of receipt).messages.items < 2 ^ 64 }
-        ensures same { (width self.new ≡ width self.old) × (height self.new ≡ height self.old) }
+        ensures size { (width self.new ≡ width self.old) × (height self.new ≡ height self.old) }
         ensures moved { position self.new ≡ (slice_of receipt).first + length (slice_of receipt).messages.items }
         ensures shown { fresh self.new ≡ false };
 
@@ -119,13 +119,13 @@ pub trait ViewerSink<T, E>: Drop {
     fn end(&mut self, ending: E)
         requires all { count_of ending ≡ position self.old }
         requires shown { fresh self.old ≡ false }
-        ensures same { (width self.new ≡ width self.old) × (height self.new ≡ height self.old) }
+        ensures size { (width self.new ≡ width self.old) × (height self.new ≡ height self.old) }
         ensures stays { (position self.new ≡ position self.old) × (fresh self.new ≡ fresh self.old) };
 
     /// Takes word that memory is wanting, so that nothing is handed to it; it is asked again a
     /// little later.
     fn shortage(&mut self)
-        ensures same { (width self.new ≡ width self.old) × (height self.new ≡ height self.old) }
+        ensures size { (width self.new ≡ width self.old) × (height self.new ≡ height self.old) }
         ensures stays { (position self.new ≡ position self.old) × (fresh self.new ≡ fresh self.old) }
     {}
 }

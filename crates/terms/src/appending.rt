@@ -13,7 +13,7 @@ pub fn whole_or_none(
     start: usize,
     bytes: &mut Vec<u8>,
 ) -> Result<(), NoMemory>
-    ensures same { result ≡ appended }
+    ensures outcome { result ≡ appended }
     ensures ok { OnOk result (bytes.new.items ≡ bytes.old.items) }
     ensures err { OnErr result (bytes.new.items ≡ take start bytes.old.items) }
 {

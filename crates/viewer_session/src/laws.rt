@@ -32,7 +32,7 @@ pub fn a_refused_stream_is_not_followed()
 /// name that were stopped in it, however it was cut, have taken the same messages before the fault,
 /// and put out or owe the same bytes of the handshake; but for those of which memory ran out.
 pub fn one_refusal()
-    ensures same { (s t : Session) → (stream told put : List ℕ)
+    ensures one_end { (s t : Session) → (stream told put : List ℕ)
         → (messages others : List ClientMessage) → (f g : SessionFault) → AreAlike s t
         → IsStopped s stream messages told f → IsStopped t stream others put g
         → (f ≡ faults.Wire wire.NoMemory → ⊥) → (g ≡ faults.Wire wire.NoMemory → ⊥)

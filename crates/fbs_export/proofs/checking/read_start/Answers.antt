@@ -1,4 +1,5 @@
 use Rattle.std.proofs.Common.{◌≡◌, ℕ, List, false, length, take, sym, ap, ◌∙◌, arith}
+use Rattle.std.proofs.lemmas.Grind.{common_steps}
 use Rattle.std.proofs.KnownBytes.{Consumes-whole}
 use Rattle.std.proofs.lemmas.List.{length-take, take_all, take_at}
 use Rattle.fbs_export.specs.Blocks.{is_start}
@@ -19,3 +20,6 @@ returns-then-not-begins_a_file-clause-fault g c =
     let bad : is_start bytes ≡ false = ap is_start all ∙ sym c.begins_a_file.ensures ∙ c.if-not-begins_a_file.true in
     let long : length bytes ≡ 12 = ap (λ z. length z) all ∙ c.fill.ensures.size in
     of_front _ _ bytes (λ b. is_start (take 12 b) ≡ false) c.in_ok-came.ensures.read (λ behind. ap is_start (take_at bytes behind 12 long) ∙ bad)
+
+pub returns-clause-started : goal.returns-clause-started
+returns-clause-started g c = grind (arith, common_steps)

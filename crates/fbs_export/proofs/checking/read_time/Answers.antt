@@ -1,4 +1,5 @@
 use Rattle.std.proofs.Common.{◌≡◌, ◌<◌, ◌≤◌, ◌+◌, ℕ, List, length, take, drop, sym, ap, ◌∙◌, arith, rules, refl, inr}
+use Rattle.std.proofs.lemmas.Grind.{common_steps}
 use Rattle.std.proofs.KnownBytes.{Consumes-whole}
 use Rattle.std.proofs.lemmas.List.{length-take, take_all}
 use Rattle.std.proofs.lemmas.Slice.{take-put_mid}
@@ -29,3 +30,12 @@ returns-clause-timed g c =
       count = omega (arith, ap (λ z. length z) whole, size, c.padding_of-padding.ensures.value);
       is = sym (number_again c.number_of.result c.number_of.type_inv) ∙ ap (λ l. u32_at l 0) (c.number_of.ensures ∙ timed ∙ ap (λ k. drop k last) c.padding_of-padding.ensures.value);
     }
+
+pub slice_bounds-last-end-2 : goal.slice_bounds-last-end-2
+slice_bounds-last-end-2 g c = grind (arith, common_steps)
+
+pub slice_bounds-split_at-end : goal.slice_bounds-split_at-end
+slice_bounds-split_at-end g c = grind (arith, common_steps)
+
+pub number_of-requires : goal.number_of-requires
+number_of-requires g c = grind (arith, common_steps)

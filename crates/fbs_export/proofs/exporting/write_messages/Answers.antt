@@ -1,4 +1,5 @@
 use Rattle.std.proofs.Common.{◌≡◌, ◌<◌, ◌+◌, ◌-◌, ℕ, suc, List, ◌∷◌, take, drop, sym, ap, ◌∙◌, subst, arith, Some}
+use Rattle.std.proofs.lemmas.Grind.{common_steps}
 use Rattle.std.specs.List.{slice_get}
 use Rattle.std.proofs.KnownBytes.{Appends-trans}
 use Rattle.disk.specs.FailuresLaws.{unfailed}
@@ -51,3 +52,6 @@ loop-number-preserved g c =
           (inv.wrote m) (left m) (c.saturating_sub-time.ensures ∙ ap (λ z. s.time - z) (base m)) c.bytes.ensures.value
           (λ x p. Appends-trans _ _ _ x _ p c.in_ok-write_block.ensures.all));
     }
+
+pub returns-clause-all : goal.returns-clause-all
+returns-clause-all g c = grind (arith, common_steps)

@@ -12,7 +12,7 @@ loop-end-init c = record {
       let at : (c.args.row + b) * c.args.w + (c.args.column + a) ≡ c.args.row * c.args.w + c.args.column + a =
       let top : c.args.row + b ≡ c.args.row = omega arith in
       ap (λ n. n * c.args.w + (c.args.column + a)) top ∙ omega arith in
-      ap (λ n. get_or c.args.numbers.now n 0) at ∙ c.run_length-width.ensures.same a across;
+      ap (λ n. get_or c.args.numbers.now n 0) at ∙ c.run_length-width.ensures.one_number a across;
 }
 
 pub loop-end-preserved : goal.loop-end-preserved
@@ -26,7 +26,7 @@ loop-end-preserved c =
         | inl level ↦
             let at : (c.args.row + b) * c.args.w + (c.args.column + a) ≡ end * c.args.w + c.args.column + a =
             ap (λ n. n * c.args.w + (c.args.column + a)) level ∙ omega arith in
-            ap (λ n. get_or c.args.numbers.now n 0) at ∙ c.run_length.ensures.same a (omega (arith, across, c.if-run_length-width.true))
+            ap (λ n. get_or c.args.numbers.now n 0) at ∙ c.run_length.ensures.one_number a (omega (arith, across, c.if-run_length-width.true))
         | inr above ↦ c.loop-end.invariant.same a b across (omega (arith, down, above, some))
       ];
     }

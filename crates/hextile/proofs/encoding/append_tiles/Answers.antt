@@ -1,4 +1,5 @@
 use Rattle.std.proofs.Common.{◌≡◌, ◌<◌, ◌*◌, length, take, sym, arith}
+use Rattle.std.proofs.lemmas.Grind.{common_steps}
 use Rattle.std.proofs.lemmas.List.{length-take-le, take-map}
 use Rattle.pixel_format.specs.Number.{number_color, colors_of}
 use Rattle.hextile.specs.Tiles.{tile_count}
@@ -52,3 +53,9 @@ returns-clause-ok c =
     let least = c.loop-number-test.false in
     let all : c.loop-number.number ≡ tile_count c.args.w c.args.h = omega (arith, most, least, c.count_tiles-number-end.ensures) in
     all_written c.args.format.now c.args.w c.args.h (colors_of c.args.format.now c.args.numbers.now) c.loop-number.number c.loop-number.known c.args.bytes.now.items c.loop-number.bytes.items all c.loop-number.invariant
+
+pub tile_numbers-tile-requires-clause-rows : goal.tile_numbers-tile-requires-clause-rows
+tile_numbers-tile-requires-clause-rows c = grind (arith, common_steps)
+
+pub returns-in_err-known-clause-grows : goal.returns-in_err-known-clause-grows
+returns-in_err-known-clause-grows c = grind (arith, common_steps)

@@ -1,4 +1,5 @@
 use Rattle.std.proofs.Common.{◌≡◌, ◌+◌, ◌∙◌, ◌++◌, suc, true, false, length, sym, ap, arith, append_assoc}
+use Rattle.std.proofs.lemmas.Grind.{common_steps}
 use Rattle.std.proofs.lemmas.List.{length-append}
 use Rattle.hextile.specs.Grammar.{subrectangle_bytes, subrectangle_of, is_inside}
 use Rattle.hextile.specs.Measuring.{width_of, height_of}
@@ -38,3 +39,6 @@ loop-left-preserved c =
       some = λ all. absurd (omega (arith, c.split_at.ensures.back_len, size));
       fewer = omega arith;
     }
+
+pub returns-clause-goes : goal.returns-clause-goes
+returns-clause-goes c = grind (arith, common_steps)

@@ -1,4 +1,5 @@
-use Rattle.std.proofs.Common.{List, ◌++◌, map, subst, ap, ◌∙◌}
+use Rattle.std.proofs.Common.{List, ◌++◌, map, subst, ap, ◌∙◌, arith}
+use Rattle.std.proofs.lemmas.Grind.{common_steps}
 use Rattle.std.specs.List.{flat_map}
 use Rattle.std.proofs.lemmas.List.{take_all}
 use Rattle.terms.specs.Appending.{Appends}
@@ -30,3 +31,6 @@ returns-clause-written c =
     c.loop-part.invariant.written
     ∙ ap (λ (ps : List Part). c.args.bytes.now.items ++ flat_map each ps) (take_all c.loop-part.part-index c.args.parts.now c.loop-part-test.false)
     ∙ ap (λ z. c.args.bytes.now.items ++ z) (flat_map-map (part_bytes c.args.format.now) (drawn c.args.colored) c.args.parts.now)
+
+pub returns-in_err-append_part-clause-grows : goal.returns-in_err-append_part-clause-grows
+returns-in_err-append_part-clause-grows c = grind (arith, common_steps)

@@ -1,8 +1,8 @@
 use Rattle.host_session.proofs.Same.{one_conversation, not_refused, one_refusal}
 use Rattle.host_session.proofs.laws.one_conversation.Goals as goal
 
-pub returns-clause-same : goal.returns-clause-same
-returns-clause-same c = λ expected stream said answered told known messages others.
+pub returns-clause-one_end : goal.returns-clause-one_end
+returns-clause-one_end c = λ expected stream said answered told known messages others.
     one_conversation expected stream said answered told known messages others
 
 pub returns-clause-not_refused : goal.returns-clause-not_refused

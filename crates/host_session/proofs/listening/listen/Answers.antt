@@ -1,4 +1,5 @@
-use Rattle.std.proofs.Common.{◌≡◌, ◌++◌, ◌-◌, List, length, take, drop, refl, ap, ◌∙◌, rules}
+use Rattle.std.proofs.Common.{◌≡◌, ◌++◌, ◌-◌, List, length, take, drop, refl, ap, ◌∙◌, rules, arith}
+use Rattle.std.proofs.lemmas.Grind.{common_steps}
 use Rattle.std.proofs.lemmas.List.{take_rest}
 use Rattle.terms.specs.Reading.{Bad}
 use Rattle.rfb_wire.specs.Grammar.{message_at, message_limit}
@@ -60,3 +61,12 @@ returns-in-Err-clause-faults c =
             fault = given_so (message_at (message_limit r.format) r.width r.height g.rest ≡ Bad f) g.fault;
           };
     })
+
+pub offset_bounds-deref-start : goal.offset_bounds-deref-start
+offset_bounds-deref-start c = grind (arith, common_steps)
+
+pub slice_bounds-write_requests-count : goal.slice_bounds-write_requests-count
+slice_bounds-write_requests-count c = grind (arith, common_steps)
+
+pub slice_bounds-write_requests-start : goal.slice_bounds-write_requests-start
+slice_bounds-write_requests-start c = grind (arith, common_steps)

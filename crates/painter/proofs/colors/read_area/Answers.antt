@@ -1,4 +1,5 @@
-use Rattle.std.proofs.Common.{◌≡◌, ◌*◌, ◌<◌, length, ◌∙◌}
+use Rattle.std.proofs.Common.{◌≡◌, ◌*◌, ◌<◌, length, ◌∙◌, arith}
+use Rattle.std.proofs.lemmas.Grind.{common_steps}
 use Rattle.painter.proofs.Rows.{range_len}
 use Rattle.painter.proofs.RowsRead.{row_read, rows_more, screen_more}
 use Rattle.painter.proofs.colors.read_area.Goals as goal
@@ -19,3 +20,6 @@ loop-row-preserved c =
       value = rows_more c.args.pixels.now c.loop-row.colors c.read_row.new.colors width area.w area.x area.y row _ (range_len (row * area.w) area.w) read c.loop-row.invariant.value;
       screen = screen_more c.args.pixels.now c.loop-row.colors c.read_row.new.colors width area.w area.x area.y row _ read c.loop-row.invariant.screen;
     })
+
+pub read_row-requires : goal.read_row-requires
+read_row-requires c = grind (arith, common_steps)

@@ -1,4 +1,5 @@
 use Rattle.std.proofs.Common.{◌≡◌, ◌+◌, ◌-◌, ◌<◌, ◌∙◌, arith}
+use Rattle.std.proofs.lemmas.Grind.{common_steps}
 use Rattle.rect_codec.specs.Picture.{copied_picture}
 use Rattle.painter.specs.Pixels.{color_in}
 use Rattle.painter.proofs.Rows.{rows_from, row_copied, row_above}
@@ -25,3 +26,9 @@ loop-row-preserved c =
       copied = rw c.from-width.ensures
           (λ x y across. row_above c.loop-row.pixels c.copy_row.new.pixels width area (copied_picture source area initial) (initial x y) row x y writes across within (so_far x y across));
     }
+
+pub copy_row-requires-clause-source : goal.copy_row-requires-clause-source
+copy_row-requires-clause-source c = grind (arith, common_steps)
+
+pub copy_row-requires-clause-destination : goal.copy_row-requires-clause-destination
+copy_row-requires-clause-destination c = grind (arith, common_steps)

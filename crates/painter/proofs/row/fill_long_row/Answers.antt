@@ -1,4 +1,5 @@
 use Rattle.std.proofs.Common.{◌*◌, ◌+◌, ◌≤◌, ◌∙◌, List, length, ap, arith}
+use Rattle.std.proofs.lemmas.Grind.{common_steps}
 use Rattle.std.proofs.lemmas.List.{get_or-replicate}
 use Rattle.painter.specs.declared.pixel.Pixel.{Pixel}
 use Rattle.painter.specs.Pixels.{black_pixel, color_of, pixel_color_at}
@@ -14,3 +15,6 @@ loop-k-preserved c = λ j lt.
     (λ k less. ap (λ (line : List Pixel). pixel_color_at line k) c.copy_from_slice.ensures.after
     ∙ ap (λ (p : Pixel). color_of p) (get_or-replicate 32 k c.args.pixel black_pixel (omega (arith, less))))
     j (omega (arith, lt))
+
+pub returns : goal.returns
+returns c = grind (arith, common_steps)

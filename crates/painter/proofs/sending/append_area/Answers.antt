@@ -1,4 +1,5 @@
-use Rattle.std.proofs.Common.{ℕ, ◌+◌, ◌*◌, List, take, drop, sym, subst}
+use Rattle.std.proofs.Common.{ℕ, ◌+◌, ◌*◌, List, take, drop, sym, subst, arith}
+use Rattle.std.proofs.lemmas.Grind.{common_steps}
 use Rattle.pixel_format.specs.declared.Color.{Color}
 use Rattle.rect_codec.specs.Written.{ArePixels}
 use Rattle.terms.specs.Appending.{Appends}
@@ -21,3 +22,6 @@ loop-row-preserved c =
     (sym (rows_joined (λ n. seen_colors f (take area.w (drop ((area.y + n) * width + area.x) pixels))) row))
     (both_appended (ArePixels f) (are_joined f) (seen_area f pixels width area row) (seen_colors f (take area.w (drop start pixels))) c.args.out.now.items c.loop-row.out.items c.append_row.new.out.items
     c.loop-row.invariant told)
+
+pub returns-in_err-append_row-clause-grows : goal.returns-in_err-append_row-clause-grows
+returns-in_err-append_row-clause-grows c = grind (arith, common_steps)

@@ -1,4 +1,5 @@
 use Rattle.std.proofs.Common.{◌≡◌, ◌*◌, length, ◌∙◌, ap, arith}
+use Rattle.std.proofs.lemmas.Grind.{common_steps}
 use Rattle.std.proofs.Math.Nat.{mul-le-mul_left}
 use Rattle.pixel_format.specs.Pixel.{converted, pixel_of}
 use Rattle.painter.specs.Pixels.{color_of}
@@ -18,3 +19,6 @@ pub slice_bounds-write_number-end : goal.slice_bounds-write_number-end
 slice_bounds-write_number-end c =
     let room : length c.loop-k.bytes ≡ length c.args.row.now * c.args.size = c.loop-k.auto.bytes ∙ c.requires.room in
     omega (arith, room, mul-le-mul_left c.args.size c.loop-k-test.true)
+
+pub overflow_add-start : goal.overflow_add-start
+overflow_add-start c = grind (arith, common_steps)

@@ -13,8 +13,8 @@ more : (numbers : List ℕ) (start end n : ℕ) (number : ℕ) → end + 8 ≤ l
 more numbers start end n number fits is so_far next = record {
   reached = omega (arith, so_far.reached);
   within = fits;
-  same = λ k above below. elim (cases_lt k end) [
-    | inl before ↦ so_far.same k above before
+  one_number = λ k above below. elim (cases_lt k end) [
+    | inl before ↦ so_far.one_number k above before
     | inr behind ↦
         let at : end + (k - end) ≡ k = omega arith in
         let here : k - end < n = omega arith in

@@ -5,7 +5,7 @@ use Rattle.pixel_format.proofs.runs.end_of_number.Given as goal
 pub record OneNumber (numbers : List ℕ) (start end : ℕ) (number : ℕ) : Type 0 where
   pub reached : start ≤ end
   pub within : end ≤ length numbers
-  pub same : (k : ℕ) → start ≤ k → k < end → get_or numbers k 0 ≡ number
+  pub one_number : (k : ℕ) → start ≤ k → k < end → get_or numbers k 0 ≡ number
 
 abbrev pub invariant-many : goal.invariant-many
 invariant-many l = OneNumber l.numbers l.start l.end l.number

@@ -4,7 +4,7 @@ use Rattle.pixel_format.proofs.votes.most_voted.Goals as goal
 use Rattle.pixel_format.proofs.votes.most_voted.Goals.{then-votes-eq0, else-votes-eq0+then-numbers-k, else-votes-eq0+else-numbers-k}
 
 pub loop-k-init : goal.loop-k-init
-loop-k-init c = record { votes = run_votes c.args.numbers.now c.args.run c.requires.within c.requires.same c.requires.some }
+loop-k-init c = record { votes = run_votes c.args.numbers.now c.args.run c.requires.within c.requires.one_number c.requires.some }
 
 pub loop-k-preserved : goal.loop-k-preserved
 loop-k-preserved c =

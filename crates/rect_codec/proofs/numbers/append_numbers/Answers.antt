@@ -1,3 +1,5 @@
+use Rattle.std.proofs.Common.{arith}
+use Rattle.std.proofs.lemmas.Grind.{common_steps}
 use Rattle.pixel_format.specs.Number.{colors_of}
 use Rattle.rect_codec.proofs.PartsDrawn.{short_rectangle}
 use Rattle.rect_codec.proofs.numbers.append_numbers.Goals as goal
@@ -11,3 +13,6 @@ returns-in-Ok-true c = record {
   unchanged = λ no. absurd (cc);
   err = tt;
 }
+
+pub returns : goal.returns
+returns c = grind (arith, common_steps)

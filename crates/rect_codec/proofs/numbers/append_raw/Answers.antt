@@ -1,4 +1,5 @@
-use Rattle.std.proofs.Common.{◌≡◌, ◌*◌, ◌∙◌, length, subst, sym}
+use Rattle.std.proofs.Common.{◌≡◌, ◌*◌, ◌∙◌, length, subst, sym, arith}
+use Rattle.std.proofs.lemmas.Grind.{common_steps}
 use Rattle.std.specs.Prelude.{OnOk}
 use Rattle.std.proofs.lemmas.List.{length-map}
 use Rattle.pixel_format.specs.Number.{number_color, colors_of}
@@ -17,10 +18,13 @@ returns-clause-ok c =
     let old = c.args.out.now.items in
     let between = c.append_head.new.out.items in
     let new = c.append_numbers-appended.new.bytes.items in
-    let same = sym c.whole_or_none.ensures.same in
+    let same = sym c.whole_or_none.ensures.outcome in
     let size : length colors ≡ area.h * area.w = length-map c.args.numbers.now (number_color f) ∙ c.requires.size in
     let whole : OnOk c.whole_or_none.result (Appends (IsRectangle f area colors encodings.Raw) old new) =
     on_ok_both c.whole_or_none.result (rw same at c.append_numbers-appended.ensures.ok) (rw same at c.append_numbers-appended.ensures.written) (λ are written.
     raw_rectangle f area colors old between new size c.in_ok-append_head.ensures.ok (pixels_appended f colors between new are written)) in
     on_ok_both c.whole_or_none.result whole c.whole_or_none.ensures.ok (λ rectangle kept.
     subst (Appends (IsRectangle f area colors encodings.Raw) old) (sym kept) rectangle)
+
+pub returns-clause-err : goal.returns-clause-err
+returns-clause-err c = grind (arith, common_steps)

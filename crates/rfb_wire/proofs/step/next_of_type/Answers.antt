@@ -1,4 +1,5 @@
-use Rattle.std.proofs.Common.{slice_index, nat_eq, eq-eqb, ap, ◌∙◌}
+use Rattle.std.proofs.Common.{slice_index, nat_eq, eq-eqb, ap, ◌∙◌, arith}
+use Rattle.std.proofs.lemmas.Grind.{common_steps}
 use Rattle.std.proofs.lemmas.Bool.{ne_eqb}
 use Rattle.rfb_wire.specs.Grammar.{other_at}
 use Rattle.rfb_wire.specs.PartialMessage.{go_on, resume}
@@ -34,3 +35,6 @@ returns-else-number-eq3-clause-faults c = λ width height field more one is.
     type_of_other width height field more one (ap (λ t. nat_eq t 0) is ∙ ne_eqb c.args.number 0 c.if-number-eq0.false)
     ∙ ap (λ t. other_at t more) is
     ∙ other_unknown c.args.number more (ne_eqb c.args.number 1 c.if-number-eq1.false) (ne_eqb c.args.number 2 c.if-number-eq2.false) (ne_eqb c.args.number 3 c.if-number-eq3.false)
+
+pub returns-then-number-eq0-clause-kind : goal.returns-then-number-eq0-clause-kind
+returns-then-number-eq0-clause-kind c = grind (arith, common_steps)

@@ -39,7 +39,7 @@ loop-column-preserved-then-line-column c =
       within = omega (arith, within, c.loop-column.auto.reach);
       apart = omega (arith, c.loop-column.invariant.apart, others_le c.args.ground.background c.args.ground.pixels.numbers.now (c.args.row * w + column) (c.args.row * w + end) (omega arith));
       reaches = skip_run c.args.format.now c.args.ground.pixels.numbers.now w c.args.ground.pixels.h c.args.ground.background c.loop-column.parts.items c.loop-column.reach column c.args.row end n c.requires.row c.loop-column.invariant.reaches (omega arith) within
-          c.if-line-column.true c.end_of_number-column.ensures.same;
+          c.if-line-column.true c.end_of_number-column.ensures.one_number;
     }
 
 pub loop-column-preserved-then-reach-column : goal.loop-column-preserved-then-reach-column

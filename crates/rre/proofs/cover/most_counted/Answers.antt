@@ -6,7 +6,7 @@ loop-start-preserved-then-most-count c =
     let run = c.end_of_run-end.ensures in
     record {
       tally = tally_when_more c.args.numbers.now c.loop-start.counts c.count_more.new.counts c.loop-start.start c.end_of_run-end.result c.loop-start.place c.loop-start.most c.in_ok-count.count
-          c.loop-start.invariant.tally (record { some = run.some; within = run.within; same = run.same }) c.in_ok-count.ensures.total c.in_ok-count.ensures.counts c.if-most-count.true;
+          c.loop-start.invariant.tally (record { some = run.some; within = run.within; same = run.one_number }) c.in_ok-count.ensures.total c.in_ok-count.ensures.counts c.if-most-count.true;
     }
 
 pub loop-start-preserved : goal.loop-start-preserved
@@ -14,7 +14,7 @@ loop-start-preserved c =
     let run = c.end_of_run-end.ensures in
     record {
       tally = tally_when_no_more c.args.numbers.now c.loop-start.counts c.count_more.new.counts c.loop-start.start c.end_of_run-end.result c.loop-start.place c.loop-start.most c.in_ok-count.count
-          c.loop-start.invariant.tally (record { some = run.some; within = run.within; same = run.same }) c.in_ok-count.ensures.total c.in_ok-count.ensures.counts c.if-most-count.false;
+          c.loop-start.invariant.tally (record { some = run.some; within = run.within; same = run.one_number }) c.in_ok-count.ensures.total c.in_ok-count.ensures.counts c.if-most-count.false;
     }
 
 pub returns-clause-frequent : goal.returns-clause-frequent

@@ -5,7 +5,7 @@ abbrev pub invariant-loop-end : goal.invariant-loop-end
 invariant-loop-end l = record {
   some : l.column < l.end;
   within : l.end ≤ length l.reach;
-  same : (k : ℕ) → l.column ≤ k → k < l.end → get_or l.numbers (l.start + k) 0 ≡ l.number;
+  one_number : (k : ℕ) → l.column ≤ k → k < l.end → get_or l.numbers (l.start + k) 0 ≡ l.number;
 }
 
 abbrev pub decreases-loop-end : goal.decreases-loop-end

@@ -1,4 +1,5 @@
-use Rattle.std.proofs.Common.{sym, ◌∙◌}
+use Rattle.std.proofs.Common.{sym, ◌∙◌, arith}
+use Rattle.std.proofs.lemmas.Grind.{common_steps}
 use Rattle.std.proofs.lemmas.List.{length-map}
 use Rattle.pixel_format.specs.Number.{number_color, colors_of}
 use Rattle.rre.proofs.Lengths.{has_few}
@@ -16,7 +17,7 @@ append_data-appended-requires-clause-parts c = λ k d lt.
 pub returns-clause-appended : goal.returns-clause-appended
 returns-clause-appended c =
     let f = c.args.format.now in
-    let same = sym c.in_ok-whole_or_none.ensures.same in
+    let same = sym c.in_ok-whole_or_none.ensures.outcome in
     let fine = rw same at c.append_data-appended.ensures.ok in
     let written = rw same at c.append_data-appended.ensures.written in
     record {
@@ -31,7 +32,7 @@ returns-clause-appended c =
 pub returns-clause-few : goal.returns-clause-few
 returns-clause-few c = λ _.
     let f = c.args.format.now in
-    let same = sym c.in_ok-whole_or_none.ensures.same in
+    let same = sym c.in_ok-whole_or_none.ensures.outcome in
     let fine = rw same at c.append_data-appended.ensures.ok in
     has_few f (colors_of f c.args.pixels.numbers.now) (number_color f c.in_ok-number.number) c.in-Some.parts.items c.args.bytes.now.items c.whole_or_none.new.bytes.items
     c.in_ok-number.ensures.majority
@@ -42,3 +43,6 @@ pub returns-in_default-clause-many : goal.returns-in_default-clause-many
 returns-in_default-clause-many c = λ _.
     many_others c.args.format.now c.in_ok-number.number c.args.pixels.numbers.now c.args.most c.in_ok-number.ensures.number c.requires c.in_ok-number.ensures.majority
     (c.in_ok-covered.ensures.many c.in_default.is)
+
+pub returns-in_err-whole_or_none-clause-appended : goal.returns-in_err-whole_or_none-clause-appended
+returns-in_err-whole_or_none-clause-appended c = grind (arith, common_steps)

@@ -1,4 +1,5 @@
 use Rattle.std.proofs.Common.{◌≡◌, ◌+◌, ◌<◌, ◌∙◌, ◌++◌, true, false, length, sym, ap, arith, append_assoc}
+use Rattle.std.proofs.lemmas.Grind.{common_steps}
 use Rattle.std.proofs.lemmas.List.{length-append}
 use Rattle.std.proofs.lemmas.Option.{IfSome_then}
 use Rattle.rre.specs.Grammar.{subrectangle_bytes, subrectangle_of, is_inside}
@@ -47,3 +48,9 @@ returns-clause-waits c =
           omega (arith, few, size))
       | else-loop-left-test w ↦ rw (c.next_of.ensures.ends (omega (arith, w.loop-left-test.false))) tt
     ]
+
+pub overflow_sub-result : goal.overflow_sub-result
+overflow_sub-result c = grind (arith, common_steps)
+
+pub returns-clause-goes : goal.returns-clause-goes
+returns-clause-goes c = grind (arith, common_steps)

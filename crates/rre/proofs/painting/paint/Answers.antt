@@ -1,4 +1,5 @@
 use Rattle.std.proofs.Common.{◌≡◌, ℕ, zero, suc, ◌<◌, ◌+◌, ◌-◌, ◌∙◌, false, List, length, take, drop, sym, ap, subst, eqb-true, arith}
+use Rattle.std.proofs.lemmas.Grind.{common_steps}
 use Rattle.std.specs.Prelude.{◌==◌}
 use Rattle.std.proofs.lemmas.List.{take_rest}
 use Rattle.pixel_format.specs.Format.{Format, pixel_bytes}
@@ -119,3 +120,6 @@ pub fill-requires-in-loop-rest-clause-held : goal.fill-requires-in-loop-rest-cla
 unfolding subrectangle_of
 fill-requires-in-loop-rest-clause-held g c =
     subst (λ (s : Subrectangle). g.C.Canvas.holds s.color) (sym c.read_subrectangle-part.ensures) (c.requires.held _)
+
+pub split_at-requires : goal.split_at-requires
+split_at-requires g c = grind (arith, common_steps)

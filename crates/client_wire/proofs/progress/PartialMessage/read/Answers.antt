@@ -1,4 +1,5 @@
-use Rattle.std.proofs.Common.{◌≡◌, ◌++◌, ◌∙◌, sym, ap, refl, take, drop, append_assoc, subst, length, length-append}
+use Rattle.std.proofs.Common.{◌≡◌, ◌++◌, ◌∙◌, sym, ap, refl, take, drop, append_assoc, subst, length, length-append, arith}
+use Rattle.std.proofs.lemmas.Grind.{common_steps}
 use Rattle.std.proofs.lemmas.List.{take_rest, take-append-drop, length-take-le}
 use Rattle.std.proofs.lemmas.Result.{err_from_is_err_and}
 use Rattle.client_wire.specs.Grammar.{message_at}
@@ -39,3 +40,9 @@ loop-rest-preserved c =
           c.loop-rest.self.bytes.items c.take_some.new.self.bytes.items (passed_in c.loop-rest.self.position) (passed_in c.take_some.new.self.position)
           m (c.in_ok-taken.ensures.moves m.rest m.stands);
     }
+
+pub returns-clause-moves : goal.returns-clause-moves
+returns-clause-moves c = grind (arith, common_steps)
+
+pub returns-clause-takes : goal.returns-clause-takes
+returns-clause-takes c = grind (arith, common_steps)

@@ -1,4 +1,5 @@
 use Rattle.std.proofs.Common.{◌≡◌, ◌-◌, ◌++◌, length, take, drop, refl, sym, ap, ◌∙◌, ℕ, List, [], arith, length-append, length-drop}
+use Rattle.std.proofs.lemmas.Grind.{common_steps}
 use Rattle.std.proofs.lemmas.List.{take_all}
 use Rattle.std.proofs.lemmas.Result.{err_from_is_err_and}
 use Rattle.pixel_format.specs.declared.kind.Format.TheVariants.{Two}
@@ -41,3 +42,6 @@ returns-clause-goes g c = λ none times s stands.
     let goes = rw (c.in_format-reader.ensures, c.new-hosts.ensures.items) at c.in_ok-hear.ensures.goes in
     begins_to_hear g.T.Tally.stands_for _ c.hear.new.reader c.hear.new.hosts.items times (s ++ piece) (s ++ take w.taken piece) rest (rw (wide, high) opened) (omega (arith, o.before, length-append s (take w.taken piece))) format (c.in_ok-tell.ensures [] [] o.nothing) c.in_ok-hear.ensures.going
     (sym (ap (λ z. (s ++ take w.taken piece) ++ z) rest_is ∙ all_of s piece w.taken)) (rw (wide, high) (goes [] (record { skipped = []; count = refl; is = refl })))
+
+pub returns-in_default-clause-goes : goal.returns-in_default-clause-goes
+returns-in_default-clause-goes g c = grind (arith, common_steps)

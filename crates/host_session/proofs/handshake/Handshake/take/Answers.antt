@@ -1,4 +1,5 @@
 use Rattle.std.proofs.Common.{◌≡◌, ◌+◌, ◌-◌, ◌++◌, length, take, drop, refl, sym, ap, ◌∙◌, append_assoc, length-append, arith}
+use Rattle.std.proofs.lemmas.Grind.{common_steps}
 use Rattle.std.proofs.lemmas.List.{take_rest, take-append-drop}
 use Rattle.std.proofs.Math.Seq.{take-append-add}
 use Rattle.host_session.specs.Handshake.{first_requests}
@@ -37,3 +38,12 @@ returns-in-Whole-clause-taken c =
           i.front (take n left) c.args.due.now.items c.turns.due.items c.take_some.new.due.items (first_requests c.in-Whole.size.width c.in-Whole.size.height)
           (told_at c.in-Whole.size.width c.in-Whole.size.height c.take_some.new.self.kept.items) i.leads t.ends);
     }
+
+pub returns-in_err-take_some-clause-faults : goal.returns-in_err-take_some-clause-faults
+returns-in_err-take_some-clause-faults c = grind (arith, common_steps)
+
+pub returns-in-Waits-clause-taken : goal.returns-in-Waits-clause-taken
+returns-in-Waits-clause-taken c = grind (arith, common_steps)
+
+pub overflow_sub-result : goal.overflow_sub-result
+overflow_sub-result c = grind (arith, common_steps)

@@ -1,4 +1,5 @@
-use Rattle.std.proofs.Common.{sym, []}
+use Rattle.std.proofs.Common.{sym, [], arith}
+use Rattle.std.proofs.lemmas.Grind.{common_steps}
 use Rattle.std.proofs.lemmas.List.{append-nil}
 use Rattle.std.proofs.lemmas.Result.{err_from_is_err_and}
 use Rattle.host_session.proofs.Turns.{unless_memory, field_fails}
@@ -17,3 +18,9 @@ returns-in_err-step-clause-faults c =
             c.requires.position c.in_ok-extend_from_slice.ensures.items c.deref.ensures.value c.in_err-step.ensures.faults;
       });
     })
+
+pub returns-then-len-wants-clause-taking : goal.returns-then-len-wants-clause-taking
+returns-then-len-wants-clause-taking c = grind (arith, common_steps)
+
+pub returns-clause-taking : goal.returns-clause-taking
+returns-clause-taking c = grind (arith, common_steps)

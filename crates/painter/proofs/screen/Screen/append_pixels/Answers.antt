@@ -20,6 +20,6 @@ returns-clause-ok c =
     ap (λ (ps : List Pixel). seen_area f ps s.size.width area area.h) c.deref.ensures.value
     ∙ sym (sent_is f s.size.width s.size.height s.pixels.items area)
     ∙ ap (λ (screen : Framebuffer). sent_colors f screen area) c.self.view_is in
-    both_ok c.whole_or_none.result c.append_area-appended.result _ _ _ c.whole_or_none.ensures.same c.append_area-appended.ensures.ok c.whole_or_none.ensures.ok
+    both_ok c.whole_or_none.result c.append_area-appended.result _ _ _ c.whole_or_none.ensures.outcome c.append_area-appended.ensures.ok c.whole_or_none.ensures.ok
     (λ first kept. subst (λ (z : List ℕ). Appends (ArePixels f (sent_colors f c.args.self.now area)) old z) (sym kept)
     (subst (λ (cs : List Color). Appends (ArePixels f cs) old new) same first))

@@ -1,4 +1,5 @@
-use Rattle.std.proofs.Common.{◌≡◌, ◌*◌, ◌∙◌, List, ℕ, length, sym, subst, ap}
+use Rattle.std.proofs.Common.{◌≡◌, ◌*◌, ◌∙◌, List, ℕ, length, sym, subst, ap, arith}
+use Rattle.std.proofs.lemmas.Grind.{common_steps}
 use Rattle.std.proofs.lemmas.List.{length-map}
 use Rattle.pixel_format.specs.Pixel.{converted}
 use Rattle.terms.specs.Appending.{Appends}
@@ -21,9 +22,15 @@ returns-clause-ok c =
     ] in
     let old = c.match-encoding.out.items in
     let many : length colors ≡ area.h * area.w = length-map (area_colors c.args.self.now area) (converted f) ∙ (c.known_colors.ensures area c.requires.columns c.requires.rows).size in
-    both_ok c.whole_or_none.result c.append_pixels-appended.result _ _ _ c.whole_or_none.ensures.same c.append_pixels-appended.ensures.ok c.whole_or_none.ensures.ok
+    both_ok c.whole_or_none.result c.append_pixels-appended.result _ _ _ c.whole_or_none.ensures.outcome c.append_pixels-appended.ensures.ok c.whole_or_none.ensures.ok
     (λ first stays.
     let raw = raw_rectangle f area colors old c.append_head.new.out.items c.append_pixels-appended.new.out.items many c.in_ok-append_head.ensures.ok first in
     let here = subst (λ (z : List ℕ). Appends (IsRectangle f area colors encodings.Raw) old z) (sym stays) raw in
     raw_for f area colors c.args.encoding c.args.out.now.items c.whole_or_none.new.bytes.items
     (subst (λ (z : List ℕ). Appends (IsRectangle f area colors encodings.Raw) z c.whole_or_none.new.bytes.items) kept here))
+
+pub append_numbers-requires-clause-size : goal.append_numbers-requires-clause-size
+append_numbers-requires-clause-size c = grind (arith, common_steps)
+
+pub returns-clause-err : goal.returns-clause-err
+returns-clause-err c = grind (arith, common_steps)

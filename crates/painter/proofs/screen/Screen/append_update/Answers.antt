@@ -1,4 +1,5 @@
 use Rattle.std.proofs.Common.{◌<◌, ◌++◌, length, sym, subst, arith}
+use Rattle.std.proofs.lemmas.Grind.{common_steps}
 use Rattle.std.proofs.lemmas.List.{get_or-map, length-map}
 use Rattle.rect_codec.specs.declared.parts.Part.{Part}
 use Rattle.rect_codec.specs.Parts.{IsPart, parts_head}
@@ -19,3 +20,9 @@ loop-part-preserved c =
     each_more (IsPart f) (parts_of f screen parts) k no_part (c.args.out.now.items ++ parts_head (length parts)) c.loop-part.out.items c.append_part.new.out.items
     inside c.loop-part.invariant
     (subst (λ (p : Part). Appends (IsPart f p) c.loop-part.out.items c.append_part.new.out.items) (sym (get_or-map (part_of f screen) parts k _ no_part less)) c.in_default.ensures.ok)
+
+pub returns-in-Err-clause-err : goal.returns-in-Err-clause-err
+returns-in-Err-clause-err c = grind (arith, common_steps)
+
+pub returns-clause-ok : goal.returns-clause-ok
+returns-clause-ok c = grind (arith, common_steps)

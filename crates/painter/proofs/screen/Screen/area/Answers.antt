@@ -1,4 +1,5 @@
 use Rattle.std.proofs.Common.{◌≡◌, ◌+◌, ◌*◌, ℕ, ◌<◌, length, vec_len, take, sym, ap, ◌∙◌, arith}
+use Rattle.std.proofs.lemmas.Grind.{common_steps}
 use Rattle.std.proofs.lemmas.List.{take_all, length-replicate}
 use Rattle.pixel_format.specs.Canvas.{rows_of}
 use Rattle.painter.specs.Framebuffer.{Framebuffer, color_at}
@@ -26,3 +27,6 @@ returns-clause-ok c =
     room (length-replicate _ _ ∙ omega (arith, count, held)) c.deref_mut.ensures.value c.read_area.auto.colors
     value
     c.read_area.ensures.screen
+
+pub read_area-requires-clause-rows : goal.read_area-requires-clause-rows
+read_area-requires-clause-rows c = grind (arith, common_steps)

@@ -1,4 +1,5 @@
-use Rattle.std.proofs.Common.{refl}
+use Rattle.std.proofs.Common.{refl, arith}
+use Rattle.std.proofs.lemmas.Grind.{common_steps}
 use Rattle.painter.proofs.Screens.{screen_of, is_black, shows_none}
 use Rattle.painter.proofs.screen.Screen.black.Goals as goal
 
@@ -8,3 +9,6 @@ returns-clause-black c =
 
 pub returns-clause-shows : goal.returns-clause-shows
 returns-clause-shows c = shows_none (screen_of c.args.size.width c.args.size.height c.in_ok-pixels.pixels.items) (returns-clause-black c)
+
+pub invariant_of-result : goal.invariant_of-result
+invariant_of-result c = grind (arith, common_steps)

@@ -1,4 +1,5 @@
-use Rattle.std.proofs.Common.{◌≡◌, ◌++◌, ◌∙◌, List, ℕ, sym, ap, subst}
+use Rattle.std.proofs.Common.{◌≡◌, ◌++◌, ◌∙◌, List, ℕ, sym, ap, subst, arith}
+use Rattle.std.proofs.lemmas.Grind.{common_steps}
 use Rattle.pixel_format.specs.declared.Color.{Color}
 use Rattle.painter.specs.declared.pixel.Pixel.{Pixel}
 use Rattle.painter.specs.Framebuffer.{Framebuffer}
@@ -20,3 +21,6 @@ returns c =
     let all : c.number_area.new.out.items ≡ a.bytes = a.is ∙ ap (λ (z : List ℕ). z ++ a.bytes) c.new-numbers.ensures.items in
     subst (λ (z : List ℕ). AreNumbersOf f (sent_colors f c.args.self.now area) z) (sym all)
     (subst (λ (cs : List Color). AreNumbersOf f cs a.bytes) same a.are)
+
+pub number_area-requires-clause-rows : goal.number_area-requires-clause-rows
+number_area-requires-clause-rows c = grind (arith, common_steps)

@@ -1,4 +1,5 @@
 use Rattle.std.proofs.Common.{◌≡◌, ◌∙◌, length, vec_len, arith}
+use Rattle.std.proofs.lemmas.Grind.{common_steps}
 use Rattle.std.proofs.Math.Nat.{mul-le-mul_left}
 use Rattle.std.specs.Vec.{with_items}
 use Rattle.std.proofs.lemmas.List.{with_items_is}
@@ -60,3 +61,9 @@ returns-in-Hextile-clause-painted c = λ x y across down.
     rw c.in-Hextile.is
     (hextile_painted c.args.self.now.width c.args.self.now.height c.args.area c.args.bytes.now content.0 (color_at c.args.self.now) (color_at c.paint-in-Hextile.new.canvas) content.1
     (told content.0 content.1) x y (rw (← c.paint-in-Hextile.ensures.width) across) (rw (← c.paint-in-Hextile.ensures.height) down))
+
+pub paint_raw-requires-clause-area : goal.paint_raw-requires-clause-area
+paint_raw-requires-clause-area c = grind (arith, common_steps)
+
+pub copy_area-requires-clause-area : goal.copy_area-requires-clause-area
+copy_area-requires-clause-area c = grind (arith, common_steps)

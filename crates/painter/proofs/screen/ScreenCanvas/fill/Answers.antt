@@ -1,4 +1,5 @@
-use Rattle.std.proofs.Common.{◌≡◌, ◌∙◌, length, vec_len}
+use Rattle.std.proofs.Common.{◌≡◌, ◌∙◌, length, vec_len, arith}
+use Rattle.std.proofs.lemmas.Grind.{common_steps}
 use Rattle.std.specs.Vec.{with_items}
 use Rattle.std.proofs.lemmas.List.{with_items_is}
 use Rattle.painter.proofs.Screens.{has_filled}
@@ -13,3 +14,6 @@ returns-clause-painted c =
     rw (← c.self.view_is)
     (has_filled fields.size.width fields.size.height fields.pixels.items (with_items fields.pixels pixels).items (record { x = c.args.x; y = c.args.y; w = c.args.w; h = c.args.h })
     c.pixel_of_color.result c.args.color c.pixel_of_color.ensures (rw (with_items_is fields.pixels pixels kept) told))
+
+pub fill_area-requires : goal.fill_area-requires
+fill_area-requires c = grind (arith, common_steps)

@@ -1,4 +1,5 @@
 use Rattle.std.proofs.Common.{◌≡◌, ◌<◌, ◌++◌, length, get_or, map, sym, ap, subst, ◌∙◌, arith}
+use Rattle.std.proofs.lemmas.Grind.{common_steps}
 use Rattle.std.proofs.lemmas.List.{get_or-map, length-map}
 use Rattle.pixel_format.specs.declared.Color.{Color}
 use Rattle.pixel_format.specs.Canvas.{black, nth}
@@ -21,3 +22,9 @@ loop-number-preserved c =
       written = mapped_more (pixel_of f) all k black c.args.bytes.now.items c.loop-number.bytes.items c.append_sized_number.new.bytes.items
           inside c.loop-number.invariant.written (c.in_ok-append_sized_number.ensures.written ∙ ap (λ (color : Color). c.loop-number.bytes.items ++ pixel_of f color) here);
     }
+
+pub returns-clause-ok : goal.returns-clause-ok
+returns-clause-ok c = grind (arith, common_steps)
+
+pub returns-clause-written : goal.returns-clause-written
+returns-clause-written c = grind (arith, common_steps)

@@ -1,4 +1,5 @@
 use Rattle.std.proofs.Common.{◌≡◌, ◌+◌, ◌≤◌, ◌∙◌, length, arith}
+use Rattle.std.proofs.lemmas.Grind.{common_steps}
 use Rattle.pixel_format.specs.Pixel.{converted}
 use Rattle.pixel_format.proofs.Eights.{more, same_length}
 use Rattle.pixel_format.proofs.format.PixelFormat.convert_eights.Goals as goal
@@ -15,3 +16,6 @@ eights-preserved c =
       done = more (converted c.args.self.now) 8 i c.args.colors.now c.eights.row c.copy_from_slice.new.self within c.eights.invariant.size
           c.eights.invariant.done (c.copy_from_slice.ensures.after ∙ c.convert_eight-eight.ensures);
     }
+
+pub convert_eight-eight-requires-clause-screen : goal.convert_eight-eight-requires-clause-screen
+convert_eight-eight-requires-clause-screen c = grind (arith, common_steps)

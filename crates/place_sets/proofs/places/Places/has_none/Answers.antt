@@ -1,4 +1,5 @@
 use Rattle.std.proofs.Common.{◌∙◌, sym, arith}
+use Rattle.std.proofs.lemmas.Grind.{common_steps}
 use Rattle.place_sets.proofs.PlaceSets.{common_within}
 use Rattle.place_sets.proofs.Clean.{not_clean}
 use Rattle.place_sets.proofs.places.Places.has_none.Goals as goal
@@ -20,3 +21,6 @@ next_tile-requires c =
 
 pub returns-then-is_some : goal.returns-then-is_some
 returns-then-is_some c = not_clean c.args.self.now c.args.area _ c.in-Some.part c.next_tile.result c.in-Some.ensures (sym c.is_some.ensures ∙ c.if-is_some.true) c.next_tile.ensures
+
+pub loop-row-preserved : goal.loop-row-preserved
+loop-row-preserved c = grind (arith, common_steps)

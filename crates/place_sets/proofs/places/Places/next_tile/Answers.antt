@@ -1,4 +1,5 @@
 use Rattle.std.proofs.Common.{arith}
+use Rattle.std.proofs.lemmas.Grind.{common_steps}
 use Rattle.place_sets.specs.Places.{places_of}
 use Rattle.place_sets.proofs.Looked.{none_left_over, none_behind, before_first, before_next, first_on, first_tile}
 use Rattle.place_sets.proofs.places.Places.next_tile.Goals as goal
@@ -43,3 +44,9 @@ returns c =
     rw (← c.self.view_is)
     (none_behind (places_of s.size.width s.size.height s.words.items) c.args.area c.args.from c.loop-next.next (rw (← c.self.view_is) at c.loop-next.invariant.first)
     (rw (c.tile_at-end.ensures, c.tiles_of-columns.ensures.is) at c.loop-next-test.false))
+
+pub loop-next-init : goal.loop-next-init
+loop-next-init c = grind (arith, common_steps)
+
+pub smallest_in_tile-requires-clause-tile : goal.smallest_in_tile-requires-clause-tile
+smallest_in_tile-requires-clause-tile c = grind (arith, common_steps)

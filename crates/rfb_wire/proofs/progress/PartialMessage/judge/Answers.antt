@@ -1,4 +1,5 @@
 use Rattle.std.proofs.Common.{◌≡◌, ◌++◌, ◌≤◌, take, length, ap, ◌∙◌, arith, refl}
+use Rattle.std.proofs.lemmas.Grind.{common_steps}
 use Rattle.std.proofs.lemmas.List.{length-append, length-take}
 use Rattle.std.proofs.lemmas.Result.{err_from_is_err_and}
 use Rattle.client_wire.proofs.Fronts.{unless_memory}
@@ -18,3 +19,9 @@ returns-in_err-taken-clause-faults c =
     rw (p.1, p.2) (turn_faults (message_limit c.args.screen.format) c.args.screen.size.width c.args.screen.size.height c.min.result s.bytes.items c.args.piece.now (s.bytes.items ++ front) c.in_err-taken.field-0.0
     refl short (unless_memory _ _ (run_faults (message_limit c.args.screen.format) c.args.screen.size.width c.args.screen.size.height s.bytes.items front s.rectangles.items s.stage c.in_err-taken.field-0.0
     c.requires.field.linked begun (rw (← c.in-Data.is) at c.in_err-taken.ensures.faults))))
+
+pub advance-requires : goal.advance-requires
+advance-requires c = grind (arith, common_steps)
+
+pub returns-then-taken-gt0-clause-ok : goal.returns-then-taken-gt0-clause-ok
+returns-then-taken-gt0-clause-ok c = grind (arith, common_steps)

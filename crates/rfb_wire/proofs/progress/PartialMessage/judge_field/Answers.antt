@@ -1,4 +1,5 @@
 use Rattle.std.proofs.Common.{◌≡◌, ℕ, List, ◌++◌, ◌-◌, ◌+◌, ◌∙◌, sym, ap, refl, length, take, drop, arith}
+use Rattle.std.proofs.lemmas.Grind.{common_steps}
 use Rattle.std.proofs.lemmas.List.{take_rest, length-drop}
 use Rattle.std.proofs.lemmas.Result.{err_from_is_err_and}
 use Rattle.client_wire.proofs.Fronts.{unless_memory}
@@ -52,3 +53,9 @@ advance-requires c =
       kind = c.in_ok-whole.ensures.kind longer (sym field) linked.kind;
       short = c.in_ok-taken.ensures.short;
     }
+
+pub returns-then-len-self-clause-ok : goal.returns-then-len-self-clause-ok
+returns-then-len-self-clause-ok c = grind (arith, common_steps)
+
+pub returns-clause-ok : goal.returns-clause-ok
+returns-clause-ok c = grind (arith, common_steps)

@@ -1,4 +1,5 @@
-use Rattle.std.proofs.Common.{◌≡◌, [], ◌++◌, length, eqb-true, ◌∙◌, sym, ap, refl, take, drop, subst, append_assoc}
+use Rattle.std.proofs.Common.{◌≡◌, [], ◌++◌, length, eqb-true, ◌∙◌, sym, ap, refl, take, drop, subst, append_assoc, arith}
+use Rattle.std.proofs.lemmas.Grind.{common_steps}
 use Rattle.std.proofs.lemmas.List.{append-nil, take_rest, take-append-drop, length-append, length-take-le}
 use Rattle.std.proofs.lemmas.Result.{err_from_is_err_and}
 use Rattle.client_wire.specs.Stream.{Moves, Stops}
@@ -54,3 +55,6 @@ returns-clause-moves c = λ rest stands.
     let all : i.front ≡ c.args.piece.now = sym (i.piece ∙ ap (λ z. i.front ++ z) none ∙ append-nil i.front) in
     subst (λ z. Moves (message_at (message_limit c.args.screen.format) c.args.screen.size.width c.args.screen.size.height) (given c.args.screen.format c.args.screen.size.width c.args.screen.size.height) s.bytes.items (passed_in s.over)
     c.args.out.now.items c.loop-rest.out.items (rest ++ z)) all (i.moves rest stands)
+
+pub returns-clause-takes : goal.returns-clause-takes
+returns-clause-takes c = grind (arith, common_steps)

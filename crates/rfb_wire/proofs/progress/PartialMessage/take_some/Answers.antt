@@ -1,4 +1,5 @@
 use Rattle.std.proofs.Common.{◌≡◌, [], ◌∷◌, ◌++◌, ◌∙◌, sym, ap, take, subst, refl, arith}
+use Rattle.std.proofs.lemmas.Grind.{common_steps}
 use Rattle.std.proofs.lemmas.List.{length-take-le}
 use Rattle.std.proofs.lemmas.Result.{err_from_is_err_and}
 use Rattle.client_wire.specs.Stream.{StandsFor, Moves}
@@ -80,3 +81,15 @@ returns-in-ReadOver-clause-moves c = λ rest stands.
     let is : c.judge.new.self.bytes.items ≡ rest ++ piece = c.in_ok-taken.ensures.ok.bytes ∙ ap (λ z. z ++ piece) (sym kept) in
     subst (λ z. Moves (message_at (message_limit c.args.screen.format) c.args.screen.size.width c.args.screen.size.height) (given c.args.screen.format c.args.screen.size.width c.args.screen.size.height) t.bytes.items (passed_in t.over) c.args.out.now.items c.args.out.now.items z)
     is (c.read_over.ensures.moves c.args.out.now.items)
+
+pub returns-then-piece-self-clause-at : goal.returns-then-piece-self-clause-at
+returns-then-piece-self-clause-at c = grind (arith, common_steps)
+
+pub returns-then-piece-self-clause-moves : goal.returns-then-piece-self-clause-moves
+returns-then-piece-self-clause-moves c = grind (arith, common_steps)
+
+pub returns-then-piece-self-clause-takes : goal.returns-then-piece-self-clause-takes
+returns-then-piece-self-clause-takes c = grind (arith, common_steps)
+
+pub read_over-requires-clause-head : goal.read_over-requires-clause-head
+read_over-requires-clause-head c = grind (arith, common_steps)

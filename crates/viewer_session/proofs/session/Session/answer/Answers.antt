@@ -1,4 +1,5 @@
-use Rattle.std.proofs.Common.{List, ℕ, subst}
+use Rattle.std.proofs.Common.{List, ℕ, subst, arith}
+use Rattle.std.proofs.lemmas.Grind.{common_steps}
 use Rattle.terms.specs.Appending.{Appends}
 use Rattle.viewer_session.specs.Encoded.{IsEncodedFor}
 use Rattle.viewer_session.specs.View.{Answers, HasAreasDue}
@@ -15,3 +16,15 @@ returns-clause-areas c = rw (← c.self.view_is) (λ due.
 pub returns-clause-encoded : goal.returns-clause-encoded
 returns-clause-encoded c = rw (← c.self.view_is) (λ due.
     subst (λ (o : List ℕ). Appends (IsEncodedFor c.self.inside.view) o c.answer.new.out.items) c.in_ok-sent.ensures.ok (c.in_default.ensures.encoded due))
+
+pub returns-in-Err-clause-err : goal.returns-in-Err-clause-err
+returns-in-Err-clause-err c = grind (arith, common_steps)
+
+pub invariant_of-self-2 : goal.invariant_of-self-2
+invariant_of-self-2 c = grind (arith, common_steps)
+
+pub returns-clause-kept : goal.returns-clause-kept
+returns-clause-kept c = grind (arith, common_steps)
+
+pub returns-clause-after : goal.returns-clause-after
+returns-clause-after c = grind (arith, common_steps)

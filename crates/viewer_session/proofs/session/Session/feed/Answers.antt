@@ -1,4 +1,5 @@
-use Rattle.std.proofs.Common.{◌≡◌, ◌++◌, List, ℕ, ◌∙◌, take, drop, sym, ap, subst, append_assoc}
+use Rattle.std.proofs.Common.{◌≡◌, ◌++◌, List, ℕ, ◌∙◌, take, drop, sym, ap, subst, append_assoc, arith}
+use Rattle.std.proofs.lemmas.Grind.{common_steps}
 use Rattle.std.proofs.lemmas.List.{take-append-drop}
 use Rattle.std.proofs.lemmas.Result.{err_from_is_err_and}
 use Rattle.viewer_session.specs.Session.{Stopped}
@@ -42,3 +43,6 @@ returns-in_err-feed_part-clause-faults c =
     subst (λ (z : List ℕ). Stopped c.args.self.now c.feed_part.new.self (stream ++ z) messages told f) (sym all)
     (fed_stopped c.args.self.now c.parts.self c.feed_part.new.self stream inv.front part behind told messages f (inv.fed stream told messages h)
     (λ s t ms k. c.in_err-feed_part.ensures.faults s t ms k)))
+
+pub returns-clause-goes : goal.returns-clause-goes
+returns-clause-goes c = grind (arith, common_steps)

@@ -1,3 +1,5 @@
+use Rattle.std.proofs.Common.{arith}
+use Rattle.std.proofs.lemmas.Grind.{common_steps}
 use Rattle.viewer_session.proofs.Answered.{sent_within}
 use Rattle.viewer_session.proofs.view.View.send.Goals as goal
 
@@ -5,3 +7,6 @@ pub write_areas-requires-clause-within : goal.write_areas-requires-clause-within
 write_areas-requires-clause-within c =
     let v = c.args.self.now in
     rw c.deref.ensures.value (sent_within v.stale v.screen.width v.screen.height c.args.pending c.in_ok-areas.areas.items c.requires.pending c.in_ok-areas.ensures)
+
+pub returns-then-is_empty-clause-ok : goal.returns-then-is_empty-clause-ok
+returns-then-is_empty-clause-ok c = grind (arith, common_steps)

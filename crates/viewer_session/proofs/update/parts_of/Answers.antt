@@ -1,0 +1,9 @@
+use Rattle.std.proofs.Common.{arith}
+use Rattle.std.proofs.lemmas.Grind.{common_steps}
+use Rattle.viewer_session.proofs.update.parts_of.Goals as goal
+
+pub loop-area-preserved : goal.loop-area-preserved
+loop-area-preserved c = grind (arith, common_steps)
+
+pub returns : goal.returns
+returns c = grind (arith, common_steps)
