@@ -4,29 +4,16 @@
 mod parallel;
 mod twins;
 
-ghost use Rattle.std.specs.Prelude.{◌≡◌, [], IfOk};
-ghost use Rattle.book_tests.specs.OnePlace.{IsOfOnePlace};
-
-use crate::desk_of_one_place;
-use broadcast::Desk;
 use disk::Disk;
 use gated_journal::ReadFault;
 use shared_book::{Closed, Mark, Receipt, Ticket};
-use std::alloc::Global;
 use std::process::Abort;
 use std::sync::Wait;
-use std::test::Fail;
 
 /// An update that paints the one place red.
 const UPDATE: [u8; 20] = [
     0, 0, 0, 1, 0, 0, 0, 0, 0, 1, 0, 1, 0, 0, 0, 0, 0, 0, 0xff, 0,
 ];
-
-fn new_desk<D: Disk + Drop>(alloc: Global, disk: D) -> Result<Box<Desk<D>>, Fail>
-    ensures place { IfOk result (λ desk. IsOfOnePlace desk.value.head) }
-{
-    Ok(desk_of_one_place(alloc, disk).ok_or("no desk")?)
-}
 
 // Each receipt is confirmed; a reading that meets a fault is made again. How many messages they have.
 fn confirm<D: Disk, M: Mark, R: Wait + Abort>(

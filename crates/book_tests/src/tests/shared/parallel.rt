@@ -9,6 +9,7 @@ use crate::{ONE_PLACE, desk_of_one_place};
 use broadcast::{Desk, NextRefusal, Start};
 use disk::{Disk, FailingDisk, MemoryDisk, Switch};
 use flusher_core::{FlushRefusal, HostRefusal};
+use gated_journal::ReadFault;
 use rfb_wire::HostMessage;
 use shared_book::{
     Closed, Ending, FlusherEnd, HostSource, Mark, Point, Receipt, ReceiptSink, Shared, Ticket,
@@ -415,7 +416,7 @@ fn settle<D: Disk + Drop, M: Mark, R: Wait + Abort>(
     closed: &mut Closed<D, M>,
     told: &mut Told<M>,
     due: Option<u64>,
-) -> Result<(), Fail> {
+) -> Result<(), ReadFault> {
     find(rt, closed, &told.tickets)?;
     confirm(rt, closed, &told.committed)?;
     assert!(rt; due.unwrap_or(closed.committed()) == closed.committed());
@@ -463,7 +464,7 @@ fn share<
     gates: &'a Gates<'a, R>,
     count: u64,
     viewers: usize,
-) -> Result<(), Fail>
+) -> Result<(), ReadFault>
     requires head { desk.value.head ≡ M.head }
     requires modelled { (D.is_modelled → M.is_modelled) × (M.is_modelled → D.is_modelled) }
     requires first { accepted_count desk.value.state.book ≡ M.first }
@@ -508,7 +509,7 @@ fn shared_by_workers<R: Threads + Wait + Clock + Abort + Sync>(
     order: Order,
     count: u64,
     viewers: usize,
-) -> Result<Option<u64>, Fail> {
+) -> Result<Option<u64>, ReadFault> {
     let gates = Gates::new(rt, order);
     let Some((token, desk)) = begun(alloc, order) else {
         return Ok(None);

@@ -1,14 +1,15 @@
 //! The same lines through the lock and at a desk.
 
-ghost use Rattle.std.specs.Prelude.{◌≡◌, IfOk};
+ghost use Rattle.std.specs.Prelude.{◌≡◌, IfSome};
 ghost use Rattle.flusher_core.specs.State.{accepted_count};
 ghost use Rattle.book_tests.specs.OnePlace.{IsOfOnePlace};
 
-use super::{UPDATE, confirm, find, new_desk};
-use crate::ONE_PLACE;
+use super::{UPDATE, confirm, find};
+use crate::{ONE_PLACE, desk_of_one_place};
 use Line::{At, Bell, Body, Gate, Key, Leave, Live, Next, Seek, Take, Update};
 use broadcast::{Desk, Seat, Start};
 use disk::{Disk, FailingDisk, MemoryDisk, Switch};
+use gated_journal::ReadFault;
 use replay::Slice;
 use rfb_wire::HostMessage;
 use shared_book::{Closed, Mark, Receipt, Shared, Ticket, Token};
@@ -17,7 +18,6 @@ use std::marker::Brand;
 use std::process::Abort;
 use std::sync::Wait;
 use std::test::Fail;
-use terms::NoMemory;
 
 /// A bell: it paints nothing.
 const BELL: [u8; 1] = [2];
@@ -75,7 +75,7 @@ struct Kept<M: Mark> {
 }
 
 // Each of these makes one call at a desk, and the one of its name through the lock: whether both
-// answer the same.
+// answer the same; none where memory ran out, or where a call's seat isn't there.
 fn host<D: Disk, M: Mark, R: Wait>(
     rt: &R,
     alloc: Global,
@@ -83,21 +83,21 @@ fn host<D: Disk, M: Mark, R: Wait>(
     shared: &Shared<D, M>,
     tickets: &mut Vec<Ticket<M>>,
     bytes: &[u8],
-) -> Result<bool, Fail>
+) -> Option<bool>
     requires place { IsOfOnePlace desk.old.head }
     requires sized { IsOfOnePlace M.head }
     ensures head { desk.new.head ≡ desk.old.head }
 {
-    let answer = desk.host(0, HostMessage::from_bytes(alloc, ONE_PLACE, bytes)?);
-    let twin = shared.host(rt, 0, HostMessage::from_bytes(alloc, ONE_PLACE, bytes)?);
-    match (answer, twin) {
+    let message = HostMessage::from_bytes(alloc, ONE_PLACE, bytes).ok()?;
+    let again = HostMessage::from_bytes(alloc, ONE_PLACE, bytes).ok()?;
+    match (desk.host(0, message), shared.host(rt, 0, again)) {
         (Ok(number), Ok(ticket)) => {
             let is_same = number == ticket.number();
-            tickets.push(ticket)?;
-            Ok(is_same)
+            tickets.push(ticket).ok()?;
+            Some(is_same)
         }
-        (Err(refused), Err(twin)) => Ok(refused.why == twin.why),
-        _ => Ok(false),
+        (Err(refused), Err(twin)) => Some(refused.why == twin.why),
+        _ => Some(false),
     }
 }
 
@@ -107,17 +107,17 @@ fn join<D: Disk, M: Mark, R: Wait>(
     shared: &Shared<D, M>,
     seats: &mut Vec<(Seat, Seat)>,
     start: Start,
-) -> Result<bool, NoMemory>
+) -> Option<bool>
     ensures head { desk.new.head ≡ desk.old.head }
 {
     match (desk.join(start), shared.join(rt, start)) {
         (Ok(seat), Ok(twin)) => {
             let is_same = seat.number() == twin.number() && seat.position() == twin.position();
-            seats.push((seat, twin))?;
-            Ok(is_same)
+            seats.push((seat, twin)).ok()?;
+            Some(is_same)
         }
-        (Err(refusal), Err(twin)) => Ok(refusal == twin),
-        _ => Ok(false),
+        (Err(refusal), Err(twin)) => Some(refusal == twin),
+        _ => Some(false),
     }
 }
 
@@ -141,15 +141,15 @@ fn hand_out<M: Mark, E: PartialEq + Drop>(
     receipts: &mut Vec<Receipt<M>>,
     answer: Result<Slice, E>,
     twin: Result<Receipt<M>, E>,
-) -> Result<bool, NoMemory> {
+) -> Option<bool> {
     match (answer, twin) {
         (Ok(slice), Ok(receipt)) => {
             let is_same = are_same(&slice, receipt.slice());
-            receipts.push(receipt)?;
-            Ok(is_same)
+            receipts.push(receipt).ok()?;
+            Some(is_same)
         }
-        (Err(refusal), Err(twin)) => Ok(refusal == twin),
-        _ => Ok(false),
+        (Err(refusal), Err(twin)) => Some(refusal == twin),
+        _ => Some(false),
     }
 }
 
@@ -160,7 +160,7 @@ fn both<D: Disk, M: Mark, R: Wait>(
     shared: &Shared<D, M>,
     kept: &mut Kept<M>,
     line: Line,
-) -> Result<bool, Fail>
+) -> Option<bool>
     requires place { IsOfOnePlace desk.old.head }
     requires sized { IsOfOnePlace M.head }
     ensures head { desk.new.head ≡ desk.old.head }
@@ -168,25 +168,25 @@ fn both<D: Disk, M: Mark, R: Wait>(
     match line {
         Update => host(rt, alloc, desk, shared, &mut kept.tickets, &UPDATE),
         Bell => host(rt, alloc, desk, shared, &mut kept.tickets, &BELL),
-        Take => Ok(desk.take() == shared.take(rt)),
-        Body => Ok(desk.body() == shared.body(rt)),
-        Gate => Ok(hand_out(&mut kept.receipts, desk.gate(), shared.gate(rt))?),
-        Live => Ok(join(rt, desk, shared, &mut kept.seats, Start::Live)?),
-        At(n) => Ok(join(rt, desk, shared, &mut kept.seats, Start::At(n))?),
+        Take => Some(desk.take() == shared.take(rt)),
+        Body => Some(desk.body() == shared.body(rt)),
+        Gate => hand_out(&mut kept.receipts, desk.gate(), shared.gate(rt)),
+        Live => join(rt, desk, shared, &mut kept.seats, Start::Live),
+        At(n) => join(rt, desk, shared, &mut kept.seats, Start::At(n)),
         Next => {
-            let (seat, twin) = kept.seats.last_mut().ok_or("no seat")?;
+            let (seat, twin) = kept.seats.last_mut()?;
             let answer = desk.next(seat, 2);
-            Ok(hand_out(&mut kept.receipts, answer, shared.next(rt, twin, 2))?)
+            hand_out(&mut kept.receipts, answer, shared.next(rt, twin, 2))
         }
         Seek(n) => {
-            let (seat, twin) = kept.seats.last_mut().ok_or("no seat")?;
-            Ok(desk.seek(seat, n) == shared.seek(rt, twin, n))
+            let (seat, twin) = kept.seats.last_mut()?;
+            Some(desk.seek(seat, n) == shared.seek(rt, twin, n))
         }
         Leave => {
-            let (seat, twin) = kept.seats.pop().ok_or("no seat")?;
-            Ok(desk.leave(seat) == shared.leave(rt, twin))
+            let (seat, twin) = kept.seats.pop()?;
+            Some(desk.leave(seat) == shared.leave(rt, twin))
         }
-        Key(n) => Ok(
+        Key(n) => Some(
             desk.committed() == shared.committed(rt)
                 && desk.key_before(n) == shared.key_before(rt, n),
         ),
@@ -201,15 +201,14 @@ fn run_lines<D: Disk, M: Mark, R: Wait + Abort>(
     shared: &Shared<D, M>,
     kept: &mut Kept<M>,
     lines: &[Line],
-) -> Result<(), Fail>
+)
     requires place { IsOfOnePlace desk.old.head }
     requires sized { IsOfOnePlace M.head }
 {
     for line in lines {
-        let are_same = both(rt, alloc, desk, shared, kept, *line)?;
-        assert!(rt; are_same);
+        let are_same = both(rt, alloc, desk, shared, kept, *line);
+        assert!(rt; are_same == Some(true));
     }
-    Ok(())
 }
 
 // All receipts are confirmed, and all tickets found that are below the closed count.
@@ -217,10 +216,9 @@ fn confirm_all<D: Disk, M: Mark, R: Wait + Abort>(
     rt: &R,
     closed: &mut Closed<D, M>,
     kept: &Kept<M>,
-) -> Result<(), Fail> {
+) -> Result<(), ReadFault> {
     confirm(rt, closed, &kept.receipts)?;
-    find(rt, closed, &kept.tickets)?;
-    Ok(())
+    find(rt, closed, &kept.tickets)
 }
 
 // Runs the lines at a desk, and at its twin through the lock.
@@ -231,7 +229,7 @@ fn run_both<D: Disk + Drop, M: Mark, R: Wait + Abort>(
     desk: &mut Desk<D>,
     twin: Box<Desk<D>>,
     lines: &[Line],
-) -> Result<(), Fail>
+) -> Result<(), ReadFault>
     requires place { IsOfOnePlace desk.old.head }
     requires head { twin.value.head ≡ M.head }
     requires modelled { (D.is_modelled → M.is_modelled) × (M.is_modelled → D.is_modelled) }
@@ -245,23 +243,19 @@ fn run_both<D: Disk + Drop, M: Mark, R: Wait + Abort>(
         receipts: Vec::new(alloc),
         tickets: Vec::new(alloc),
     };
-    let ran = run_lines(rt, alloc, desk, &shared, &mut kept, lines);
-    let mut closed = shared.finish();
-    match ran {
-        Ok(()) => confirm_all(rt, &mut closed, &kept),
-        Err(error) => Err(error),
-    }
+    run_lines(rt, alloc, desk, &shared, &mut kept, lines);
+    confirm_all(rt, &mut shared.finish(), &kept)
 }
 
 // A desk whose disk fails once, after so many calls.
-fn failing_desk(alloc: Global, calls: u64) -> Result<Box<Desk<FailingDisk<MemoryDisk>>>, Fail>
-    ensures place { IfOk result (λ desk. IsOfOnePlace desk.value.head) }
+fn failing_desk(alloc: Global, calls: u64) -> Option<Box<Desk<FailingDisk<MemoryDisk>>>>
+    ensures place { IfSome result (λ desk. IsOfOnePlace desk.value.head) }
 {
-    let switch = Switch::new(alloc)?;
-    let disk = FailingDisk::new(MemoryDisk::new(alloc), switch.clone()?);
-    let desk = new_desk(alloc, disk)?;
+    let switch = Switch::new(alloc).ok()?;
+    let disk = FailingDisk::new(MemoryDisk::new(alloc), switch.clone().ok()?);
+    let desk = desk_of_one_place(alloc, disk)?;
     switch.fail_after(calls);
-    Ok(desk)
+    Some(desk)
 }
 
 // Two disks that fail at the same call.
@@ -271,10 +265,13 @@ fn run_twins<R: Wait + Abort>(
     lines: &[Line],
     calls: u64,
 ) -> Result<(), Fail> {
-    let mut desk = failing_desk(alloc, calls)?;
-    let twin = failing_desk(alloc, calls)?;
+    let mut desk = failing_desk(alloc, calls).ok_or("no desk")?;
+    let twin = failing_desk(alloc, calls).ok_or("no twin")?;
     let token = Token::new(alloc)?;
-    run_both::<FailingDisk<MemoryDisk>, Brand, R>(rt, alloc, token, &mut desk, twin, lines)
+    let ran = run_both::<FailingDisk<MemoryDisk>, Brand, R>(
+        rt, alloc, token, &mut desk, twin, lines,
+    );
+    Ok(ran?)
 }
 
 // One line so many times, and then these lines, with each device call failing in turn: no run makes
