@@ -11,7 +11,7 @@ use wire_tests::{HEIGHT, TestCanvas, WIDTH, hextile_in_pieces};
 
 const BLACK: Color = Color { r: 0, g: 0, b: 0 };
 
-// A rectangle that fits on a sheet, and the bytes of its data.
+// A rectangle that fits on a test canvas, and the bytes of its data.
 #[derive(Clone, Copy)]
 struct Rectangle<'a> {
     w: u16,
