@@ -17,7 +17,7 @@ pub const ONE_PLACE: ScreenSize = ScreenSize {
 };
 
 /// A desk over a new recording of one place, with a key interval of 4 and the name 'x', boxed; none
-/// where memory is wanting, the device fails, or the disk has bytes.
+/// when memory runs out, the device fails, or the disk has bytes.
 pub fn desk_of_one_place<D: Disk + Drop>(alloc: Global, disk: D) -> Option<Box<Desk<D>>>
     ensures place { IfSome result (λ desk. IsOfOnePlace desk.value.head) }
 {

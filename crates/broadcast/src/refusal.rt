@@ -21,7 +21,7 @@ pub enum JoinRefusal {
 /// Why a seat gets no slice. The first that holds is answered: not seated, no memory, device.
 #[derive(Clone, Copy, Debug, PartialEq, Eq, Error)]
 pub enum NextRefusal {
-    /// Want of memory.
+    /// Out of memory.
     #[error("out of memory")]
     NoMemory = 1,
     /// The device failed in this step.

@@ -28,7 +28,7 @@ struct Arms {
 }
 
 impl Switch {
-    /// A switch that is off. `AllocError` is want of memory for its words.
+    /// A switch that is off. `AllocError`: there is no memory for its words.
     pub fn new(alloc: Global) -> Result<Switch, AllocError> {
         let arms = Arms {
             calls_to_failure: AtomicU64::new(0),

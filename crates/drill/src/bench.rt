@@ -32,7 +32,7 @@ struct Drill {
     bench: Bench,
 }
 
-// A desk in a box, or, where memory is wanting, its disk.
+// A desk in a box, or, when memory runs out, its disk.
 fn boxed(alloc: Global, desk: Desk<FusedDisk>) -> Result<Box<Desk<FusedDisk>>, FusedDisk> {
     match Box::new(alloc, desk) {
         Ok(desk) => Ok(desk),

@@ -11,8 +11,8 @@ use drill_script::DeskLine;
 use rfb_wire::HostMessage;
 use std::alloc::{AllocError, Global};
 
-/// The answer to a line that wants a desk. Only want of memory for the list of a step, or of its
-/// reply, is an error.
+/// The answer to a line that wants a desk. It is an error only when memory
+/// for the list of a step, or of its reply, runs out.
 pub fn answer(
     alloc: Global,
     desk: &mut Desk<FusedDisk>,

@@ -84,7 +84,7 @@ pub record IsCutShort (file : List ℕ) : Type 0 where
   pub laid : Laid file blocks tail
   pub short : (opening_at (stream_of blocks tail) ≡ More) ⊎ ((tail ≢ []) × Waits (stream_of blocks tail))
 
--- what a fault says of the file; want of memory and a reader that fails say nothing
+-- what a fault says of the file; running out of memory and a reader that fails say nothing
 abbrev pub IsFault : List ℕ → FbsFault → Type 0
 IsFault file faults.NotFbs = is_start (take 12 file) ≡ false
 IsFault file faults.Truncated = IsCutShort file

@@ -33,7 +33,7 @@ pub enum FbsFault {
     /// A message is refused, by the limits of format 2.
     #[error("{0}")]
     Message(WireFault),
-    /// Want of memory.
+    /// Out of memory.
     #[error("out of memory")]
     NoMemory,
     /// The reader failed.
@@ -80,7 +80,7 @@ pub enum ExportFault {
     /// The device failed.
     #[error("the device failed")]
     Device,
-    /// Want of memory.
+    /// Out of memory.
     #[error("out of memory")]
     NoMemory,
     /// The writer failed, or took nothing.

@@ -77,7 +77,7 @@ impl Tally for Kept {
     }
 }
 
-/// Their number alone. At 2^64 messages, more than any file has, it ends as for want of memory.
+/// Their number alone. At 2^64 messages, more than any file has, it ends as when memory runs out.
 #[derive(Clone, Copy)]
 pub struct Counter {
     number: u64,

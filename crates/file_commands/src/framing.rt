@@ -4,10 +4,10 @@ ghost use Rattle.std.specs.Prelude.{◌<◌};
 
 use crate::command::Work;
 use crate::recording::open_path;
-use crate::refusal::{Ended, Refusal};
+use crate::refusal::Ended;
 use file_disk::{FileDisk, Progress, Watched};
 use key_index::Indexed;
-use pictures::{Film, FilmFault, write_frames};
+use pictures::{Film, write_frames};
 use std::alloc::Global;
 use std::fs::File;
 use std::io::{BufWriter, Write};
@@ -37,15 +37,6 @@ impl Filming<'_> {
             from: self.from,
             to: self.to.unwrap_or(end),
             rate: self.rate,
-        }
-    }
-}
-
-impl From<FilmFault> for Ended {
-    fn from(fault: FilmFault) -> Ended {
-        match fault {
-            FilmFault::Read(fault) => Ended::Refused(Refusal::Screen(fault)),
-            FilmFault::Write(error) => Ended::Failed(error),
         }
     }
 }

@@ -174,18 +174,6 @@ pub head_whole : (f : Format) (head : TileHead) (first more : List ℕ) → leng
 unfolding resume
 head_whole f head first more whole = rw (field-whole {E = Fault} (head_bytes f head.mask) first more whole) refl
 
-pub next_inside : (f : Format) (tile : Position) (colored : Bool) (others : ℕ) (bytes more : List ℕ) → length bytes ≡ subrectangle_bytes f colored
-    → is_inside (width_of tile) (height_of tile) (subrectangle_of f colored bytes) ≡ true
-    → resume f (stages.Subrectangle tile colored others) (bytes ++ more) ≡ parts_left f tile colored others more
-unfolding resume
-next_inside f tile colored others bytes more whole inside = part_inside f tile colored others bytes more whole inside
-
-pub next_outside : (f : Format) (tile : Position) (colored : Bool) (others : ℕ) (bytes more : List ℕ) → length bytes ≡ subrectangle_bytes f colored
-    → is_inside (width_of tile) (height_of tile) (subrectangle_of f colored bytes) ≡ false
-    → resume f (stages.Subrectangle tile colored others) (bytes ++ more) ≡ Bad Refused
-unfolding resume
-next_outside f tile colored others bytes more whole outside = part_outside f tile colored others bytes more whole outside
-
 -- ---- fields one behind the other
 
 -- bytes that are split in two
@@ -232,6 +220,12 @@ unfolding go_on
 run_more f first stage next behind front rest n is same goes more =
     ap (resume f first) (append_assoc front (take n rest) more)
     ∙ same (take n rest ++ more) ∙ ap (λ s. go_on f s (take n rest ++ more)) is ∙ goes more
+
+-- one field, named twice
+pub same_wants : (f : Format) (first stage : Measuring) (next : Option Measuring) → next ≡ Some stage → next ≡ Some first → wants_of f stage ≡ wants_of f first
+same_wants f first stage next a b =
+    let is : stage ≡ first = cc in
+    ap (wants_of f) is
 
 pub run_refused : (f : Format) (first stage : Measuring) (next : Option Measuring) (front rest bytes : List ℕ) → next ≡ Some stage → bytes ≡ front ++ rest
     → ((more : List ℕ) → resume f first (front ++ more) ≡ go_on f next more)

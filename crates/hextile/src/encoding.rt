@@ -157,7 +157,7 @@ fn append_tiles(
     Ok(())
 }
 
-// Appends data of a rectangle of these pixels. Want of memory leaves `bytes` as it was.
+// Appends data of a rectangle of these pixels. Running out of memory leaves `bytes` as it was.
 fn encode_numbers(format: &PixelFormat, pixels: Pixels, bytes: &mut Vec<u8>) -> Result<(), NoMemory>
     requires { All (IsNumber format.now) pixels.numbers.now }
     ensures ok { OnOk result (Appends (Shows format.now pixels.entry.w pixels.entry.h (colors_of format.now pixels.entry.numbers.now)) bytes.old.items bytes.new.items) }
@@ -169,11 +169,12 @@ fn encode_numbers(format: &PixelFormat, pixels: Pixels, bytes: &mut Vec<u8>) -> 
 }
 
 /// Appends data of a rectangle of w by h that has these colours, by rows from the top and each from
-/// the left, in a format to whose maxima they keep (RFC 6143, section 7.7.4). Which form a tile has,
-/// and which colours it names, isn't promised, but tested: each tile is the shorter one of
+/// the left, in a format to whose maxima they keep (RFC 6143, section 7.7.4). Which form a tile
+/// has, and which colours it names, isn't promised, but tested: each tile is the shorter one of
 /// subrectangles over a background, which have the foreground's colour where they have one colour,
 /// and of pixels. A background and a foreground are named where the tile before didn't have them,
-/// and in the first tile behind a raw or coloured one. Want of memory leaves `bytes` as it was.
+/// and in the first tile behind a raw or coloured one. Running out of memory leaves `bytes` as it
+/// was.
 pub fn encode(
     alloc: Global,
     format: &PixelFormat,
@@ -198,7 +199,7 @@ pub fn encode(
 
 /// Appends data of a rectangle that has these pixels, as [`encode`] does of their colours, if they
 /// have fewer bytes than the limit, and answers whether they have. It takes memory for the bytes
-/// alone. Where they haven't, and for want of memory, `bytes` stays as it was.
+/// alone. Where they haven't, and when memory runs out, `bytes` stays as it was.
 pub fn encode_numbers_below(
     format: &PixelFormat,
     pixels: Pixels,

@@ -8,8 +8,9 @@ use crate::position::{Position, TileHead, count_tiles};
 use pixel_format::PixelFormat;
 
 /// Which field of a rectangle's data comes next: what stands for the part that is judged. Data that
-/// come in pieces are judged by taking [`wants`](Measuring::wants) bytes for each
-/// [`step`](Measuring::step), from [`start`](Measuring::start) on, and no byte twice.
+/// come in pieces are judged by [`run`](Measuring::run), from [`start`](Measuring::start) on, and no
+/// byte twice: bytes that don't make the field whole are kept until [`wants`](Measuring::wants) have
+/// come.
 #[derive(Clone, Copy)]
 pub enum Measuring {
     /// A tile's mask.
@@ -73,7 +74,7 @@ fn judge_parts(
     bytes: &[u8],
 ) -> Result<(usize, Option<Measuring>), Measure>
     requires { subrectangle_bytes format.now colored ≤ length bytes.now }
-    ensures taken { IfOk result (λ x. (0 < x.0) × (x.0 ≤ length bytes.now)) }
+    ensures taken { IfOk result (λ x. (subrectangle_bytes format.now colored ≤ x.0) × (x.0 ≤ length bytes.now)) }
     ensures goes { IfOk result (λ x. (more : List ℕ)
         → parts_left format.now tile colored (suc others) (take x.0 bytes.now ++ more) ≡ go_on format.now x.1 more) }
     ensures refused { IfErr result (λ _. (more : List ℕ)
@@ -165,44 +166,6 @@ impl Measuring {
         }
     }
 
-    /// Judges the field, which is whole. Answers the next one, `None` where the data end, and
-    /// `Measure::Bad` at a mask that may not stand there and at a subrectangle that leaves its
-    /// tile.
-    pub fn step(self, format: &PixelFormat, field: &[u8]) -> Result<Option<Measuring>, Measure>
-        requires { length field.now ≡ wants_of format.now self }
-        ensures goes { IfOk result (λ next. (more : List ℕ)
-            → resume format.now self (field.now ++ more) ≡ go_on format.now next more) }
-        ensures refused { IfErr result (λ _. (more : List ℕ)
-            → resume format.now self (field.now ++ more) ≡ Bad Refused) }
-        ensures only { IfErr result (λ fault. fault ≡ Measure.Bad) }
-    {
-        match self {
-            Measuring::Mask(tile) => {
-                let mask = read_mask(field[0]);
-                if !may_stand(tile.named, field[0], mask) {
-                    return Err(Measure::Bad);
-                }
-                Ok(next_field(tile, mask))
-            }
-            Measuring::Pixels(tile) => Ok(next_tile(tile)),
-            Measuring::Head(head) => {
-                let count = read_count(format, head.mask, field);
-                Ok(next_part(head.tile, head.mask.colored, count as u16))
-            }
-            Measuring::Subrectangle {
-                tile,
-                colored,
-                others,
-            } => {
-                let area = tile.area();
-                if !is_part_inside(format, colored, field, area.w, area.h) {
-                    return Err(Measure::Bad);
-                }
-                Ok(next_part(tile, colored, others as u16))
-            }
-        }
-    }
-
     // Judges the field, or the subrectangles of its tile, where the bytes begin with it whole.
     // Answers how many bytes were judged, and what comes next.
     fn front(
@@ -210,7 +173,7 @@ impl Measuring {
         format: &PixelFormat,
         bytes: &[u8],
     ) -> Result<Option<(usize, Option<Measuring>)>, Measure>
-        ensures taken { IfOk result (λ o. IfSome o (λ x. (0 < x.0) × (x.0 ≤ length bytes.now))) }
+        ensures taken { IfOk result (λ o. IfSome o (λ x. (0 < x.0) × (wants_of format.now self ≤ x.0) × (x.0 ≤ length bytes.now))) }
         ensures goes { IfOk result (λ o. IfSome o (λ x. (more : List ℕ)
             → resume format.now self (take x.0 bytes.now ++ more) ≡ go_on format.now x.1 more)) }
         ensures waits { result ≡ Ok None → length bytes.now < wants_of format.now self }
@@ -222,29 +185,43 @@ impl Measuring {
         if bytes.len() < wants {
             return Ok(None);
         }
-        if let Measuring::Subrectangle {
-            tile,
-            colored,
-            others,
-        } = self
-        {
-            let judged = judge_parts(format, tile, colored, others, bytes)?;
-            return Ok(Some(judged));
+        let (field, _) = bytes.split_at(wants);
+        match self {
+            Measuring::Mask(tile) => {
+                let mask = read_mask(field[0]);
+                if !may_stand(tile.named, field[0], mask) {
+                    return Err(Measure::Bad);
+                }
+                Ok(Some((wants, next_field(tile, mask))))
+            }
+            Measuring::Pixels(tile) => Ok(Some((wants, next_tile(tile)))),
+            Measuring::Head(head) => {
+                let count = read_count(format, head.mask, field);
+                let next = next_part(head.tile, head.mask.colored, count as u16);
+                Ok(Some((wants, next)))
+            }
+            Measuring::Subrectangle {
+                tile,
+                colored,
+                others,
+            } => {
+                let judged = judge_parts(format, tile, colored, others, bytes)?;
+                Ok(Some(judged))
+            }
         }
-        let next = self.step(format, &bytes[..wants])?;
-        Ok(Some((wants, next)))
     }
 
-    /// Judges the whole fields that the bytes begin with, as `step` does one by one. Answers how
-    /// many bytes they have, and the field behind them, which isn't whole in the bytes, `None`
-    /// where the data end; and `Measure::Bad` where one of them is a mask that may not stand there,
-    /// or a subrectangle that leaves its tile.
+    /// Judges the whole fields that the bytes begin with. Answers how many bytes they have, and the
+    /// field behind them, which isn't whole in the bytes, `None` where the data end; and
+    /// `Measure::Bad` where one of them is a mask that may not stand there, or a subrectangle that
+    /// leaves its tile.
     pub fn run(
         self,
         format: &PixelFormat,
         bytes: &[u8],
     ) -> Result<(usize, Option<Measuring>), Measure>
         ensures taken { IfOk result (λ x. x.0 ≤ length bytes.now) }
+        ensures first { IfOk result (λ x. wants_of format.now self ≤ length bytes.now → wants_of format.now self ≤ x.0) }
         ensures goes { IfOk result (λ x. (more : List ℕ)
             → resume format.now self (take x.0 bytes.now ++ more) ≡ go_on format.now x.1 more) }
         ensures waits { IfOk result (λ x. IfSome x.1 (λ next. length bytes.now < x.0 + wants_of format.now next)) }

@@ -54,8 +54,8 @@ fn append_pixel_if(
     Ok(())
 }
 
-/// Appends what stands between a mask and the subrectangles. Want of memory may leave some of the
-/// bytes.
+/// Appends what stands between a mask and the subrectangles. Running out of memory may leave some
+/// of the bytes.
 fn append_head(
     format: &PixelFormat,
     mask: Mask,
@@ -115,7 +115,7 @@ fn append_parts(
     Ok(())
 }
 
-/// Appends a tile of parts over a background. Want of memory may leave some of the bytes.
+/// Appends a tile of parts over a background. Running out of memory may leave some of the bytes.
 pub(crate) fn append_parts_tile(
     format: &PixelFormat,
     mask: Mask,
@@ -146,7 +146,7 @@ pub(crate) fn append_parts_tile(
     Ok(())
 }
 
-/// Appends a raw tile. Want of memory may leave some of the bytes.
+/// Appends a raw tile. Running out of memory may leave some of the bytes.
 pub(crate) fn append_raw_tile(
     format: &PixelFormat,
     numbers: &[u32],

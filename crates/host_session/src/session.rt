@@ -136,8 +136,8 @@ impl HostSession {
         Ok(())
     }
 
-    /// Appends the bytes that are due to the host, each once. Want of memory changes nothing. After
-    /// a fault it still gives what was due.
+    /// Appends the bytes that are due to the host, each once. Running out of memory changes
+    /// nothing. After a fault it still gives what was due.
     pub fn out(&mut self, out: &mut Vec<u8>) -> Result<(), NoMemory>
         ensures ok { OnOk result ((out.new.items ≡ out.old.items ++ self.old.due)
             × (self.new ≡ record self.old { due = [] })) }

@@ -20,7 +20,7 @@ pub enum MigrateFault {
     /// The target's device failed in this call.
     #[error("the target's device failed")]
     Target,
-    /// Want of memory.
+    /// Out of memory.
     #[error("out of memory")]
     NoMemory,
     /// The source is of format 2 already; nothing is written.

@@ -96,8 +96,8 @@ fn append_row(
     Ok(())
 }
 
-/// Appends the numbers of the pixels of the places of an area, row by row. Want of memory may leave a
-/// part of them.
+/// Appends the numbers of the pixels of the places of an area, row by row. Running out of memory
+/// may leave a part of them.
 pub(crate) fn number_area(
     format: &PixelFormat,
     pixels: &[Pixel],

@@ -81,7 +81,7 @@ impl Screen {
     }
 
     /// Appends the colours of the places of an area, by rows from the top and each from the left.
-    /// Want of memory leaves `out` as it was.
+    /// Running out of memory leaves `out` as it was.
     pub fn area(&self, area: Area, out: &mut Vec<Color>) -> Result<(), NoMemory>
         requires columns { area.x + area.w ≤ self.now.width }
         requires rows { area.y + area.h ≤ self.now.height }
@@ -103,9 +103,9 @@ impl Screen {
         let _ = &self.size;
     }
 
-    /// Appends the pixels of the places of an area, by rows from the top and each from the left (RFC
-    /// 6143, section 7.7.1): for each place that of its colour, as the format has it. In the host's
-    /// format they are copied. Want of memory leaves `out` as it was.
+    /// Appends the pixels of the places of an area, by rows from the top and each from the left
+    /// (RFC 6143, section 7.7.1): for each place that of its colour, as the format has it. In the
+    /// host's format they are copied. Running out of memory leaves `out` as it was.
     pub fn append_pixels(
         &self,
         format: &PixelFormat,

@@ -130,7 +130,8 @@ fn append_row(
     Ok(())
 }
 
-/// Appends the pixels of the places of an area, row by row. Want of memory may leave a part of them.
+/// Appends the pixels of the places of an area, row by row. Running out of memory may leave a part
+/// of them.
 pub(crate) fn append_area(
     format: &PixelFormat,
     pixels: &[Pixel],

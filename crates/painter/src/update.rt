@@ -84,9 +84,10 @@ impl Screen {
         }
     }
 
-    /// Appends a FramebufferUpdate (RFC 6143, section 7.6.1) with a rectangle for each of these parts,
-    /// in their order, as `rect_codec::write_parts` writes one of the screen's colours as the format
-    /// has them; Raw straight from the screen. Want of memory leaves `out` as it was.
+    /// Appends a FramebufferUpdate (RFC 6143, section 7.6.1) with a rectangle for each of these
+    /// parts, in their order, as `rect_codec::write_parts` writes one of the screen's colours as
+    /// the format has them; Raw straight from the screen. Running out of memory leaves `out` as it
+    /// was.
     pub fn append_update(
         &self,
         alloc: Global,

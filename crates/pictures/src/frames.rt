@@ -62,7 +62,7 @@ pub enum FilmFault {
     /// The recording isn't read.
     #[error("the recording isn't read: {0}")]
     Read(#[source] ReplayFault),
-    /// They can't be written, or memory for a picture is wanting.
+    /// They can't be written, or memory for a picture runs out.
     #[error("the frames can't be written: {0}")]
     Write(#[source] io::Error),
 }

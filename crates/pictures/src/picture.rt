@@ -141,8 +141,8 @@ fn row_of(format: PictureFormat, height: u16, place: u16) -> u16
 }
 
 /// Writes a screen as a picture file: all of it where the answer is `Ok`. It takes memory for one
-/// row. An error is the writer's, want of memory, or `InvalidInput` for a BMP of 2^32 bytes or more;
-/// a part of the file may have been written then.
+/// row. An error is the writer's, that memory ran out, or `InvalidInput` for a BMP of 2^32 bytes or
+/// more; a part of the file may have been written then.
 pub fn write_picture<W: Write>(
     alloc: Global,
     screen: &Screen,

@@ -10,7 +10,7 @@ use crate::format::PixelFormat;
 use terms::NoMemory;
 
 impl PixelFormat {
-    /// Appends the pixel of a colour. Want of memory may leave a part of it.
+    /// Appends the pixel of a colour. Running out of memory may leave a part of it.
     pub fn append_pixel(&self, color: Color, bytes: &mut Vec<u8>) -> Result<(), NoMemory>
         requires { IsWithin self.now color }
         ensures ok { OnOk result (Appends (IsPixel self.now color) bytes.old.items bytes.new.items) }

@@ -9,12 +9,12 @@ pub enum Stopped {
     Refused(Refusal),
     /// It was refused, and that was told.
     Told,
-    /// A stream can't be written, or memory for the program's own work is wanting.
+    /// A stream can't be written, or memory for the program's own work runs out.
     Failed(io::Error),
 }
 
 impl Stopped {
-    /// Memory for the program's own work is wanting.
+    /// Memory for the program's own work runs out.
     pub fn out_of_memory() -> Stopped {
         Stopped::Failed(io::ErrorKind::OutOfMemory.into())
     }

@@ -32,8 +32,8 @@ pub enum Part<'a> {
     },
 }
 
-/// Appends a rectangle that copies to its area one as large, whose left top corner is at this column
-/// and row (RFC 6143, section 7.7.2). Want of memory leaves `out` as it was.
+/// Appends a rectangle that copies to its area one as large, whose left top corner is at this
+/// column and row (RFC 6143, section 7.7.2). Running out of memory leaves `out` as it was.
 pub fn append_copy(area: Area, x: u16, y: u16, out: &mut Vec<u8>) -> Result<(), NoMemory>
     ensures ok { OnOk result (out.new.items ≡ out.old.items ++ rectangle_head area (number_of Encoding.CopyRect) ++ source_bytes x y) }
     ensures err { OnErr result (out.new.items ≡ out.old.items) }
@@ -77,7 +77,7 @@ fn append_part(
     }
 }
 
-// Appends the rectangles of parts. Want of memory may leave some of them.
+// Appends the rectangles of parts. Running out of memory may leave some of them.
 fn append_parts(
     alloc: Global,
     format: &PixelFormat,
@@ -94,10 +94,10 @@ fn append_parts(
     Ok(())
 }
 
-/// Appends a FramebufferUpdate (RFC 6143, section 7.6.1) with a rectangle for each of these parts, in
-/// their order; none gives an update of no rectangles. The colours keep to the format's maxima. A
-/// rectangle of colours never has more bytes than 12 and a pixel for each place. Want of memory leaves
-/// `out` as it was.
+/// Appends a FramebufferUpdate (RFC 6143, section 7.6.1) with a rectangle for each of these parts,
+/// in their order; none gives an update of no rectangles. The colours keep to the format's maxima.
+/// A rectangle of colours never has more bytes than 12 and a pixel for each place. Running out of
+/// memory leaves `out` as it was.
 pub fn write_parts(
     alloc: Global,
     format: &PixelFormat,

@@ -14,7 +14,7 @@ use std::alloc::Global;
 use terms::{Area, NoMemory};
 
 /// Appends the header of a rectangle: its area, and the number of its encoding (RFC 6143, section
-/// 7.6.1). Want of memory leaves `out` as it was.
+/// 7.6.1). Running out of memory leaves `out` as it was.
 pub fn append_head(area: Area, encoding: Encoding, out: &mut Vec<u8>) -> Result<(), NoMemory>
     ensures ok { OnOk result (out.new.items ≡ out.old.items ++ rectangle_head area (number_of encoding)) }
     ensures err { OnErr result (out.new.items ≡ out.old.items) }
@@ -29,8 +29,8 @@ pub fn append_head(area: Area, encoding: Encoding, out: &mut Vec<u8>) -> Result<
 /// Appends a FramebufferUpdate of one rectangle (RFC 6143, section 7.6.1) that gives the places of
 /// its area these colours, by rows from the top and each from the left, in a format to whose maxima
 /// they keep. It is written in the encoding that is asked for where that makes it shorter than Raw,
-/// and else, as for CopyRect, in Raw: so it never has more bytes than 16 and a pixel for each place.
-/// Want of memory leaves `out` as it was.
+/// and else, as for CopyRect, in Raw: so it never has more bytes than 16 and a pixel for each
+/// place. Running out of memory leaves `out` as it was.
 pub fn write_update(
     alloc: Global,
     format: &PixelFormat,

@@ -11,8 +11,9 @@ use pixel_format::PixelFormat;
 use terms::{Area, ScreenSize, WireFault};
 
 /// Which field of a rectangle's data comes next: what stands for the part that is judged. Data that
-/// come in pieces are judged by taking [`wants`](Judging::wants) bytes for each
-/// [`step`](Judging::step), from [`start`](Judging::start) on, and no byte twice.
+/// come in pieces are judged by [`run`](Judging::run), from [`start`](Judging::start) on, and no
+/// byte twice: bytes that don't make the field whole are kept until [`wants`](Judging::wants) have
+/// come.
 #[derive(Clone, Copy)]
 pub enum Judging {
     /// The pixels of a Raw rectangle of this area.
@@ -29,52 +30,6 @@ pub enum Judging {
     Hextile(hextile::Measuring),
 }
 
-// The field behind one of an RRE rectangle's data.
-fn rre_step(
-    format: &PixelFormat,
-    w: u16,
-    h: u16,
-    stage: rre::Measuring,
-    field: &[u8],
-) -> Result<Option<Judging>, WireFault>
-    requires { length field.now ≡ wants_of format.now (Judging.Rre w h stage) }
-    ensures goes { IfOk result (λ next. (width height : ℕ) → (more : List ℕ)
-        → resume format.now width height (Judging.Rre w h stage) (field.now ++ more) ≡ go_on format.now width height next more) }
-    ensures some { IfOk result (HasBytes format.now) }
-    ensures refused { IfErr result (λ fault. (width height : ℕ) → (more : List ℕ)
-        → resume format.now width height (Judging.Rre w h stage) (field.now ++ more) ≡ Bad fault) }
-{
-    let Ok(next) = stage.step(format, w, h, field) else {
-        return Err(WireFault::BadRre);
-    };
-    let Some(next) = next else {
-        return Ok(None);
-    };
-    Ok(Some(Judging::Rre { w, h, next }))
-}
-
-// The field behind one of a Hextile rectangle's data.
-fn hextile_step(
-    format: &PixelFormat,
-    stage: hextile::Measuring,
-    field: &[u8],
-) -> Result<Option<Judging>, WireFault>
-    requires { length field.now ≡ wants_of format.now (Judging.Hextile stage) }
-    ensures goes { IfOk result (λ next. (width height : ℕ) → (more : List ℕ)
-        → resume format.now width height (Judging.Hextile stage) (field.now ++ more) ≡ go_on format.now width height next more) }
-    ensures some { IfOk result (HasBytes format.now) }
-    ensures refused { IfErr result (λ fault. (width height : ℕ) → (more : List ℕ)
-        → resume format.now width height (Judging.Hextile stage) (field.now ++ more) ≡ Bad fault) }
-{
-    let Ok(next) = stage.step(format, field) else {
-        return Err(WireFault::BadHextile);
-    };
-    let Some(next) = next else {
-        return Ok(None);
-    };
-    Ok(Some(Judging::Hextile(next)))
-}
-
 // The whole fields of an RRE rectangle's data that the bytes begin with.
 fn rre_run(
     format: &PixelFormat,
@@ -84,6 +39,7 @@ fn rre_run(
     bytes: &[u8],
 ) -> Result<(usize, Option<Judging>), WireFault>
     ensures taken { IfOk result (λ x. x.0 ≤ length bytes.now) }
+    ensures first { IfOk result (λ x. let field = wants_of format.now (Judging.Rre w h stage) in field ≤ length bytes.now → field ≤ x.0) }
     ensures goes { IfOk result (λ x. (width height : ℕ) → (more : List ℕ)
         → resume format.now width height (Judging.Rre w h stage) (take x.0 bytes.now ++ more) ≡ go_on format.now width height x.1 more) }
     ensures waits { IfOk result (λ x. IfSome x.1 (λ next. length bytes.now < x.0 + wants_of format.now next)) }
@@ -106,6 +62,7 @@ fn hextile_run(
     bytes: &[u8],
 ) -> Result<(usize, Option<Judging>), WireFault>
     ensures taken { IfOk result (λ x. x.0 ≤ length bytes.now) }
+    ensures first { IfOk result (λ x. let field = wants_of format.now (Judging.Hextile stage) in field ≤ length bytes.now → field ≤ x.0) }
     ensures goes { IfOk result (λ x. (width height : ℕ) → (more : List ℕ)
         → resume format.now width height (Judging.Hextile stage) (take x.0 bytes.now ++ more) ≡ go_on format.now width height x.1 more) }
     ensures waits { IfOk result (λ x. IfSome x.1 (λ next. length bytes.now < x.0 + wants_of format.now next)) }
@@ -157,39 +114,12 @@ impl Judging {
         }
     }
 
-    /// Judges the field, which is whole, on a screen of this size. Answers the next one, `None`
-    /// where the data end; or `SourceOutside` at the place of a CopyRect rectangle's source,
-    /// `BadRre` at a subrectangle that leaves an RRE rectangle, and `BadHextile` at a mask that may
-    /// not stand in a Hextile rectangle and at a subrectangle that leaves its tile.
-    pub fn step(
-        self,
-        format: &PixelFormat,
-        size: ScreenSize,
-        field: &[u8],
-    ) -> Result<Option<Judging>, WireFault>
-        requires { length field.now ≡ wants_of format.now self }
-        ensures goes { IfOk result (λ next. (more : List ℕ)
-            → resume format.now size.width size.height self (field.now ++ more) ≡ go_on format.now size.width size.height next more) }
-        ensures some { IfOk result (HasBytes format.now) }
-        ensures refused { IfErr result (λ fault. (more : List ℕ)
-            → resume format.now size.width size.height self (field.now ++ more) ≡ Bad fault) }
-    {
-        match self {
-            Judging::Pixels(_) => Ok(None),
-            Judging::Source(area) => {
-                if !lies_inside(source_at(area, field), size) {
-                    return Err(WireFault::SourceOutside);
-                }
-                Ok(None)
-            }
-            Judging::Rre { w, h, next } => rre_step(format, w, h, next, field),
-            Judging::Hextile(next) => hextile_step(format, next, field),
-        }
-    }
-
-    /// Judges the whole fields that the bytes begin with, on a screen of this size, as `step` does
-    /// one by one. Answers how many bytes they have, and the field behind them, which isn't whole
-    /// in the bytes, `None` where the data end; or the fault of the first field that is refused.
+    /// Judges the whole fields that the bytes begin with, on a screen of this size. Answers how many
+    /// bytes they have, and the field behind them, which isn't whole in the bytes, `None` where the
+    /// data end; or the fault of the first field that is refused: `SourceOutside` at the place of a
+    /// CopyRect rectangle's source, `BadRre` at a subrectangle that leaves an RRE rectangle, and
+    /// `BadHextile` at a mask that may not stand in a Hextile rectangle and at a subrectangle that
+    /// leaves its tile.
     pub fn run(
         self,
         format: &PixelFormat,
@@ -197,6 +127,7 @@ impl Judging {
         bytes: &[u8],
     ) -> Result<(usize, Option<Judging>), WireFault>
         ensures taken { IfOk result (λ x. x.0 ≤ length bytes.now) }
+        ensures first { IfOk result (λ x. wants_of format.now self ≤ length bytes.now → wants_of format.now self ≤ x.0) }
         ensures goes { IfOk result (λ x. (more : List ℕ)
             → resume format.now size.width size.height self (take x.0 bytes.now ++ more) ≡ go_on format.now size.width size.height x.1 more) }
         ensures waits { IfOk result (λ x. IfSome x.1 (λ next. length bytes.now < x.0 + wants_of format.now next)) }

@@ -18,7 +18,7 @@ pub enum ReplayFault {
     /// The device failed in this call.
     #[error("the device failed")]
     Device,
-    /// Want of memory.
+    /// Out of memory.
     #[error("out of memory")]
     NoMemory,
 }

@@ -126,7 +126,7 @@ faultless format width height m bytes f is same fault =
     no_fault (message_at (message_limit format) width height) (message_local (message_limit format) width height) bytes (part_of m bytes ∷ []) [] f
     (reads_one format width height m bytes is same) (message-empty (message_limit format) width height) fault
 
--- a reader that stops in one message stops for want of memory
+-- a reader that stops in one message stops when memory runs out
 pub memory_alone : (format : Format) (width height : ℕ) (m : Host) (bytes : List ℕ) (all : List Host) (f : WireFault) → IsFor format width height m → m.bytes ≡ bytes
     → Stops (message_at (message_limit format) width height) (given format width height) f [] all bytes → f ≡ faults.NoMemory
 memory_alone format width height m bytes all f is same stops = alone f (fault_of f refl)

@@ -222,30 +222,6 @@ fn next_data(at: usize, begun: Begun, next: Option<Judging>, others: u16) -> Aft
     }
 }
 
-// Behind a field of a rectangle's data, which is whole.
-fn behind_content(
-    size: ScreenSize,
-    field: &[u8],
-    at: usize,
-    begun: Begun,
-    current: Judging,
-    others: u16,
-) -> Result<AfterField, WireFault>
-    requires whole { length field.now ≡ judging.wants_of host_format current }
-    requires short { at + length field.now < 2 ^ 32 }
-    ensures goes { IfOk result (λ s. (more : List ℕ)
-        → resume size.width size.height (Stage.Data at begun current others) (field.now ++ more) ≡ step_on size.width size.height s more) }
-    ensures begins { IfOk result (λ s. NextBegins (at + length field.now) s.next) }
-    ensures kind { IfOk result (λ s. (bytes : List ℕ) → IsOfUpdate bytes → NextIsOfKind s.next bytes) }
-    ensures faults { IfErr result (λ f. (more : List ℕ)
-        → resume size.width size.height (Stage.Data at begun current others) (field.now ++ more) ≡ Bad f) }
-{
-    match current.step(&PixelFormat::host(), size, field) {
-        Ok(next) => Ok(next_data(at + field.len(), begun, next, others)),
-        Err(fault) => Err(fault),
-    }
-}
-
 /// What follows from the whole fields of a rectangle's data that the bytes begin with, and how many
 /// bytes these have.
 pub fn run(
@@ -258,6 +234,7 @@ pub fn run(
 ) -> Result<(usize, AfterField), WireFault>
     requires { at + length bytes.now < 2 ^ 32 }
     ensures taken { IfOk result (λ x. x.0 ≤ length bytes.now) }
+    ensures first { IfOk result (λ x. judging.wants_of host_format current ≤ length bytes.now → judging.wants_of host_format current ≤ x.0) }
     ensures goes { IfOk result (λ x. (more : List ℕ)
         → resume size.width size.height (Stage.Data at begun current others) (take x.0 bytes.now ++ more) ≡ step_on size.width size.height x.1 more) }
     ensures begins { IfOk result (λ x. NextBegins (at + x.0) x.1.next) }
@@ -319,6 +296,9 @@ pub fn step(size: ScreenSize, stage: Stage, field: &[u8]) -> Result<AfterField, 
             begun,
             next,
             others,
-        } => behind_content(size, field, at, begun, next, others),
+        } => {
+            let (_, whole) = run(size, at, begun, next, others, field)?;
+            Ok(whole)
+        }
     }
 }

@@ -67,7 +67,8 @@ fn four_bytes(number: u32) -> [u8; 4]
     number.to_be_bytes()
 }
 
-/// Appends the data of a background and subrectangles. Want of memory may leave some of the bytes.
+/// Appends the data of a background and subrectangles. Running out of memory may leave some of the
+/// bytes.
 pub(crate) fn append_data(
     format: &PixelFormat,
     background: Color,

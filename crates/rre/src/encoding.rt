@@ -28,7 +28,7 @@ fn background_number(alloc: Global, format: &PixelFormat, numbers: &[u32]) -> Re
 }
 
 // Appends data of at most so many subrectangles, and answers whether they are enough. Where they
-// aren't, and for want of memory, `bytes` stays as it was.
+// aren't, and when memory runs out, `bytes` stays as it was.
 fn append_few(
     alloc: Global,
     format: &PixelFormat,
@@ -93,9 +93,9 @@ pub fn encode(
 
 /// Appends data of a rectangle that has these pixels, as [`encode`] does of their colours, if they
 /// have fewer bytes than the limit, and answers whether they have. It stops listing subrectangles
-/// once they have as many. It answers `false` only where data that list each place of another colour
-/// than the background's by itself have as many bytes as the limit; then, and for want of memory,
-/// `bytes` stays as it was.
+/// once they have as many. It answers `false` only where data that list each place of another
+/// colour than the background's by itself have as many bytes as the limit; then, and when memory
+/// runs out, `bytes` stays as it was.
 pub fn encode_numbers_below(
     alloc: Global,
     format: &PixelFormat,

@@ -10,8 +10,8 @@ use crate::fault::Measure;
 use pixel_format::PixelFormat;
 
 /// Which field of a rectangle's data comes next: what stands for the part that is judged. Data that
-/// come in pieces are judged by taking [`wants`](Measuring::wants) bytes for each
-/// [`step`](Measuring::step), from `Head` on, and no byte twice.
+/// come in pieces are judged by [`run`](Measuring::run), from `Head` on, and no byte twice: bytes
+/// that don't make the field whole are kept until [`wants`](Measuring::wants) have come.
 #[derive(Clone, Copy)]
 pub enum Measuring {
     /// The number of subrectangles, and the background's pixel.
@@ -51,6 +51,7 @@ fn judge_parts(
 ) -> Result<(usize, Option<Measuring>), Measure>
     requires { count ≤ 2 ^ 32 }
     ensures taken { IfOk result (λ x. x.0 ≤ length bytes.now) }
+    ensures first { IfOk result (λ x. 0 < count → subrectangle_bytes format.now ≤ length bytes.now → subrectangle_bytes format.now ≤ x.0) }
     ensures goes { IfOk result (λ x. (more : List ℕ)
         → judged (subrectangles_at format.now w h count (take x.0 bytes.now ++ more)) ≡ go_on format.now w h x.1 more) }
     ensures waits { IfOk result (λ x. IfSome x.1 (λ next. length bytes.now < x.0 + wants_of format.now next)) }
@@ -85,37 +86,9 @@ impl Measuring {
         }
     }
 
-    /// Judges the field, which is whole, in a rectangle of w by h. Answers the next one, `None`
-    /// where the data end, and `Measure::Bad` at a subrectangle that leaves the rectangle.
-    pub fn step(
-        self,
-        format: &PixelFormat,
-        w: u16,
-        h: u16,
-        field: &[u8],
-    ) -> Result<Option<Measuring>, Measure>
-        requires { length field.now ≡ wants_of format.now self }
-        ensures goes { IfOk result (λ next. (more : List ℕ)
-            → resume format.now w h self (field.now ++ more) ≡ go_on format.now w h next more) }
-        ensures refused { IfErr result (λ _. (more : List ℕ)
-            → resume format.now w h self (field.now ++ more) ≡ Bad Outside) }
-        ensures only { IfErr result (λ fault. fault ≡ Measure.Bad) }
-    {
-        match self {
-            Measuring::Head => Ok(next_of(read_count(field) as u64)),
-            Measuring::Subrectangle { more } => {
-                if !is_part_inside(format, field, w, h) {
-                    return Err(Measure::Bad);
-                }
-                Ok(next_of(more as u64))
-            }
-        }
-    }
-
-    /// Judges the whole fields that the bytes begin with, in a rectangle of w by h, as `step` does
-    /// one by one. Answers how many bytes they have, and the field behind them, which isn't whole
-    /// in the bytes, `None` where the data end; and `Measure::Bad` where one of them is a
-    /// subrectangle that leaves the rectangle.
+    /// Judges the whole fields that the bytes begin with, in a rectangle of w by h. Answers how many
+    /// bytes they have, and the field behind them, which isn't whole in the bytes, `None` where the
+    /// data end; and `Measure::Bad` where one of them is a subrectangle that leaves the rectangle.
     pub fn run(
         self,
         format: &PixelFormat,
@@ -124,6 +97,7 @@ impl Measuring {
         bytes: &[u8],
     ) -> Result<(usize, Option<Measuring>), Measure>
         ensures taken { IfOk result (λ x. x.0 ≤ length bytes.now) }
+        ensures first { IfOk result (λ x. wants_of format.now self ≤ length bytes.now → wants_of format.now self ≤ x.0) }
         ensures goes { IfOk result (λ x. (more : List ℕ)
             → resume format.now w h self (take x.0 bytes.now ++ more) ≡ go_on format.now w h x.1 more) }
         ensures waits { IfOk result (λ x. IfSome x.1 (λ next. length bytes.now < x.0 + wants_of format.now next)) }

@@ -48,7 +48,7 @@ pub trait ReceiptSink<T>: Drop {
     /// Takes the receipt of what was committed.
     fn receipt(&mut self, receipt: T);
 
-    /// Takes word that memory is wanting, so that nothing was taken; it is tried again a little
+    /// Takes word that memory ran out, so that nothing was taken; it is tried again a little
     /// later.
     fn shortage(&mut self) {}
 }
@@ -122,7 +122,7 @@ pub trait ViewerSink<T, E>: Drop {
         ensures size { (width self.new ≡ width self.old) × (height self.new ≡ height self.old) }
         ensures stays { (position self.new ≡ position self.old) × (fresh self.new ≡ fresh self.old) };
 
-    /// Takes word that memory is wanting, so that nothing is handed to it; it is asked again a
+    /// Takes word that memory ran out, so that nothing is handed to it; it is asked again a
     /// little later.
     fn shortage(&mut self)
         ensures size { (width self.new ≡ width self.old) × (height self.new ≡ height self.old) }

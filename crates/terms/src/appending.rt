@@ -24,7 +24,7 @@ pub fn whole_or_none(
 }
 
 /// Appends bytes that came. Where they need more room, it takes room for no more than twice as many
-/// bytes as there are then, and 8. For want of memory `bytes` stays as it was, but for its room.
+/// bytes as there are then, and 8. When memory runs out, `bytes` stays as it was, but for its room.
 pub fn append_come(bytes: &mut Vec<u8>, come: &[u8]) -> Result<(), NoMemory>
     ensures ok { OnOk result (bytes.new.items ≡ bytes.old.items ++ come.now) }
     ensures err { OnErr result (bytes.new.items ≡ bytes.old.items) }

@@ -1,6 +1,6 @@
 //! What the crates above mean by one word: an area of a screen, a screen's size, a field of bytes,
-//! what is wrong with a peer's bytes, want of memory, a number in text; and, for contracts, readings,
-//! conversations and numbers.
+//! what is wrong with a peer's bytes, running out of memory, a number in text; and, for contracts,
+//! readings, conversations and numbers.
 #![tactic(auto)]
 
 mod appending;
@@ -19,5 +19,5 @@ pub use front::field;
 pub use screen_size::ScreenSize;
 pub use wire_fault::WireFault;
 
-/// Want of memory: a growth was refused.
+/// Out of memory: a growth was refused.
 pub type NoMemory = std::alloc::AllocError;

@@ -59,7 +59,7 @@ impl<T: Drop> From<AllocFailed<T>> for WireFault {
 
 impl WireFault {
     /// The fault's number, by which it is printed: 1 to 7 in the order above, 8 for a pixel format,
-    /// and 9 for want of memory.
+    /// and 9 for memory that ran out.
     pub fn number(&self) -> u8
         ensures { result ≡ wire_number self.now }
     {

@@ -39,7 +39,7 @@ same_stands w h name heard other (Some r) (Some q) stream ms ns said put a b =
     let rests : a.gets.rest ≡ b.gets.rest = cc in
     (same_messages a.gets.rest b.gets.rest ms ns a.tail b.tail rests a.gets.gives a.waits b.gets.gives b.waits, ap (λ (t : Talk (Unit {0}) SessionFault). t.said) both)
 
--- a fault that isn't there is want of memory
+-- a fault that isn't there is that memory ran out
 no_fault_there : (f : WireFault) (end : List ℕ) → UnlessMemory f (message_at end ≡ Bad f) → (message_at end ≡ Bad f → ⊥) → faults.Wire f ≡ faults.Wire wire.NoMemory
 no_fault_there wire.UnknownType end is never = absurd (never is)
 no_fault_there wire.OutsideScreen end is never = absurd (never is)

@@ -110,8 +110,8 @@ impl Greeting {
         Ok(())
     }
 
-    /// Appends the bytes that are due, and answers how many were put out with them. Want of memory
-    /// changes nothing.
+    /// Appends the bytes that are due, and answers how many were put out with them. Running out
+    /// of memory changes nothing.
     pub fn write_due(&self, alloc: Global, out: &mut Vec<u8>) -> Result<usize, NoMemory>
         requires { IsSoundGreeting self.now }
         ensures ok { OnOk result (out.new.items

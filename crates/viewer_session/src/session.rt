@@ -185,10 +185,10 @@ impl Session {
 
     /// Appends the handshake's answers that are due, each byte once, and then the update that is
     /// due, whose places are taken as clean: a rectangle that copies, where a copy is kept all of
-    /// whose places are asked for; and one for each tile of 16 by 16 with other stale places that are
-    /// asked for, or one for all where there would be more than 4,096, each in the encoding that the
-    /// viewer asked for or in Raw. Want of memory changes nothing. After a fault it still gives what
-    /// was due.
+    /// whose places are asked for; and one for each tile of 16 by 16 with other stale places that
+    /// are asked for, or one for all where there would be more than 4,096, each in the encoding
+    /// that the viewer asked for or in Raw. Running out of memory changes nothing. After a fault it
+    /// still gives what was due.
     pub fn answer(&mut self, out: &mut Vec<u8>) -> Result<(), NoMemory>
         ensures due { OnOk result (IsDue self.old.view
             → Appends (Answers self.old.view self.new.view)

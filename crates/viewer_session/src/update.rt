@@ -40,8 +40,8 @@ fn parts_of(
 }
 
 /// Appends an update of a copy, if there is one, and of these areas of a screen behind it, in their
-/// order, for one who takes this format and asked for this encoding. Want of memory leaves `out` as
-/// it was.
+/// order, for one who takes this format and asked for this encoding. Running out of memory leaves
+/// `out` as it was.
 pub fn write_areas(
     alloc: Global,
     format: &PixelFormat,

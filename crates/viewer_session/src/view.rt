@@ -183,9 +183,9 @@ impl View {
 
     /// Appends the update that is due, and takes its places as clean; nothing where none is due. It
     /// begins with the kept copy, where all places that this goes to are asked for. It has a
-    /// rectangle for each tile of 16 by 16 with stale places that are asked for, beside those of the
-    /// copy, the smallest that holds those; or one for all, where there would be more than 4,096.
-    /// Want of memory changes nothing.
+    /// rectangle for each tile of 16 by 16 with stale places that are asked for, beside those of
+    /// the copy, the smallest that holds those; or one for all, where there would be more than
+    /// 4,096. Running out of memory changes nothing.
     pub fn answer(&mut self, alloc: Global, out: &mut Vec<u8>) -> Result<(), NoMemory>
         requires sound { IsSound self.old }
         ensures sound { IsSound self.new }

@@ -63,7 +63,7 @@ impl<'a, M: Mark, C: Connection, R: Clock + Eprint + Wait> Place<'a, M, C, R> {
         }
     }
 
-    /// Tells that memory is wanting, once until something is shown.
+    /// Tells that memory ran out, once until something is shown.
     pub fn tell_shortage(&mut self)
         ensures position { self.new.position ≡ self.old.position }
         ensures fresh { self.new.is_fresh ≡ self.old.is_fresh }

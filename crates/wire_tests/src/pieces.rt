@@ -21,8 +21,9 @@ pub fn hextile_in_pieces(
         if rest.len() < wants {
             return Err(Measure::NeedMore);
         }
-        next = stage.step(format, &rest[..wants])?;
-        rest = &rest[wants..];
+        let (taken, behind) = stage.run(format, &rest[..wants])?;
+        rest = &rest[taken..];
+        next = behind;
     }
     Err(Measure::NeedMore)
 }

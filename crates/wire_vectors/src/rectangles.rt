@@ -104,8 +104,9 @@ fn in_pieces(
         if rest.len() < wants {
             return Ok(None);
         }
-        next = stage.step(&host, size, &rest[..wants])?;
-        rest = &rest[wants..];
+        let (taken, behind) = stage.run(&host, size, &rest[..wants])?;
+        rest = &rest[taken..];
+        next = behind;
     }
     Ok(None)
 }

@@ -78,7 +78,7 @@ impl PixelFormat {
         self.put_number(number, bytes);
     }
 
-    /// Appends the pixel of a number. Want of memory may leave a part of it.
+    /// Appends the pixel of a number. Running out of memory may leave a part of it.
     pub fn append_number(&self, number: u32, bytes: &mut Vec<u8>) -> Result<(), NoMemory>
         requires { IsNumber self.now number }
         ensures ok { OnOk result (Appends (IsPixel self.now (number_color self.now number)) bytes.old.items bytes.new.items) }
@@ -112,7 +112,8 @@ impl PixelFormat {
         bytes.extend_from_slice(&pixel[..size])
     }
 
-    /// Appends the pixels of numbers, one behind the other. Want of memory may leave a part of them.
+    /// Appends the pixels of numbers, one behind the other. Running out of memory may leave a part
+    /// of them.
     pub fn append_numbers(&self, numbers: &[u32], bytes: &mut Vec<u8>) -> Result<(), NoMemory>
         requires { All (IsNumber self.now) numbers.now }
         ensures ok { OnOk result (Appends (ArePixels self.now (map (number_color self.now) numbers.now)) bytes.old.items bytes.new.items) }

@@ -1,4 +1,4 @@
-//! What vectors can't say of a viewer's messages: how they are written, and want of memory.
+//! How a viewer's messages are written, and what happens when memory runs out.
 
 ghost use Rattle.std.specs.Prelude.{◌≡◌, length};
 

@@ -1,4 +1,4 @@
-//! Want of memory in a conversation with a host.
+//! A conversation with a host while memory runs out.
 
 use crate::tests::readers::Reader;
 use host_session::{HostFault, HostSession};

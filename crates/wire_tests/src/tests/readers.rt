@@ -62,7 +62,7 @@ fn have_marks<M: Marked>(messages: &[M], marks: &[usize]) -> bool {
 }
 
 /// Whether a reader gives the messages with these marks, of bytes that come one by one; or, where
-/// memory is wanting, the first of them, and that fault at each call from then on.
+/// memory runs out, the first of them, and that fault at each call from then on.
 pub(crate) fn gives<M: Marked + Drop, R: Reader<M, WireFault>>(
     alloc: Global,
     reader: &mut R,

@@ -42,7 +42,7 @@ enum Order {
 }
 
 /// Holds workers. Who is held longer than 10,000 turns goes on, and is counted. It is also told
-/// where memory was wanting, so that nobody waits for what won't come.
+/// where memory ran out, so that nobody waits for what won't come.
 #[derive(Drop)]
 struct Gates<'a, R: Clock> {
     rt: &'a R,
@@ -438,7 +438,7 @@ fn settle<D: Disk + Drop, M: Mark, R: Wait + Abort>(
     Ok(())
 }
 
-// How many messages are to be committed; none where memory was wanting.
+// How many messages are to be committed; none where memory ran out.
 fn due_in<R: Clock>(gates: &Gates<R>, count: u64) -> Option<u64> {
     match gates.order {
         _ if gates.has_lacked() => None,
@@ -489,7 +489,7 @@ fn share<
     }
 }
 
-// What workers begin with; none where memory was wanting.
+// What workers begin with; none where memory ran out.
 fn begun(alloc: Global, order: Order) -> Option<(Token, Box<Desk<FailingDisk<MemoryDisk>>>)>
     ensures { IfSome result (λ b. IsOfOnePlace b.1.value.head) }
 {
@@ -502,7 +502,7 @@ fn begun(alloc: Global, order: Order) -> Option<(Token, Box<Desk<FailingDisk<Mem
     Some((Token::new(alloc).ok()?, desk))
 }
 
-// Workers that come in this order. How many messages were accepted; none where memory was wanting.
+// Workers that come in this order. How many messages were accepted; none where memory ran out.
 fn shared_by_workers<R: Threads + Wait + Clock + Abort + Sync>(
     rt: &R,
     alloc: Global,

@@ -1,4 +1,4 @@
-use Rattle.std.proofs.Common.{◌≡◌, ◌+◌, ◌∙◌, ◌++◌, suc, true, false, length, sym, ap, arith, append_assoc}
+use Rattle.std.proofs.Common.{◌≡◌, ◌+◌, ◌∙◌, ◌++◌, inr, suc, true, false, length, sym, ap, arith, append_assoc}
 use Rattle.std.proofs.lemmas.Grind.{common_steps}
 use Rattle.std.proofs.lemmas.List.{length-append}
 use Rattle.hextile.specs.Grammar.{subrectangle_bytes, subrectangle_of, is_inside}
@@ -36,7 +36,7 @@ loop-left-preserved c =
       front = i.front ++ part;
       bytes_are = i.bytes_are ∙ ap (λ z. i.front ++ z) is ∙ sym (append_assoc i.front part behind);
       same = parts_inside f tile c.args.colored (suc c.args.others) c.loop-left.left i.front part i.same (omega arith) whole inside;
-      some = λ all. absurd (omega (arith, c.split_at.ensures.back_len, size));
+      first = inr (omega (arith, whole, size, c.split_at.ensures.back_len));
       fewer = omega arith;
     }
 

@@ -1,4 +1,4 @@
-use Rattle.std.proofs.Common.{◌≡◌, ◌∙◌, ◌+◌, ◌++◌, length, take, ap, subst}
+use Rattle.std.proofs.Common.{◌≡◌, ◌≤◌, ◌∙◌, ◌+◌, ◌++◌, length, take, ap, subst}
 use Rattle.std.proofs.lemmas.List.{length-take-le}
 use Rattle.pixel_format.specs.Format.{Format, host_format}
 use Rattle.terms.specs.Reading.{Bad}
@@ -23,6 +23,10 @@ returns-in-Ok-clause-goes c = λ more.
     ∙ ap (λ n. behind_data c.args.size.width c.args.size.height c.args.begun c.args.others ((c.args.at + n) + length more) (data_go_on host_format c.args.size.width c.args.size.height c.in-Ok.next more))
     (length-take-le c.in-Ok.taken c.args.bytes.now c.in-Ok.ensures.taken)
     ∙ c.next_data.ensures.goes c.args.size.width c.args.size.height more
+
+pub returns-in-Ok-clause-first : goal.returns-in-Ok-clause-first
+returns-in-Ok-clause-first c =
+    subst (λ (f : Format). wants_of f c.args.current ≤ length c.args.bytes.now → wants_of f c.args.current ≤ c.in-Ok.taken) c.host.ensures c.in-Ok.ensures.first
 
 pub returns-in-Err-clause-faults : goal.returns-in-Err-clause-faults
 returns-in-Err-clause-faults c = λ more.

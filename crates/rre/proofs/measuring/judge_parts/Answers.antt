@@ -1,4 +1,4 @@
-use Rattle.std.proofs.Common.{◌≡◌, ◌+◌, ◌<◌, ◌∙◌, ◌++◌, true, false, length, sym, ap, arith, append_assoc}
+use Rattle.std.proofs.Common.{◌≡◌, ◌+◌, ◌<◌, inl, inr, ◌∙◌, ◌++◌, true, false, length, sym, ap, arith, append_assoc}
 use Rattle.std.proofs.lemmas.Grind.{common_steps}
 use Rattle.std.proofs.lemmas.List.{length-append}
 use Rattle.std.proofs.lemmas.Option.{IfSome_then}
@@ -29,11 +29,13 @@ loop-left-preserved c =
     let whole : length part ≡ subrectangle_bytes f = omega arith in
     let inside : is_inside c.args.w c.args.h (subrectangle_of f part) ≡ true = cc in
     let is : c.loop-left.rest.now ≡ part ++ behind = parts_of _ c.loop-left.rest.now part behind c.split_at.ensures.front c.split_at.ensures.back in
+    let size : length c.args.bytes.now ≡ length i.front + length c.loop-left.rest.now = ap length i.bytes_are ∙ length-append i.front c.loop-left.rest.now in
     record {
       front = i.front ++ part;
       bytes_are = i.bytes_are ∙ ap (λ z. i.front ++ z) is ∙ sym (append_assoc i.front part behind);
       same = parts_inside f c.args.w c.args.h c.args.count c.loop-left.left i.front part i.same (omega arith) whole inside;
       fewer = omega arith;
+      first = inr (omega (arith, whole, size, c.split_at.ensures.back_len));
     }
 
 pub returns-clause-waits : goal.returns-clause-waits
@@ -47,6 +49,17 @@ returns-clause-waits c =
           let few : length c.loop-left.rest.now < wants_of f next = rw is (omega (arith, w.if-rest-size.false)) in
           omega (arith, few, size))
       | else-loop-left-test w ↦ rw (c.next_of.ensures.ends (omega (arith, w.loop-left-test.false))) tt
+    ]
+
+pub returns-clause-first : goal.returns-clause-first
+returns-clause-first c = λ some whole.
+    let i = c.loop-left.invariant in
+    elim i.first [
+      | inl none ↦ elim c.loop-left-test.branch [
+        | then-loop-left-test+else-rest-size w ↦ absurd (omega (arith, whole, none.1, w.if-rest-size.false))
+        | else-loop-left-test w ↦ absurd (omega (arith, some, none.0, w.loop-left-test.false))
+      ]
+      | inr moved ↦ omega (arith, moved)
     ]
 
 pub overflow_sub-result : goal.overflow_sub-result

@@ -1,5 +1,5 @@
-use Rattle.std.proofs.Common.{◌≡◌, ◌≤◌, ℕ, List, ◌++◌}
-use Rattle.rre.specs.Grammar.{subrectangles_at}
+use Rattle.std.proofs.Common.{◌≡◌, ◌+◌, ◌≤◌, ◌⊎◌, ℕ, List, ◌++◌, length}
+use Rattle.rre.specs.Grammar.{subrectangle_bytes, subrectangles_at}
 use Rattle.rre.specs.Measuring.{judged}
 use Rattle.rre.proofs.measuring.judge_parts.Given as goal
 
@@ -10,6 +10,7 @@ invariant-loop-left l = record {
   bytes_are : l.bytes ≡ front ++ l.rest;
   same : (more : List ℕ) → judged (subrectangles_at l.format l.w l.h l.count (front ++ more)) ≡ judged (subrectangles_at l.format l.w l.h l.left more);
   fewer : l.left ≤ l.count;
+  first : ((l.left ≡ l.count) × (length l.rest ≡ length l.bytes)) ⊎ (subrectangle_bytes l.format + length l.rest ≤ length l.bytes);
 }
 
 abbrev pub decreases-loop-left : goal.decreases-loop-left

@@ -1,14 +1,14 @@
-use Rattle.std.proofs.Common.{◌≡◌, ◌∙◌, [], ◌++◌, length, take, sym, ap, refl, arith}
+use Rattle.std.proofs.Common.{◌≡◌, ◌<◌, inl, inr, ◌∙◌, [], ◌++◌, Ok, length, take, sym, ap, refl, arith}
 use Rattle.std.proofs.lemmas.Result.{err_from_is_err_and}
 use Rattle.std.proofs.lemmas.List.{length-append}
-use Rattle.hextile.specs.Measuring.{go_on, resume}
-use Rattle.hextile.proofs.Steps.{run_more, run_refused, run_parts, front_of}
+use Rattle.hextile.specs.Measuring.{wants_of, go_on, resume}
+use Rattle.hextile.proofs.Steps.{run_more, run_refused, run_parts, same_wants, front_of}
 use Rattle.hextile.proofs.measuring.Measuring.run.Goals as goal
 use Rattle.hextile.proofs.measuring.Measuring.run.Goals.{in-Some+in_ok-taken+in_default-2, in_default}
 
 pub loop-next-init : goal.loop-next-init
 unfolding go_on
-loop-next-init c = record { front = []; bytes_are = refl; same = λ more. refl }
+loop-next-init c = record { front = []; bytes_are = refl; first = inl (refl, refl); same = λ more. refl }
 
 pub loop-next-preserved : goal.loop-next-preserved
 loop-next-preserved c =
@@ -16,9 +16,11 @@ loop-next-preserved c =
     let i = c.loop-next.invariant in
     let n = c.in-Some-2.taken in
     let rest = c.loop-next.rest.now in
+    let taken = rw c.in-Some-2.is at c.in_ok-taken.ensures.taken in
     record {
       front = i.front ++ take n rest;
       bytes_are = run_parts n c.args.bytes.now i.front rest i.bytes_are;
+      first = inr (elim i.first [ inl none ↦ omega (arith, taken.1, none.1, same_wants f c.args.self c.in-Some.stage c.loop-next.next c.in-Some.is none.0) | inr moved ↦ omega (arith, moved) ]);
       same = run_more f c.args.self c.in-Some.stage c.loop-next.next c.in-Some-2.behind i.front rest n c.in-Some.is i.same
           (rw c.in-Some-2.is at c.in_ok-taken.ensures.goes);
     }
@@ -29,6 +31,21 @@ returns-in_err-taken-clause-refused c =
     let i = c.loop-next.invariant in
     rw p.1 (run_refused c.args.format.now c.args.self c.in-Some.stage c.loop-next.next i.front c.loop-next.rest.now c.args.bytes.now c.in-Some.is i.bytes_are i.same
     c.in_err-taken.ensures.refused)
+
+pub returns-clause-first : goal.returns-clause-first
+returns-clause-first c = λ whole.
+    let f = c.args.format.now in
+    let i = c.loop-next.invariant in
+    let size = ap length i.bytes_are ∙ length-append i.front c.loop-next.rest.now in
+    elim i.first [
+      | inl none ↦ elim c.match-next.branch [
+        | in-Some+in_ok-taken+in_default-2 w ↦
+            let few : length c.loop-next.rest.now < wants_of f w.in-Some.stage = w.in_ok-taken.ensures.waits (ap Ok w.in_default-2.is) in
+            absurd (omega (arith, whole, few, none.1, same_wants f c.args.self w.in-Some.stage c.loop-next.next w.in-Some.is none.0))
+        | in_default w ↦ absurd (w.in_default.not-Some c.args.self none.0)
+      ]
+      | inr moved ↦ omega (arith, moved, size)
+    ]
 
 pub overflow_sub-result : goal.overflow_sub-result
 overflow_sub-result c =
