@@ -64,8 +64,8 @@ fn append_few(
 /// belong to no channel are 0. Which background and which subrectangles it lists isn't promised:
 /// today the background is a colour that stands at the most places where the colours are few, else
 /// one that stands at more than half of them, if there is one; and the subrectangles are as wide,
-/// and then as high, as one colour reaches. It looks at each place a bounded number of times. Want
-/// of memory leaves `bytes` as it was.
+/// and then as high, as one colour reaches. It looks at each place a bounded number of times.
+/// Running out of memory leaves `bytes` as it was.
 pub fn encode(
     alloc: Global,
     format: &PixelFormat,

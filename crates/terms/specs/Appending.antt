@@ -11,8 +11,8 @@ pub record Appends (P : List ℕ → Type 0) (old new : List ℕ) : Type 0 where
 abbrev pub Grows : List ℕ → List ℕ → Type 0
 Grows = Appends (λ _. Unit {0})
 
--- What is answered says whether such bytes stand behind the old ones. Where they don't, and for want
--- of memory, the old ones stay as they were.
+-- What is answered says whether such bytes stand behind the old ones. Where they don't, and when
+-- memory runs out, the old ones stay as they were.
 pub record AppendsIf {E : Type 0} (P : List ℕ → Type 0) (old new : List ℕ) (result : Result Bool E) : Type 0 where
   pub ok : IfOk result (λ whole. whole ≡ true → Appends P old new)
   pub unchanged : IfOk result (λ whole. whole ≡ false → new ≡ old)

@@ -1,5 +1,5 @@
-//! What no clause and no vector says: data that are made at random, what is written, and want of
-//! memory.
+//! What no clause and no vector says: data that are made at random, what is written, and what
+//! happens when memory runs out.
 
 mod client_messages;
 mod hextile_data;

@@ -1,5 +1,4 @@
-//! What vectors can't say of a host's messages: how they are told apart and written, and want of
-//! memory.
+//! How a host's messages are told apart and written, also when memory runs out.
 
 use crate::tests::readers::gives;
 use crate::tests::samples::{RED_UPDATE as RED, area, size};
