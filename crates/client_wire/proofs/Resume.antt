@@ -6,8 +6,8 @@ use Rattle.pixel_format.specs.Written.{format_at, is_flag}
 use Rattle.terms.specs.Number.{u16_at, u32_at}
 use Rattle.client_wire.specs.declared.message.ClientMessage.TheVariants as messages
 use Rattle.terms.specs.declared.wire_fault.WireFault.{WireFault}
-use Rattle.client_wire.specs.declared.progress.Stage.{Stage}
-use Rattle.client_wire.specs.declared.progress.Stage.TheVariants as stages
+use Rattle.client_wire.specs.declared.partial_message.Stage.{Stage}
+use Rattle.client_wire.specs.declared.partial_message.Stage.TheVariants as stages
 use Rattle.client_wire.specs.Grammar.{judged, numbers_of, encodings_at, input_at, body_at}
 use Rattle.client_wire.specs.PartialMessage.{wants_of, resume}
 use Rattle.client_wire.proofs.Fronts.{type_short, type_read, pixel_format_short, pixel_format_read, head_short, head_read, encodings_short, encodings_read, request_short, request_read, input_read, text_short, text_read}

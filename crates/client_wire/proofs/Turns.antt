@@ -6,12 +6,12 @@ use Rattle.terms.proofs.Readings.{skip_more, skip_whole, skip_waits}
 use Rattle.client_wire.specs.declared.message.ClientMessage.{ClientMessage}
 use Rattle.client_wire.specs.declared.message.ClientMessage.TheVariants as messages
 use Rattle.terms.specs.declared.wire_fault.WireFault.{WireFault}
-use Rattle.client_wire.specs.declared.progress.Stage.{Stage}
-use Rattle.client_wire.specs.declared.progress.Stage.TheVariants as stages
-use Rattle.client_wire.specs.declared.progress.Over.{Over}
-use Rattle.client_wire.specs.declared.progress.Position.{Position}
-use Rattle.client_wire.specs.declared.progress.Position.TheVariants as positions
-use Rattle.client_wire.specs.declared.progress.PartialMessage.{PartialMessage}
+use Rattle.client_wire.specs.declared.partial_message.Stage.{Stage}
+use Rattle.client_wire.specs.declared.partial_message.Stage.TheVariants as stages
+use Rattle.client_wire.specs.declared.partial_message.Over.{Over}
+use Rattle.client_wire.specs.declared.partial_message.Position.{Position}
+use Rattle.client_wire.specs.declared.partial_message.Position.TheVariants as positions
+use Rattle.client_wire.specs.declared.partial_message.PartialMessage.{PartialMessage}
 use Rattle.terms.specs.Fault.{UnlessMemory}
 use Rattle.client_wire.specs.Reader.{kept_limit, IsHeadAlone}
 use Rattle.client_wire.specs.Grammar.{input_at, message_at}

@@ -5,14 +5,14 @@ use Rattle.terms.specs.Appending.{room_for}
 use Rattle.terms.specs.Reading.{Reading, Got}
 use Rattle.client_wire.specs.declared.message.ClientMessage.{ClientMessage}
 use Rattle.terms.specs.declared.wire_fault.WireFault.{WireFault}
-use Rattle.client_wire.specs.declared.progress.Stage.{Stage}
-use Rattle.client_wire.specs.declared.progress.Stage.TheVariants as stages
-use Rattle.client_wire.specs.declared.progress.Over.{Over}
-use Rattle.client_wire.specs.declared.progress.Position.{Position}
-use Rattle.client_wire.specs.declared.progress.Position.TheVariants as positions
-use Rattle.client_wire.specs.declared.progress.AfterField.{AfterField}
-use Rattle.client_wire.specs.declared.progress.AfterField.TheVariants as steps
-use Rattle.client_wire.specs.declared.progress.PartialMessage.{PartialMessage}
+use Rattle.client_wire.specs.declared.partial_message.Stage.{Stage}
+use Rattle.client_wire.specs.declared.partial_message.Stage.TheVariants as stages
+use Rattle.client_wire.specs.declared.partial_message.Over.{Over}
+use Rattle.client_wire.specs.declared.partial_message.Position.{Position}
+use Rattle.client_wire.specs.declared.partial_message.Position.TheVariants as positions
+use Rattle.client_wire.specs.declared.partial_message.AfterField.{AfterField}
+use Rattle.client_wire.specs.declared.partial_message.AfterField.TheVariants as steps
+use Rattle.client_wire.specs.declared.partial_message.PartialMessage.{PartialMessage}
 use Rattle.client_wire.specs.Reader.{kept_limit, head_limit}
 use Rattle.client_wire.specs.Grammar.{set_pixel_format_at, encodings_at, set_encodings_at, request_at, input_at, cut_text_at, message_at}
 

@@ -4,8 +4,8 @@
 mod field;
 mod laws;
 mod message;
+mod partial_message;
 mod plain;
-mod progress;
 mod reader;
 mod step;
 mod write;

@@ -8,7 +8,7 @@ ghost use Rattle.client_wire.specs.Reader.{kept_limit, IsHeadAlone};
 ghost use Rattle.client_wire.specs.Stream.{Goes, Stops, FaultOf, StandsFor, Grows, itself};
 
 use crate::message::ClientMessage;
-use crate::progress::PartialMessage;
+use crate::partial_message::PartialMessage;
 use std::alloc::Global;
 use std::marker::Model;
 use terms::WireFault;
@@ -18,7 +18,7 @@ use terms::WireFault;
 /// the bytes of an input message are counted and not kept.
 #[derive(Drop)]
 pub struct ClientReader {
-    progress: PartialMessage,
+    partial: PartialMessage,
     fault: Option<WireFault>,
     alloc: Global,
 }
@@ -31,13 +31,13 @@ impl Model for ClientReader {
     ghost Value = { Reader };
 
     ghost view = { λ r. record {
-      kept = r.progress.bytes.items;
-      passed = passed_in r.progress.position;
-      room = vec_capacity r.progress.bytes;
+      kept = r.partial.bytes.items;
+      passed = passed_in r.partial.position;
+      room = vec_capacity r.partial.bytes;
       fault = r.fault;
     } };
 
-    ghost invariant = { λ r. IsAt r.progress };
+    ghost invariant = { λ r. IsAt r.partial };
 }
 
 impl ClientReader {
@@ -47,7 +47,7 @@ impl ClientReader {
     {
         ClientReader {
             alloc,
-            progress: PartialMessage::new(alloc),
+            partial: PartialMessage::new(alloc),
             fault: None,
         }
     }
@@ -87,10 +87,10 @@ impl ClientReader {
         if let Some(fault) = self.fault {
             return Err(fault);
         }
-        let read = self.progress.read(self.alloc, piece, out);
+        let read = self.partial.read(self.alloc, piece, out);
         if let Err(fault) = read {
             self.fault = Some(fault);
-            self.progress = PartialMessage::new(self.alloc);
+            self.partial = PartialMessage::new(self.alloc);
             return Err(fault);
         }
         Ok(())

@@ -8,7 +8,7 @@ ghost use Rattle.client_wire.specs.PartialMessage.{wants_of, start_of, resume, p
 
 use crate::field::{encodings_in, pixel_format_in, request_in};
 use crate::message::{ClientMessage, Encodings};
-use crate::progress::{AfterField, Over, Position, Stage};
+use crate::partial_message::{AfterField, Over, Position, Stage};
 use std::alloc::Global;
 use terms::WireFault;
 

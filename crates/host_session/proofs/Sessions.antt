@@ -16,7 +16,7 @@ use Rattle.rfb_wire.specs.Stream.{given}
 use Rattle.host_session.specs.declared.fault.HostFault.{HostFault}
 use Rattle.host_session.specs.declared.fault.HostFault.TheVariants as faults
 use Rattle.host_session.specs.declared.stage.Position.{Position}
-use Rattle.host_session.specs.declared.progress.Exchange.{Exchange}
+use Rattle.host_session.specs.declared.exchange.Exchange.{Exchange}
 use Rattle.host_session.specs.declared.stage.Stage.TheVariants as stages
 use Rattle.host_session.specs.declared.stage.Position.TheVariants as positions
 use Rattle.host_session.specs.Fault.{UnlessMemory}

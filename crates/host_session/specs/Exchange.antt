@@ -4,7 +4,7 @@ use Rattle.rfb_wire.specs.Host.{Host}
 use Rattle.rfb_wire.specs.Reader.{Reader}
 use Rattle.host_session.specs.declared.fault.HostFault.{HostFault}
 use Rattle.host_session.specs.declared.stage.Position.{Position}
-use Rattle.host_session.specs.declared.progress.Exchange.{Exchange}
+use Rattle.host_session.specs.declared.exchange.Exchange.{Exchange}
 use Rattle.host_session.specs.Fault.{UnlessMemory}
 use Rattle.host_session.specs.Session.{IsGoing, Stands, EndsAfter, AreGiven}
 use Rattle.host_session.specs.declared.expected.ExpectedScreen.{ExpectedScreen}

@@ -2,7 +2,7 @@
 use Rattle.std.specs.Prelude.{◌≡◌, ℕ, ◌≤◌, List, length, take, Option, Some, None}
 use Rattle.rfb_wire.specs.Reader.{Reader, at_start}
 use Rattle.host_session.specs.declared.fault.HostFault.{HostFault}
-use Rattle.host_session.specs.declared.progress.Exchange.{Exchange}
+use Rattle.host_session.specs.declared.exchange.Exchange.{Exchange}
 use Rattle.host_session.specs.Fault.{UnlessMemory}
 use Rattle.host_session.specs.Stage.{IsUnfinished, Leads, Ends, Fails}
 use Rattle.host_session.specs.Take.{Says, told_at}

@@ -1,12 +1,12 @@
 //! The recorder's side of a VNC host's connection (RFC 6143, version 3.8), without a socket.
 #![tactic(auto)]
 
+mod exchange;
 mod expected;
 mod fault;
 mod handshake;
 mod laws;
 mod listening;
-mod progress;
 mod request;
 mod session;
 mod stage;

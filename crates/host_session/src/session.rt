@@ -6,9 +6,9 @@ ghost use Rattle.host_session.specs.declared.fault.HostFault.{HostFault};
 ghost use Rattle.host_session.specs.Fault.{UnlessMemory};
 ghost use Rattle.host_session.specs.Session.{IsAfter, Fed, Stopped, told_by, size_of, name_of, reason_in};
 
+use crate::exchange::Exchange;
 use crate::expected::ExpectedScreen;
 use crate::fault::HostFault;
-use crate::progress::Exchange;
 use pixel_format::Format;
 use rfb_wire::HostMessage;
 use std::alloc::Global;
@@ -39,7 +39,7 @@ fn make_due(heard: Result<(), HostFault>, said: &[u8], due: &mut Vec<u8>) -> Res
 pub struct HostSession {
     alloc: Global,
     expected: ExpectedScreen,
-    progress: Exchange,
+    exchange: Exchange,
     due: Vec<u8>,
     fault: Option<HostFault>,
 }
@@ -52,15 +52,15 @@ impl Model for HostSession {
     ghost view = { λ s. record {
       format = s.expected.format;
       expected = s.expected.size;
-      position = s.progress.handshake.position;
-      kept = s.progress.handshake.kept.items;
-      reader = s.progress.reader;
+      position = s.exchange.handshake.position;
+      kept = s.exchange.handshake.kept.items;
+      reader = s.exchange.reader;
       due = s.due.items;
       fault = s.fault;
     } };
 
-    ghost invariant = { λ s. IsSound s.fault s.progress.reader
-        s.progress.handshake.position s.progress.handshake.kept.items };
+    ghost invariant = { λ s. IsSound s.fault s.exchange.reader
+        s.exchange.handshake.position s.exchange.handshake.kept.items };
 }
 
 impl HostSession {
@@ -91,7 +91,7 @@ impl HostSession {
                 format,
                 size: expected,
             },
-            progress: Exchange::new(alloc),
+            exchange: Exchange::new(alloc),
             due: Vec::new(alloc),
             fault: None,
         }
@@ -127,7 +127,7 @@ impl HostSession {
         }
         let mut said = Vec::new(self.alloc);
         let heard = self
-            .progress
+            .exchange
             .feed(self.alloc, self.expected, piece, &mut said, out);
         if let Err(fault) = make_due(heard, &said, &mut self.due) {
             self.fault = Some(fault);
@@ -155,7 +155,7 @@ impl HostSession {
     pub fn size(&self) -> Option<ScreenSize>
         ensures { result ≡ size_of (told_by self.now.reader self.now.kept) }
     {
-        let reader = self.progress.reader.as_ref()?;
+        let reader = self.exchange.reader.as_ref()?;
         Some(reader.size())
     }
 
@@ -164,8 +164,8 @@ impl HostSession {
     pub fn name(&self) -> &[u8]
         ensures value { result.now ≡ name_of (told_by self.now.reader self.now.kept) }
     {
-        match &self.progress.reader {
-            Some(_) => &self.progress.handshake.kept,
+        match &self.exchange.reader {
+            Some(_) => &self.exchange.handshake.kept,
             None => &[],
         }
     }
@@ -176,7 +176,7 @@ impl HostSession {
         ensures value { result.now ≡ reason_in self.now.fault self.now.kept }
     {
         match self.fault {
-            Some(HostFault::Failed) => &self.progress.handshake.kept,
+            Some(HostFault::Failed) => &self.exchange.handshake.kept,
             _ => &[],
         }
     }

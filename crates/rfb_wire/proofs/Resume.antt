@@ -11,10 +11,10 @@ use Rattle.rect_data.specs.declared.encoding.Encoding.{Encoding}
 use Rattle.rect_data.specs.declared.judging.Judging.{Judging}
 use Rattle.rect_data.specs.Grammar.{encoding_of, is_inside, data_at}
 use Rattle.rect_data.specs.Judging as judging
-use Rattle.rfb_wire.specs.declared.progress.Begun.{Begun}
+use Rattle.rfb_wire.specs.declared.partial_message.Begun.{Begun}
 use Rattle.terms.specs.declared.wire_fault.WireFault.{WireFault}
 use Rattle.terms.specs.declared.wire_fault.WireFault.TheVariants as faults
-use Rattle.rfb_wire.specs.declared.progress.Stage.TheVariants as stages
+use Rattle.rfb_wire.specs.declared.partial_message.Stage.TheVariants as stages
 use Rattle.terms.specs.Number.{signed}
 use Rattle.rfb_wire.specs.Grammar.{area_of, encoding_number, content_at, encoded_at, rectangle_at, rectangles_at, update_at, Message, Recorded, ReadOver, other_at, color_map_at, text_at, text_data_at, read_over, text_limit}
 use Rattle.rfb_wire.specs.PartialMessage.{unlimited_at, behind, others_at, ended, behind_data, resume}

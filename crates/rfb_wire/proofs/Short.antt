@@ -8,10 +8,10 @@ use Rattle.terms.specs.declared.wire_fault.WireFault.TheVariants as faults
 use Rattle.pixel_format.proofs.Sizes.{are_limits}
 use Rattle.pixel_format.specs.declared.kind.Format.{Format}
 use Rattle.rfb_wire.specs.declared.message.Rectangle.{Rectangle}
-use Rattle.rfb_wire.specs.declared.progress.Over.{Over}
-use Rattle.rfb_wire.specs.declared.progress.PartialMessage.{PartialMessage}
-use Rattle.rfb_wire.specs.declared.progress.Stage.{Stage}
-use Rattle.rfb_wire.specs.declared.progress.Stage.TheVariants as stages
+use Rattle.rfb_wire.specs.declared.partial_message.Over.{Over}
+use Rattle.rfb_wire.specs.declared.partial_message.PartialMessage.{PartialMessage}
+use Rattle.rfb_wire.specs.declared.partial_message.Stage.{Stage}
+use Rattle.rfb_wire.specs.declared.partial_message.Stage.TheVariants as stages
 use Rattle.rfb_wire.specs.Grammar.{Recorded, ReadOver, message_at, message_limit, update_at, text_data_at}
 use Rattle.rfb_wire.specs.Host.{is_update}
 use Rattle.rfb_wire.specs.PartialMessage.{IsAt, IsInField, IsOver, IsOfUpdate, Linked, put, behind, resume, start_of, wants_of, unlimited_at}

@@ -1,6 +1,6 @@
 -- What room a reader takes, one piece behind the other.
 use Rattle.std.proofs.Common.{◌≡◌, ℕ, ◌+◌, arith}
-use Rattle.rfb_wire.specs.declared.progress.PartialMessage.{PartialMessage}
+use Rattle.rfb_wire.specs.declared.partial_message.PartialMessage.{PartialMessage}
 use Rattle.rfb_wire.specs.PartialMessage.{TakesFor}
 
 -- bytes are taken behind others

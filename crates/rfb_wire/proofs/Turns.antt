@@ -11,14 +11,14 @@ use Rattle.terms.proofs.Readings.{field-whole, field-short, within-short, within
 use Rattle.rfb_wire.specs.declared.message.Rectangle.{Rectangle}
 use Rattle.terms.specs.declared.wire_fault.WireFault.{WireFault}
 use Rattle.terms.specs.declared.wire_fault.WireFault.TheVariants as faults
-use Rattle.rfb_wire.specs.declared.progress.Stage.{Stage}
-use Rattle.rfb_wire.specs.declared.progress.Stage.TheVariants as stages
+use Rattle.rfb_wire.specs.declared.partial_message.Stage.{Stage}
+use Rattle.rfb_wire.specs.declared.partial_message.Stage.TheVariants as stages
 use Rattle.rfb_wire.specs.Grammar.{message_limit, update_at, message_at, other_at, color_map_at, text_at, text_data_at, read_over, Message, Recorded, rectangle_at, rectangles_at}
 use Rattle.rfb_wire.specs.PartialMessage.{wants_of, start_of, unlimited_at, behind, others_at, resume, go_on, step_on, Linked, Follows, NextBegins, NextIsOfKind, IsInField, IsOfKind, IsOfUpdate}
-use Rattle.rfb_wire.specs.declared.progress.PartialMessage.{PartialMessage}
-use Rattle.rfb_wire.specs.declared.progress.Next.{Next}
-use Rattle.rfb_wire.specs.declared.progress.Next.TheVariants as nexts
-use Rattle.rfb_wire.specs.declared.progress.AfterField.{AfterField}
+use Rattle.rfb_wire.specs.declared.partial_message.PartialMessage.{PartialMessage}
+use Rattle.rfb_wire.specs.declared.partial_message.Next.{Next}
+use Rattle.rfb_wire.specs.declared.partial_message.Next.TheVariants as nexts
+use Rattle.rfb_wire.specs.declared.partial_message.AfterField.{AfterField}
 use Rattle.terms.specs.Fault.{UnlessMemory}
 use Rattle.std.specs.Option.{option_to_list}
 use Rattle.client_wire.proofs.Fronts.{unless_memory_map}

@@ -1,7 +1,7 @@
 -- What follows from a whole field.
 use Rattle.std.specs.Prelude.{◌≡◌, ℕ, List, ◌++◌}
-use Rattle.rfb_wire.specs.declared.progress.Stage.{Stage}
-use Rattle.rfb_wire.specs.declared.progress.AfterField.{AfterField}
+use Rattle.rfb_wire.specs.declared.partial_message.Stage.{Stage}
+use Rattle.rfb_wire.specs.declared.partial_message.AfterField.{AfterField}
 use Rattle.rfb_wire.specs.PartialMessage.{resume, step_on}
 
 -- on a screen of any size, whatever comes

@@ -1,7 +1,7 @@
 -- What a reader has made of a piece of which it judged the fields that are whole.
 use Rattle.std.specs.Prelude.{◌≡◌, ℕ, ◌<◌, ◌≤◌, List, ◌++◌, length, take}
-use Rattle.rfb_wire.specs.declared.progress.Ending.{Ending}
-use Rattle.rfb_wire.specs.declared.progress.PartialMessage.{PartialMessage}
+use Rattle.rfb_wire.specs.declared.partial_message.Ending.{Ending}
+use Rattle.rfb_wire.specs.declared.partial_message.PartialMessage.{PartialMessage}
 use Rattle.rfb_wire.specs.PartialMessage.{After, TakesFor}
 
 -- So many bytes of the piece were taken, one at least, and it stands behind the fields that they

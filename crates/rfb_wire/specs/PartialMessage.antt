@@ -9,16 +9,16 @@ use Rattle.terms.specs.Number.{u16_at}
 use Rattle.rect_data.specs.Judging as judging
 use Rattle.rfb_wire.specs.declared.message.Rectangle.{Rectangle}
 use Rattle.terms.specs.declared.wire_fault.WireFault.{WireFault}
-use Rattle.rfb_wire.specs.declared.progress.Begun.{Begun}
-use Rattle.rfb_wire.specs.declared.progress.Stage.{Stage}
-use Rattle.rfb_wire.specs.declared.progress.Stage.TheVariants as stages
-use Rattle.rfb_wire.specs.declared.progress.Next.{Next}
-use Rattle.rfb_wire.specs.declared.progress.Next.TheVariants as nexts
-use Rattle.rfb_wire.specs.declared.progress.Ending.{Ending}
-use Rattle.rfb_wire.specs.declared.progress.Ending.TheVariants as endings
-use Rattle.rfb_wire.specs.declared.progress.Over.{Over}
-use Rattle.rfb_wire.specs.declared.progress.AfterField.{AfterField}
-use Rattle.rfb_wire.specs.declared.progress.PartialMessage.{PartialMessage}
+use Rattle.rfb_wire.specs.declared.partial_message.Begun.{Begun}
+use Rattle.rfb_wire.specs.declared.partial_message.Stage.{Stage}
+use Rattle.rfb_wire.specs.declared.partial_message.Stage.TheVariants as stages
+use Rattle.rfb_wire.specs.declared.partial_message.Next.{Next}
+use Rattle.rfb_wire.specs.declared.partial_message.Next.TheVariants as nexts
+use Rattle.rfb_wire.specs.declared.partial_message.Ending.{Ending}
+use Rattle.rfb_wire.specs.declared.partial_message.Ending.TheVariants as endings
+use Rattle.rfb_wire.specs.declared.partial_message.Over.{Over}
+use Rattle.rfb_wire.specs.declared.partial_message.AfterField.{AfterField}
+use Rattle.rfb_wire.specs.declared.partial_message.PartialMessage.{PartialMessage}
 use Rattle.rfb_wire.specs.Grammar.{Message, Recorded, ReadOver, rectangles_at, update_at, other_at, color_map_at, text_at, text_data_at, read_over, message_at, text_limit}
 use Rattle.rfb_wire.specs.Reader.{head_limit}
 

@@ -6,7 +6,7 @@ ghost use Rattle.rfb_wire.specs.Grammar.{rectangle_at, rectangles_at, update_at,
 ghost use Rattle.rfb_wire.specs.Plain.{Says, SaysMessage, kind_of};
 
 use crate::message::{HostMessage, Rectangle};
-use crate::progress::message_limit;
+use crate::partial_message::message_limit;
 use crate::step::{TEXT_LIMIT, judge_header};
 use pixel_format::{PixelFormat, RecordedScreen};
 use rect_data::measure;

@@ -9,7 +9,7 @@ ghost use Rattle.rfb_wire.specs.Grammar.{message_at, message_limit};
 ghost use Rattle.rfb_wire.specs.Stream.{given};
 
 use crate::message::HostMessage;
-use crate::progress::{PartialMessage, message_limit};
+use crate::partial_message::{PartialMessage, message_limit};
 use pixel_format::{Format, RecordedScreen};
 use std::alloc::Global;
 use std::marker::Model;
@@ -22,7 +22,7 @@ use terms::{NoMemory, ScreenSize, WireFault};
 pub struct ServerReader {
     screen: RecordedScreen,
     alloc: Global,
-    progress: PartialMessage,
+    partial: PartialMessage,
     fault: Option<WireFault>,
 }
 
@@ -38,14 +38,14 @@ impl Model for ServerReader {
       format = r.screen.format;
       width = r.screen.size.width;
       height = r.screen.size.height;
-      kept = r.progress.bytes.items;
-      passed = passed_in r.progress.over;
-      room = vec_capacity r.progress.bytes;
-      places = vec_capacity r.progress.rectangles;
+      kept = r.partial.bytes.items;
+      passed = passed_in r.partial.over;
+      room = vec_capacity r.partial.bytes;
+      places = vec_capacity r.partial.rectangles;
       fault = r.fault;
     } };
 
-    ghost invariant = { λ r. IsAt (message_limit r.screen.format) r.screen.size.width r.screen.size.height r.progress };
+    ghost invariant = { λ r. IsAt (message_limit r.screen.format) r.screen.size.width r.screen.size.height r.partial };
 }
 
 impl ServerReader {
@@ -67,7 +67,7 @@ impl ServerReader {
         ServerReader {
             screen,
             alloc,
-            progress: PartialMessage::new(alloc),
+            partial: PartialMessage::new(alloc),
             fault: None,
         }
     }
@@ -83,7 +83,7 @@ impl ServerReader {
     pub(crate) fn reserve(&mut self, room: usize) -> Result<(), NoMemory>
         ensures { self.new ≡ record self.old { room = self.new.room } }
     {
-        self.progress
+        self.partial
             .bytes
             .reserve_exact(room.min(message_limit(self.screen.format)))?;
         Ok(())
@@ -93,11 +93,11 @@ impl ServerReader {
     pub fn unfinished(&self) -> u64
         ensures { result ≡ length self.now.kept + self.now.passed }
     {
-        let passed = match self.progress.over {
+        let passed = match self.partial.over {
             Some(over) => over.passed,
             None => 0,
         };
-        self.progress.bytes.len() as u64 + passed
+        self.partial.bytes.len() as u64 + passed
     }
 
     /// Takes the next piece of the stream, and appends each message that is whole now. A fault is
@@ -135,10 +135,10 @@ impl ServerReader {
         if let Some(fault) = self.fault {
             return Err(fault);
         }
-        let read = self.progress.read(self.alloc, self.screen, piece, out);
+        let read = self.partial.read(self.alloc, self.screen, piece, out);
         if let Err(fault) = read {
             self.fault = Some(fault);
-            self.progress = PartialMessage::new(self.alloc);
+            self.partial = PartialMessage::new(self.alloc);
             return Err(fault);
         }
         Ok(())

@@ -12,7 +12,7 @@ ghost use Rattle.rfb_wire.specs.Header.{Names, IsRefusedBy};
 ghost use Rattle.rfb_wire.specs.PartialMessage.{wants_of, start_of, NextBegins, IsOfUpdate, IsOfKind, NextIsOfKind, resume, go_on, step_on, others_at, behind_data};
 
 use crate::message::Rectangle;
-use crate::progress::{AfterField, Begun, Next, Stage};
+use crate::partial_message::{AfterField, Begun, Next, Stage};
 use pixel_format::PixelFormat;
 use rect_data::{Encoding, Judging, lies_inside};
 use terms::{Area, ScreenSize, WireFault};

@@ -15,7 +15,7 @@ use Rattle.viewer_session.specs.declared.greeting.Greeting.{Greeting}
 use Rattle.viewer_session.specs.Greeting.{IsSoundGreeting, HearsSo, Refuses, talk_by, said_by}
 use Rattle.viewer_session.specs.Handshake.{handshake_at}
 use Rattle.viewer_session.specs.Stream.{IsGreeting, Gets, IsListening, Stands, EndsInHandshake, Ends}
-use Rattle.viewer_session.specs.Progress.{GoesIn, StopsIn, due_by}
+use Rattle.viewer_session.specs.Listener.{GoesIn, StopsIn, due_by}
 use Rattle.viewer_session.proofs.Handshakes.{few, said_more, whole_more, bad_more}
 
 pub on_ok : {U E : Type 0} (r : Result U E) (P Q : Type 0) → (P → Q) → OnOk r P → OnOk r Q

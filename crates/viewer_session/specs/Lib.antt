@@ -10,7 +10,7 @@ pub mod Handshake
 pub mod Stage
 pub mod Greeting
 pub mod Stream
-pub mod Progress
+pub mod Listener
 pub mod Session
 pub mod Feeding
 pub mod Conversation

@@ -5,9 +5,9 @@ use Rattle.client_wire.specs.Reader.{Reader}
 use Rattle.viewer_session.specs.declared.fault.SessionFault.{SessionFault}
 use Rattle.viewer_session.specs.declared.fault.SessionFault.TheVariants as faults
 use Rattle.viewer_session.specs.declared.view.View.{View}
-use Rattle.viewer_session.specs.declared.progress.Progress.{Progress}
+use Rattle.viewer_session.specs.declared.listener.Listener.{Listener}
 use Rattle.viewer_session.specs.Greeting.{IsSoundGreeting}
-use Rattle.viewer_session.specs.Progress.{IsGoing}
+use Rattle.viewer_session.specs.Listener.{IsGoing}
 use Rattle.viewer_session.specs.Stream.{Stands, Ends}
 use Rattle.viewer_session.specs.View.{AreTaken, IsSound}
 
@@ -64,9 +64,9 @@ Goes None reader = IsGoing reader
 Goes (Some f) reader = Unit {0}
 
 -- what always holds
-pub record IsSoundSession (progress : Progress) (view : View) (fault : Option SessionFault) : Type 0 where
-  pub greeting : IsSoundGreeting progress.greeting
+pub record IsSoundSession (listener : Listener) (view : View) (fault : Option SessionFault) : Type 0 where
+  pub greeting : IsSoundGreeting listener.greeting
   pub view_is : IsSound view
-  pub width : view.screen.width ≡ progress.greeting.size.width
-  pub height : view.screen.height ≡ progress.greeting.size.height
-  pub going : Goes fault progress.reader
+  pub width : view.screen.width ≡ listener.greeting.size.width
+  pub height : view.screen.height ≡ listener.greeting.size.height
+  pub going : Goes fault listener.reader

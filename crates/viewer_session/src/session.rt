@@ -15,7 +15,7 @@ ghost use Rattle.viewer_session.specs.Feeding.{Takes, StopsIn, KeepsView};
 
 use crate::fault::SessionFault;
 use crate::greeting::Greeting;
-use crate::progress::Progress;
+use crate::listener::Listener;
 use crate::view::{View, take_all};
 use rect_data::Encoding;
 use replay::Slice;
@@ -32,7 +32,7 @@ const PART: usize = 1024;
 #[derive(Drop)]
 pub struct Session {
     alloc: Global,
-    progress: Progress,
+    listener: Listener,
     view: View,
     fault: Option<SessionFault>,
 }
@@ -40,22 +40,22 @@ pub struct Session {
 impl Model for Session {
     ghost use Rattle.std.specs.Prelude.{drop};
     ghost use Rattle.viewer_session.specs.Session.{Session, IsSoundSession};
-    ghost use Rattle.viewer_session.specs.Progress.{due_by};
+    ghost use Rattle.viewer_session.specs.Listener.{due_by};
 
     ghost Value = { Session };
 
     ghost view = { λ s. record {
-      width = s.progress.greeting.size.width;
-      height = s.progress.greeting.size.height;
-      name = s.progress.greeting.name.items;
-      heard = s.progress.greeting.heard.items;
-      due = due_by s.progress.greeting;
-      reader = s.progress.reader;
+      width = s.listener.greeting.size.width;
+      height = s.listener.greeting.size.height;
+      name = s.listener.greeting.name.items;
+      heard = s.listener.greeting.heard.items;
+      due = due_by s.listener.greeting;
+      reader = s.listener.reader;
       view = s.view;
       fault = s.fault;
     } };
 
-    ghost invariant = { λ s. IsSoundSession s.progress s.view s.fault };
+    ghost invariant = { λ s. IsSoundSession s.listener s.view s.fault };
 }
 
 impl Session {
@@ -85,7 +85,7 @@ impl Session {
         let name = Vec::from_slice(alloc, name)?;
         Ok(Session {
             alloc,
-            progress: Progress {
+            listener: Listener {
                 greeting: Greeting::new(size, name),
                 reader: None,
             },
@@ -104,7 +104,7 @@ impl Session {
         ensures kept { KeepsView self.old self.new }
     {
         let mut messages = Vec::new(self.alloc);
-        let heard = self.progress.feed(self.alloc, piece, &mut messages);
+        let heard = self.listener.feed(self.alloc, piece, &mut messages);
         take_all(&mut self.view, messages);
         if let Err(fault) = heard {
             self.fault = Some(fault);
@@ -142,7 +142,7 @@ impl Session {
     pub fn is_greeted(&self) -> bool
         ensures { result ≡ is_there self.now.reader }
     {
-        self.progress.reader.is_some()
+        self.listener.reader.is_some()
     }
 
     /// How many messages of the recording the session's screen shows.
@@ -210,12 +210,12 @@ impl Session {
             → IsAfter self.new stream messages (told ++ self.old.due)) }
     {
         let start = out.len();
-        let sent = self.progress.greeting.write_due(self.alloc, out)?;
+        let sent = self.listener.greeting.write_due(self.alloc, out)?;
         if let Err(refusal) = self.view.answer(self.alloc, out) {
             out.truncate(start);
             return Err(refusal);
         }
-        self.progress.greeting.settle(sent);
+        self.listener.greeting.settle(sent);
         Ok(())
     }
 

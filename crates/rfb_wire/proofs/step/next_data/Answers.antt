@@ -1,7 +1,7 @@
 use Rattle.std.proofs.Common.{◌+◌, [], ◌∷◌, length, sym, ap, ◌∙◌}
 use Rattle.pixel_format.specs.Format.{host_format}
 use Rattle.rect_data.specs.Judging.{go_on as data_go_on}
-use Rattle.rfb_wire.specs.declared.progress.Stage.TheVariants as stages
+use Rattle.rfb_wire.specs.declared.partial_message.Stage.TheVariants as stages
 use Rattle.rfb_wire.specs.PartialMessage.{behind, ended, behind_data, resume, go_on}
 use Rattle.rfb_wire.proofs.Resume.{data_end, behind_nil}
 use Rattle.rfb_wire.proofs.step.next_data.Goals as goal

@@ -7,7 +7,7 @@ use Rattle.host_session.proofs.session.HostSession.feed.Goals as goal
 pub returns-clause-goes : goal.returns-clause-goes
 returns-clause-goes c = λ stream sent messages h.
     let s = c.self.inside in
-    let p = s.progress in
+    let p = s.exchange in
     let said : List ℕ = c.feed-heard.new.due.items in
     let from = nothing_said s.expected p.handshake.position p.handshake.kept.items p.reader stream messages sent s.due.items c.new-said.result.items
     c.new-said.ensures.items (rw (← c.self.view_is) at h) in
@@ -20,7 +20,7 @@ returns-clause-goes c = λ stream sent messages h.
 pub returns-in-Err-clause-faults : goal.returns-in-Err-clause-faults
 returns-in-Err-clause-faults c = λ going stream sent messages h.
     let s = c.self.inside in
-    let p = s.progress in
+    let p = s.exchange in
     let said : List ℕ = c.feed-heard.new.due.items in
     let from = nothing_said s.expected p.handshake.position p.handshake.kept.items p.reader stream messages sent s.due.items c.new-said.result.items
     c.new-said.ensures.items (rw (← c.self.view_is) at h) in

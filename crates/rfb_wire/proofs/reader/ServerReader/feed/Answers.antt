@@ -16,7 +16,7 @@ invariant_of-self c = c.new.ensures.at c.self.inside.screen.format c.self.inside
 pub returns-clause-goes : goal.returns-clause-goes
 returns-clause-goes c = λ rest stands.
     let r = c.self.inside in
-    let stands' : StandsFor r.progress.bytes.items (passed_in r.progress.over) rest = rw (← c.self.view_is) at stands in
+    let stands' : StandsFor r.partial.bytes.items (passed_in r.partial.over) rest = rw (← c.self.view_is) at stands in
     let m = c.in_default-read.ensures.moves rest stands' in
     rw (← c.self.view_is) (record {
       rest = m.rest;
@@ -28,7 +28,7 @@ returns-clause-goes c = λ rest stands.
 pub returns-clause-none : goal.returns-clause-none
 returns-clause-none c = λ rest f stands fault.
     let r = c.self.inside in
-    let stands' : StandsFor r.progress.bytes.items (passed_in r.progress.over) rest = rw (← c.self.view_is) at stands in
+    let stands' : StandsFor r.partial.bytes.items (passed_in r.partial.over) rest = rw (← c.self.view_is) at stands in
     let here : FaultOf (message_at (message_limit r.screen.format) r.screen.size.width r.screen.size.height) (rest ++ c.args.piece.now) f = rw (← c.self.view_is) at fault in
     let m = c.in_default-read.ensures.moves rest stands' in
     no_fault (message_at (message_limit r.screen.format) r.screen.size.width r.screen.size.height) (message_local (message_limit r.screen.format) r.screen.size.width r.screen.size.height) (rest ++ c.args.piece.now) m.gives.parts m.rest f m.gives.reads
@@ -37,7 +37,7 @@ returns-clause-none c = λ rest f stands fault.
 pub returns-in-Err-clause-grows : goal.returns-in-Err-clause-grows
 returns-in-Err-clause-grows c =
     let r = c.self.inside in
-    let p = r.progress in
+    let p = r.partial in
     let rest = p.bytes.items ++ replicate (passed_in p.over) 0 in
     let s = c.in-Err.ensures.faults rest (some_rest p.bytes.items (passed_in p.over)) in
     given_grows (message_at (message_limit r.screen.format) r.screen.size.width r.screen.size.height) (given r.screen.format r.screen.size.width r.screen.size.height) c.args.out.now.items c.read-read.new.out.items (rest ++ c.args.piece.now) s.rest s.gives
@@ -45,7 +45,7 @@ returns-in-Err-clause-grows c =
 pub returns-clause-grows : goal.returns-clause-grows
 returns-clause-grows c =
     let r = c.self.inside in
-    let p = r.progress in
+    let p = r.partial in
     let rest = p.bytes.items ++ replicate (passed_in p.over) 0 in
     let m = c.in_default-read.ensures.moves rest (some_rest p.bytes.items (passed_in p.over)) in
     given_grows (message_at (message_limit r.screen.format) r.screen.size.width r.screen.size.height) (given r.screen.format r.screen.size.width r.screen.size.height) c.args.out.now.items c.read-read.new.out.items (rest ++ c.args.piece.now) m.rest m.gives
@@ -53,7 +53,7 @@ returns-clause-grows c =
 pub returns-in-Some-clause-short : goal.returns-in-Some-clause-short
 returns-in-Some-clause-short c =
     let r = c.self.inside in
-    rw (← c.self.view_is) (at_short r.screen.format r.screen.size.width r.screen.size.height r.progress c.self.invariant)
+    rw (← c.self.view_is) (at_short r.screen.format r.screen.size.width r.screen.size.height r.partial c.self.invariant)
 
 pub returns-clause-short : goal.returns-clause-short
 returns-clause-short c =

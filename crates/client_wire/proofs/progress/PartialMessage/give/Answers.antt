@@ -1,5 +1,0 @@
-use Rattle.client_wire.proofs.Turns.{at_start}
-use Rattle.client_wire.proofs.progress.PartialMessage.give.Goals as goal
-
-pub returns-clause-at : goal.returns-clause-at
-returns-clause-at c = at_start c.clear.new.self.items c.clear.ensures.items
