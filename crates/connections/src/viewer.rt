@@ -7,6 +7,7 @@ use crate::limits::{ANSWER, FAREWELL, HANDSHAKE};
 use crate::room::Hall;
 use disk::Disk;
 use replay::Slice;
+use rfb_wire::HostMessage;
 use shared_book::{Mark, Shared};
 use sockets::{Bell, Connection, Woken, time_left};
 use std::alloc::Global;
@@ -33,8 +34,23 @@ struct Talk<M: Mark> {
     session: Session,
     /// The first message count that the viewer is shown.
     shows_from: u64,
+    /// Whether the whole screen has changed since the viewer was sent an update: it is sent all of
+    /// it next, whatever comes.
+    lacks_all: bool,
     of: PhantomData<M>,
     ghost sized: { (session.view.screen.width ≡ M.head.width) × (session.view.screen.height ≡ M.head.height) },
+}
+
+// Whether the rectangles of a message have as many places as the screen, as those of an update of
+// the whole screen have.
+fn is_of_whole_screen(message: &HostMessage) -> bool {
+    let size = message.size();
+    let mut left = u64::from(size.width) * u64::from(size.height);
+    for rectangle in message.rectangles() {
+        let area = rectangle.area;
+        left = left.saturating_sub(u64::from(area.w) * u64::from(area.h));
+    }
+    left == 0
 }
 
 impl<M: Mark> Talk<M> {
@@ -52,6 +68,10 @@ impl<M: Mark> Talk<M> {
             return false;
         }
         self.session.advance(slice);
+        self.lacks_all = self.lacks_all || slice.start.is_some();
+        for stamped in &slice.messages {
+            self.lacks_all = self.lacks_all || is_of_whole_screen(&stamped.message);
+        }
         true
     }
 
@@ -66,8 +86,12 @@ impl<M: Mark> Talk<M> {
         if self.session.position() < self.shows_from {
             return Ok(());
         }
+        let is_asked = self.session.wants();
         let mut due = Vec::new(alloc);
         self.session.answer(&mut due)?;
+        if is_asked && !self.session.wants() {
+            self.lacks_all = false; // an update is among what is due
+        }
         connection.write_within(rt, &due, ANSWER)
     }
 
@@ -108,6 +132,7 @@ impl<M: Mark, C: Connection> Viewer<M, C> {
             talk: Mutex::new(Talk {
                 session,
                 shows_from: 0,
+                lacks_all: false,
                 of: PhantomData,
             }),
             changed: Condvar::new(),
@@ -132,6 +157,16 @@ impl<M: Mark, C: Connection> Viewer<M, C> {
     /// Says that the viewer is shown nothing before it stands at this count. Its handshake is over.
     pub fn show_from<R: Wait>(&self, rt: &R, count: u64) {
         self.talk.lock(rt).shows_from = count;
+    }
+
+    /// Holds back the next update until the viewer stands further on, if it is one of the whole
+    /// screen whatever comes. Whether it does.
+    pub fn hold_back<R: Wait>(&self, rt: &R) -> bool {
+        let mut talk = self.talk.lock(rt);
+        if talk.lacks_all {
+            talk.shows_from = talk.session.position().saturating_add(1);
+        }
+        talk.lacks_all
     }
 
     /// Goes on by a slice, and answers what is due.

@@ -3,7 +3,6 @@
 #![tactic(auto)]
 
 mod closed;
-mod compare;
 mod held;
 mod history;
 mod mark;

@@ -62,13 +62,16 @@ pub enum ViewerWish {
     Wait,
     /// To go on behind the first so many messages, with the screen there.
     Seek(u64),
+    /// To go on behind all that are committed, with the screen there.
+    Newest,
     /// To end.
     Stop,
 }
 
 /// What takes a viewer's receipts. Each is of the sink's size and begins where the sink stands:
-/// where its seat is, behind the receipt before, or where it asked to go on. It has a start in the
-/// first and the last of these cases, and in no other. An ending says that the sink has all.
+/// where its seat is, of which it is told, behind the receipt before, or where it asked to go on. It
+/// has a start in the first and the last of these cases, and in no other. An ending says that the
+/// sink has all.
 pub trait ViewerSink<T, E>: Drop {
     ghost use Rattle.std.specs.Prelude.{ℕ, Bool};
     ghost use Rattle.replay.specs.declared.slice.Slice.{Slice};
@@ -91,7 +94,8 @@ pub trait ViewerSink<T, E>: Drop {
         false
     }
 
-    /// Takes word of its seat, which is behind so many messages: it stands there, without a screen.
+    /// Takes word of its seat, at first and at each `Newest`: it stands behind so many messages
+    /// then, without a screen.
     fn seated(&mut self, count: u64)
         ensures size { (width self.new ≡ width self.old) × (height self.new ≡ height self.old) }
         ensures moved { position self.new ≡ count }

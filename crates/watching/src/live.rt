@@ -16,8 +16,10 @@ pub const LIMIT: u32 = 256;
 /// A live viewer that is more messages behind than this goes on at the newest screen.
 const FAR: u64 = 64;
 
-/// Shows the recording as it grows. A viewer that begins behind a message is shown each message that
-/// was committed before it came, as fast as it asks, and is a live one from there on.
+/// Shows the recording as it grows. A live viewer that is behind, and is sent the whole screen next
+/// whatever comes, goes on at the newest screen once it asks: what lies between isn't read for it. A
+/// viewer that begins behind a message is shown each message that was committed before it came, as
+/// fast as it asks, and is a live one from there on.
 #[derive(Drop)]
 pub struct Live {
     start: Start,
@@ -60,6 +62,19 @@ impl Live {
             Start::At(count) => count <= position && position < self.each_until,
         }
     }
+
+    // Whether the viewer, which lacks so many messages, goes on at the newest screen.
+    fn goes_to_newest<M: Mark, C: Connection, R: Clock + Eprint + Wait>(
+        &self,
+        place: &Place<'_, M, C, R>,
+        missing: u64,
+    ) -> bool {
+        if place.is_fresh {
+            return self.start == Start::Live;
+        }
+        let is_live = self.each_until <= place.position;
+        is_live && (missing > FAR || (missing > 0 && place.waits_for_whole_screen()))
+    }
 }
 
 impl<M: Mark, C: Connection, R: Clock + Eprint + Wait> Guide<M, C, R> for Live {
@@ -76,11 +91,9 @@ impl<M: Mark, C: Connection, R: Clock + Eprint + Wait> Guide<M, C, R> for Live {
         if place.viewer.has_left() || (!is_waited_for && place.is_closing()) {
             return ViewerWish::Stop;
         }
-        let committed = place.room.committed();
-        let missing = committed.saturating_sub(place.position);
-        let is_live = self.each_until <= place.position;
-        if !place.is_fresh && is_live && missing > FAR {
-            ViewerWish::Seek(committed)
+        let missing = place.room.committed().saturating_sub(place.position);
+        if self.goes_to_newest(place, missing) {
+            ViewerWish::Newest
         } else if place.is_fresh || self.has_waited || missing > 0 {
             ViewerWish::Want(self.limit(place.position, place.is_fresh))
         } else {

@@ -90,6 +90,16 @@ impl<'a, M: Mark, C: Connection, R: Clock + Eprint + Wait> Place<'a, M, C, R> {
         self.viewer.wait_until_asked(self.rt, || self.is_closing());
     }
 
+    /// Whether the viewer is sent the whole screen next, whatever comes. Then it waits until the
+    /// viewer asks for it, as [`wait_until_asked`](Place::wait_until_asked) does.
+    pub fn waits_for_whole_screen(&self) -> bool {
+        let is_held_back = self.viewer.hold_back(self.rt);
+        if is_held_back {
+            self.wait_until_asked();
+        }
+        is_held_back
+    }
+
     /// Sleeps, but no longer than until the viewer has left, or the recorder is closing.
     pub fn sleep(&self, time: Duration) {
         let viewer = self.viewer;

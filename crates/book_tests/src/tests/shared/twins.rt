@@ -6,7 +6,7 @@ ghost use Rattle.book_tests.specs.OnePlace.{IsOfOnePlace};
 
 use super::{UPDATE, confirm, find};
 use crate::{ONE_PLACE, desk_of_one_place};
-use Line::{At, Bell, Body, Gate, Key, Leave, Live, Next, Seek, Take, Update};
+use Line::{At, Bell, Body, Gate, Key, Leave, Live, Newest, Next, Seek, Take, Update};
 use broadcast::{Desk, Seat, Start};
 use disk::{Disk, FailingDisk, MemoryDisk, Switch};
 use gated_journal::ReadFault;
@@ -22,7 +22,8 @@ use std::test::Fail;
 /// A bell: it paints nothing.
 const BELL: [u8; 1] = [2];
 
-/// A call. Seats are a stack: the seat of `Next`, `Seek` and `Leave` is the last one that joined.
+/// A call. Seats are a stack: the seat of `Next`, `Seek`, `Newest` and `Leave` is the last one that
+/// joined.
 #[derive(Clone, Copy)]
 enum Line {
     Update,
@@ -34,6 +35,8 @@ enum Line {
     At(u64),
     Next,
     Seek(u64),
+    /// At the desk `Seek` to the committed messages' end, and `Next` of none.
+    Newest,
     Leave,
     /// The committed count, and the last key screen at so many messages or before.
     Key(u64),
@@ -55,7 +58,18 @@ const READING: [&[Line]; 4] = [
         At(1),
         Next,
     ],
-    &[Update, Take, Body, Live, Next, Gate, Next, Key(3), Leave],
+    &[
+        Update,
+        Take,
+        Body,
+        Live,
+        Next,
+        Gate,
+        Newest,
+        Next,
+        Key(3),
+        Leave,
+    ],
     &[At(0), Next, Next, Seek(2), Next, Seek(3), Next, Seek(4)],
     &[At(4), Live, Next],
 ];
@@ -121,21 +135,6 @@ fn join<D: Disk, M: Mark, R: Wait>(
     }
 }
 
-fn are_same(slice: &Slice, twin: &Slice) -> bool {
-    let is_start_same = match (&slice.start, &twin.start) {
-        (Some(screen), Some(twin)) => screen.same(twin),
-        (None, None) => true,
-        _ => false,
-    };
-    let messages = slice.messages.iter().zip(&twin.messages);
-    is_start_same
-        && slice.first == twin.first
-        && slice.messages.len() == twin.messages.len()
-        && messages
-            .into_iter()
-            .all(|(stamped, twin)| stamped.same(twin))
-}
-
 // Whether both hand out the same, or refuse it for the same.
 fn hand_out<M: Mark, E: PartialEq + Drop>(
     receipts: &mut Vec<Receipt<M>>,
@@ -144,7 +143,7 @@ fn hand_out<M: Mark, E: PartialEq + Drop>(
 ) -> Option<bool> {
     match (answer, twin) {
         (Ok(slice), Ok(receipt)) => {
-            let is_same = are_same(&slice, receipt.slice());
+            let is_same = slice.same(receipt.slice());
             receipts.push(receipt).ok()?;
             Some(is_same)
         }
@@ -181,6 +180,13 @@ fn both<D: Disk, M: Mark, R: Wait>(
         Seek(n) => {
             let (seat, twin) = kept.seats.last_mut()?;
             Some(desk.seek(seat, n) == shared.seek(rt, twin, n))
+        }
+        Newest => {
+            let (seat, twin) = kept.seats.last_mut()?;
+            let newest = desk.committed();
+            desk.seek(seat, newest).ok()?;
+            let answer = desk.next(seat, 0);
+            hand_out(&mut kept.receipts, answer, shared.newest(rt, twin))
         }
         Leave => {
             let (seat, twin) = kept.seats.pop()?;

@@ -49,9 +49,10 @@ fn strangers_come(rt: &HostRuntime, ends: Loopback) -> Result<(), Fail> {
     let last = viewer(rt, ends.viewers)?;
     last.talk(alloc, &ALL, &BLACK)?;
     host.talk(alloc, &RED, &CHANGES)?;
-    last.talk(alloc, &CHANGES, &RED)?;
     host.talk(alloc, &GREEN, &CHANGES)?;
-    last.talk(alloc, &CHANGES, &GREEN)?;
+    // The whole screen has changed twice: it may be shown the newest alone.
+    last.say(&CHANGES)?;
+    last.hear_at_last(alloc, &GREEN, &CHANGES)?;
     drop(silent);
     Ok(())
 }

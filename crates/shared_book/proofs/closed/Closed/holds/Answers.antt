@@ -12,6 +12,6 @@ returns-clause-exact g c = λ m.
     let here : b.state.committed ≡ length (committed_of b.state) = rw (← c.self.view_is) at counted in
     let within : slice.first ≤ length (committed_of b.state) = omega (arith, here, c.committed.ensures, c.if-slice-committed.false) in
     rw (← c.self.view_is) (
-      (λ same. stands_back b.head (committed_of b.state) slice read _ _ within (omega (arith, c.len-count.ensures, slice.messages.ok.0)) c.is_some.ensures (c.in_ok-read.ensures.slice m) (c.same_slice.ensures.0 same)),
-      (λ stands. c.same_slice.ensures.1 (read_back b.head (committed_of b.state) slice read _ _ stands (omega (arith, c.len-count.ensures, slice.messages.ok.0)) c.is_some.ensures (c.in_ok-read.ensures.slice m))),
+      (λ same. stands_back b.head (committed_of b.state) slice read _ _ within (omega (arith, c.len-count.ensures, slice.messages.ok.0)) c.is_some.ensures (c.in_ok-read.ensures.slice m) (c.same.ensures.0 same)),
+      (λ stands. c.same.ensures.1 (read_back b.head (committed_of b.state) slice read _ _ stands (omega (arith, c.len-count.ensures, slice.messages.ok.0)) c.is_some.ensures (c.in_ok-read.ensures.slice m))),
     )
