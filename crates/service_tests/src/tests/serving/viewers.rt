@@ -49,8 +49,10 @@ fn strangers_come(rt: &HostRuntime, ends: Loopback) -> Result<(), Fail> {
     let last = viewer(rt, ends.viewers)?;
     last.talk(alloc, &ALL, &BLACK)?;
     host.talk(alloc, &RED, &CHANGES)?;
+    // What it is shown is committed: so the next update has a block of its own.
+    last.say(&CHANGES)?;
+    last.hear_at_last(alloc, &RED, &CHANGES)?;
     host.talk(alloc, &GREEN, &CHANGES)?;
-    // The whole screen has changed twice: it may be shown the newest alone.
     last.say(&CHANGES)?;
     last.hear_at_last(alloc, &GREEN, &CHANGES)?;
     drop(silent);
