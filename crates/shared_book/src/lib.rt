@@ -4,17 +4,14 @@
 
 mod closed;
 mod held;
-mod history;
-mod mark;
-mod numbers;
 mod parties;
 mod receipt;
 mod shared;
 mod workers;
 
+pub use book_tokens::{Mark, Token};
 pub use closed::Closed;
 pub use held::Held;
-pub use mark::{Mark, Token};
 pub use parties::{HostSource, Point, ReceiptSink, Turnstile, ViewerSink, ViewerWish};
 pub use receipt::{Ending, Receipt, Ticket};
 pub use shared::Shared;

@@ -2,9 +2,7 @@
 
 ghost use Rattle.std.specs.Prelude.{◌≡◌, length};
 
-use crate::history::Front;
-use crate::mark::Mark;
-use crate::numbers::NumberProof;
+use book_tokens::{Front, Mark, NumberProof};
 use replay::Slice;
 use std::marker::Model;
 

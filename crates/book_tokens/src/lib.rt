@@ -1,0 +1,11 @@
+//! The tokens of a desk that threads share: how far a history of what it accepted and committed was
+//! seen, and numbers that are given once each. They take no bytes.
+#![tactic(auto)]
+
+mod history;
+mod mark;
+mod numbers;
+
+pub use history::{Front, Growth, Log};
+pub use mark::{Mark, Token};
+pub use numbers::{NumberProof, NumberSource};

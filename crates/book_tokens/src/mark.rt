@@ -1,0 +1,81 @@
+//! What ties receipts and tickets to the desk that they came from.
+
+ghost use Rattle.std.specs.Prelude.{◌≡◌, []};
+ghost use Rattle.book_tokens.specs.History.{total};
+
+use crate::history::{Front, Log, Opened};
+use crate::numbers::{Counter, NumberSource};
+use std::alloc::Global;
+use std::marker::{Brand, Model};
+use terms::NoMemory;
+
+/// Marks a desk that threads share, and all that comes from it: a receipt of one mark is known to
+/// stand in the recording of that mark. A program has no such type of its own. It is generic over
+/// the mark, and is called with [`Brand`], where each call picks what the members are: the header
+/// of the recording, whether its disk is one that may crash, how many messages were accepted when
+/// it was shared, and what the [`Token`] names.
+pub trait Mark {
+    ghost use Rattle.std.specs.Prelude.{ℕ};
+    ghost use Rattle.gated_journal.specs.Recording.{Head};
+    ghost use Rattle.book_tokens.specs.Names.{Names};
+
+    ghost head: { Head };
+
+    ghost is_modelled: { Type 0 };
+
+    ghost first: { ℕ };
+
+    ghost names: { Names };
+}
+
+impl Mark for Brand {
+    ghost use Rattle.std.specs.Prelude.{[]};
+    ghost use Rattle.pixel_format.specs.declared.kind.Format.TheVariants.{One};
+    ghost use Rattle.book_tokens.specs.History.{no_book};
+    ghost use Rattle.book_tokens.specs.Numbers.{no_table};
+
+    ghost head = { record { format = One; width = 0; height = 0; key_interval = 0; name = [] } };
+
+    ghost is_modelled = { Unit {0} };
+
+    ghost first = { 0 };
+
+    ghost names = { record { book = no_book; table = no_table } };
+}
+
+/// What names one desk that threads are to share. Contracts see the names.
+#[derive(Drop)]
+pub struct Token {
+    opened: Opened,
+    counter: Counter,
+}
+
+impl Model for Token {
+    ghost use Rattle.book_tokens.specs.Names.{Names};
+
+    ghost Value = { Names };
+
+    ghost view = { λ t. record { book = t.opened.seen.book; table = t.counter.cell.table.shared.table_id } };
+}
+
+impl Token {
+    /// A new one; `NoMemory` where its one word finds no room.
+    pub fn new(alloc: Global) -> Result<Token, NoMemory> {
+        let counter = Counter::new(alloc)?;
+        Ok(Token {
+            opened: Opened::new(),
+            counter,
+        })
+    }
+
+    /// The history and the numbers that it names, under a mark that fits it.
+    pub fn named<M: Mark>(self) -> (Log<M>, Front<M>, NumberSource<M>)
+        requires { self ≡ M.names }
+        ensures front { result.1 ≡ total [] }
+        ensures numbers { result.2 ≡ 0 }
+    {
+        let Token { opened, counter } = self;
+        let (log, front) = opened.named::<M>();
+        (log, front, counter.named::<M>())
+    }
+}
