@@ -1,5 +1,5 @@
 //! The tokens of a desk that threads share: how far a history of what it accepted and committed was
-//! seen, and numbers that are given once each. They take no bytes.
+//! seen, and numbers that are given once each.
 #![tactic(auto)]
 
 mod history;

@@ -6,9 +6,9 @@ use book_tokens::{Front, Mark, NumberProof};
 use replay::Slice;
 use std::marker::Model;
 
-/// A slice that `gate` or `next` answered, of [`Shared`](crate::Shared). It is made by these alone,
-/// and its type keeps that it stands in the recording that threads share, from then on. Contracts
-/// see the slice.
+/// A slice that `gate`, `next` or `newest` answered, of [`Shared`](crate::Shared). It is made by
+/// these alone, and its type keeps that it stands in the recording that threads share, from then on.
+/// Contracts see the slice.
 #[derive(Drop)]
 pub struct Receipt<M: Mark> {
     pub(crate) slice: Slice,
