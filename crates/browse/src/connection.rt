@@ -63,7 +63,12 @@ fn read_piece<R: Clock>(
 }
 
 // Reads until a request is whole or refused.
-fn hear<R: Clock>(rt: &R, site: &Site, stream: &TcpStream) -> io::Result<Judged> {
+fn hear<R: Clock + Wait>(
+    rt: &R,
+    site: &Site,
+    stream: &TcpStream,
+    number: u64,
+) -> io::Result<Judged> {
     let mut head = Vec::new(site.alloc);
     let mut buffer = [0u8; PIECE];
     let started = Instant::now(rt)?;
@@ -73,9 +78,11 @@ fn hear<R: Clock>(rt: &R, site: &Site, stream: &TcpStream) -> io::Result<Judged>
             break;
         }
         head.extend_from_slice(&buffer[..count])?;
-        match judge(&head) {
-            Judged::Unfinished => {}
-            judged => return Ok(judged),
+        let judged = judge(&head);
+        let is_whole = judged != Judged::Unfinished;
+        site.lobby.hear(rt, number, is_whole);
+        if is_whole {
+            return Ok(judged);
         }
     }
     Err(io::ErrorKind::UnexpectedEof.into())
@@ -96,9 +103,14 @@ fn wait_for_end<R: Clock>(rt: &R, site: &Site, stream: &TcpStream) -> io::Result
 }
 
 // Hears one request and answers it.
-fn converse<R: Clock + Wait>(rt: &R, site: &Site, stream: &TcpStream) -> io::Result<()> {
+fn converse<R: Clock + Eprint + Wait>(
+    rt: &R,
+    site: &Site,
+    stream: &TcpStream,
+    number: u64,
+) -> io::Result<()> {
     watch_over(stream)?;
-    let judged = hear(rt, site, stream)?;
+    let judged = hear(rt, site, stream, number)?;
     let outlet = Outlet {
         rt,
         stream,
@@ -110,7 +122,7 @@ fn converse<R: Clock + Wait>(rt: &R, site: &Site, stream: &TcpStream) -> io::Res
     wait_for_end(rt, site, stream)
 }
 
-/// Serves a connection until it has ended. What goes wrong ends it alone.
-pub fn attend<R: Clock + Wait>(rt: &R, site: &Site, stream: &TcpStream) {
-    let _ended = converse(rt, site, stream);
+/// Serves a connection of this number until it has ended. What goes wrong ends it alone.
+pub fn attend<R: Clock + Eprint + Wait>(rt: &R, site: &Site, stream: &TcpStream, number: u64) {
+    let _ended = converse(rt, site, stream, number);
 }

@@ -3,6 +3,8 @@
 
 mod answer;
 mod connection;
+mod guests;
+mod lobby;
 pub mod page;
 mod request;
 mod serving;

@@ -11,6 +11,7 @@ ghost use Rattle.terms.specs.Decimal.{number_of};
 use file_commands::Moment;
 use httparse::spans::{EMPTY_HEADER_SPAN, HeaderSpan, RequestSpans, parse_request};
 use httparse::{Error, Status};
+use std::net::{Ipv4Addr, Ipv6Addr};
 use terms::decimal_number;
 
 /// No head of a request is longer, in bytes.
@@ -106,17 +107,27 @@ pub fn asked_by(target: &[u8]) -> Option<Asked>
     Some(Asked::Picture(moment(query)?))
 }
 
-// Whether a name of this server is an address or `localhost`, with a port or without. Under a name of
-// its own, a page of somebody else's could read what is served here, by having its name lead here.
+// Whether a name is an address of the Internet Protocol, that of version 6 in brackets (RFC 3986,
+// section 3.2.2).
+fn is_address(name: &str) -> bool {
+    match name.strip_prefix("[").and_then(|rest| rest.strip_suffix("]")) {
+        Some(inner) => inner.parse::<Ipv6Addr>().is_ok(),
+        None => name.parse::<Ipv4Addr>().is_ok(),
+    }
+}
+
+// Whether a name of this server is an address or `localhost`, with a port or without, or empty. Under
+// a name of its own, a page of somebody else's could read what is served here, by having its name
+// lead here.
 fn is_own(name: &[u8]) -> bool {
     let bare = match name.iter().rposition(|byte| *byte == b':') {
         Some(colon) if !name.ends_with(b"]") => &name[..colon],
         _ => name,
     };
-    let is_address = bare
-        .iter()
-        .all(|byte| byte.is_ascii_digit() || *byte == b'.');
-    is_address || bare.starts_with(b"[") || bare.eq_ignore_ascii_case(b"localhost")
+    match str::from_utf8(bare) {
+        Ok(bare) => bare.is_empty() || bare.eq_ignore_ascii_case("localhost") || is_address(bare),
+        Err(_) => false,
+    }
 }
 
 // Whether a request was sent to such a name, or to none.

@@ -3,6 +3,7 @@
 ghost use Rattle.std.specs.Prelude.{◌<◌};
 
 use crate::connection::attend;
+use crate::lobby::Lobby;
 use crate::site::Site;
 use file_commands::{Ended, Refusal, answer, open_path};
 use file_disk::Progress;
@@ -29,26 +30,26 @@ pub struct Browsing<'a> {
 }
 
 // Serves a connection on a thread of its own, if it is one of few. One too many is closed.
-fn take<'s, E, R: Threads + Clock + Wait + Sync>(
+fn take<'s, E, R: Threads + Clock + Eprint + Wait + Sync>(
     rt: &'s R,
     scope: &'s Scope<'s, E>,
     site: &'s Site,
     stream: TcpStream,
 ) {
-    if !site.enter() {
+    let Some((number, stream)) = site.lobby.enter(rt, site.alloc, stream) else {
         return;
-    }
+    };
     let attending = scope.spawn(move || {
-        attend(rt, site, &stream);
-        site.leave();
+        attend(rt, site, &stream, number);
+        site.lobby.leave(rt, number);
     });
     if attending.is_err() {
-        site.leave();
+        site.lobby.leave(rt, number);
     }
 }
 
 // Accepts connections until the bell rings. An error is the listener's.
-fn accept_in<'s, E, R: Threads + Clock + Wait + Sync>(
+fn accept_in<'s, E, R: Threads + Clock + Eprint + Wait + Sync>(
     rt: &'s R,
     scope: &'s Scope<'s, E>,
     site: &'s Site,
@@ -72,7 +73,7 @@ fn stop_when<R: Clock>(rt: &R, site: &Site, stop: Stop) {
 }
 
 // Serves until it is to end.
-fn serve_in<'s, E, R: Threads + Clock + Wait + Sync>(
+fn serve_in<'s, E, R: Threads + Clock + Eprint + Wait + Sync>(
     rt: &'s R,
     scope: &'s Scope<'s, E>,
     site: &'s Site,
@@ -88,13 +89,13 @@ fn serve_in<'s, E, R: Threads + Clock + Wait + Sync>(
 }
 
 // The recording, opened for reading alone, as it is served.
-fn open<R: AllocGlobal + Files<File = File> + Net>(
+fn open<R: AllocGlobal + Clock + Files<File = File> + Net>(
     rt: &R,
     path: &str,
     progress: Progress,
 ) -> Result<Site, Ended> {
     let index = open_path(rt, path, progress)?;
-    Site::new(rt.alloc(), index, Bell::new(rt)?)
+    Site::new(rt.alloc(), index, Lobby::new(rt)?, Bell::new(rt)?)
 }
 
 // Listens, says where, and serves until it is to end.
@@ -106,7 +107,7 @@ fn serve<R, L, O: Write>(
     out: &mut O,
 ) -> Result<(), Ended>
 where
-    R: Clock + Sync + Threads + Wait,
+    R: Clock + Eprint + Sync + Threads + Wait,
     L: FnOnce() -> io::Result<TcpListener> + Drop,
     requires { L.IsAlwaysCallable listen }
 {
@@ -136,7 +137,7 @@ fn run<R, L, O: Write>(
     out: &mut O,
 ) -> Result<(), Ended>
 where
-    R: AllocGlobal + Clock + Files<File = File> + Sync + Threads + Wait,
+    R: AllocGlobal + Clock + Eprint + Files<File = File> + Sync + Threads + Wait,
     R: Net<Stream = TcpStream, Listener = TcpListener>,
     L: FnOnce() -> io::Result<TcpListener> + Drop,
     requires { L.IsAlwaysCallable listen }
@@ -158,7 +159,7 @@ pub fn browse<R, L, O: Write, E: Write>(
     err: &mut E,
 ) -> io::Result<bool>
 where
-    R: AllocGlobal + Clock + Files<File = File> + Sync + Threads + Wait,
+    R: AllocGlobal + Clock + Eprint + Files<File = File> + Sync + Threads + Wait,
     R: Net<Stream = TcpStream, Listener = TcpListener>,
     L: FnOnce() -> io::Result<TcpListener> + Drop,
     requires { L.IsAlwaysCallable listen }

@@ -2,6 +2,7 @@
 
 ghost use Rattle.std.specs.Prelude.{◌<◌};
 
+use crate::lobby::Lobby;
 use crate::answer::{Head, write_failure, write_fault, write_head, write_text};
 use crate::page::{PAGE, SCRIPT, STYLE};
 use crate::request::{Asked, Judged};
@@ -15,24 +16,23 @@ use sockets::Bell;
 use std::alloc::Global;
 use std::io;
 use std::io::Write;
-use std::sync::atomic::{AtomicU32, Ordering};
+use std::sync::atomic::{AtomicBool, Ordering};
 use std::sync::{Mutex, Wait};
 use terms::ScreenSize;
 
 /// In how many stretches of time at most a page draws what came.
 const MOST_STRETCHES: u32 = 500;
 
-/// How many connections are served at a time.
-const MOST_CONNECTIONS: u32 = 16;
-
 /// A recording that is looked at: one opening, shared by all connections.
 #[derive(Drop)]
 pub struct Site {
     pub alloc: Global,
     pub bell: Bell,
+    pub lobby: Lobby,
     recording: Mutex<Box<Indexed<FileDisk>>>,
     times: Vec<u8>,
-    connections: AtomicU32,
+    // Whether the last picture that was asked for couldn't be read.
+    is_failing: AtomicBool,
 }
 
 // The stretches of a recording, as members of a JSON array.
@@ -89,6 +89,15 @@ fn write_screen<W: Write>(alloc: Global, screen: &Screen, out: &mut W) -> io::Re
     write_picture(alloc, screen, PictureFormat::Bmp, out)
 }
 
+// Why a recording can't be read, where that is why there is no picture.
+fn failure_of(refusal: Refusal) -> Option<ReplayFault> {
+    match refusal {
+        Refusal::Screen(ReplayFault::NotCommitted | ReplayFault::NoMemory) => None,
+        Refusal::Screen(fault) => Some(fault),
+        _ => None,
+    }
+}
+
 // Why there is no picture.
 fn write_refusal<W: Write>(refusal: Refusal, out: &mut W) -> io::Result<()> {
     match refusal {
@@ -111,6 +120,7 @@ impl Site {
     pub fn new(
         alloc: Global,
         mut index: Box<Indexed<FileDisk>>,
+        lobby: Lobby,
         bell: Bell,
     ) -> Result<Site, Ended> {
         let mut times = Vec::new(alloc);
@@ -118,28 +128,24 @@ impl Site {
         Ok(Site {
             alloc,
             bell,
+            lobby,
             recording: Mutex::new(index),
             times,
-            connections: AtomicU32::new(0),
+            is_failing: AtomicBool::new(false),
         })
     }
 
-    /// Whether one connection more is served; if so it is given back by `leave`.
-    pub fn enter(&self) -> bool {
-        let is_one_of_few = self.connections.fetch_add(1, Ordering::SeqCst) < MOST_CONNECTIONS;
-        if !is_one_of_few {
-            self.leave();
+    // Tells of a recording that can't be read, on standard error, once while that lasts.
+    fn tell<R: Eprint>(&self, rt: &R, failure: Option<ReplayFault>) {
+        let was_failing = self.is_failing.swap(failure.is_some(), Ordering::SeqCst);
+        if let (Some(fault), false) = (failure, was_failing) {
+            let number = fault.number();
+            let _told = eprintln!(rt; "recorderd: browse answered 500: replay {number}");
         }
-        is_one_of_few
-    }
-
-    /// Gives back the place of a connection.
-    pub fn leave(&self) {
-        self.connections.fetch_sub(1, Ordering::SeqCst);
     }
 
     // Answers with the screen at a moment. The recording is read by one connection at a time.
-    fn answer_picture<R: Wait, W: Write>(
+    fn answer_picture<R: Eprint + Wait, W: Write>(
         &self,
         rt: &R,
         moment: Moment,
@@ -149,12 +155,18 @@ impl Site {
         let screen = screen_of(self.alloc, &mut **recording, moment);
         drop(recording);
         match screen {
-            Ok(screen) => write_screen(self.alloc, &screen, out),
-            Err(refusal) => write_refusal(refusal, out),
+            Ok(screen) => {
+                self.tell(rt, None);
+                write_screen(self.alloc, &screen, out)
+            }
+            Err(refusal) => {
+                self.tell(rt, failure_of(refusal));
+                write_refusal(refusal, out)
+            }
         }
     }
 
-    fn answer_asked<R: Wait, W: Write>(&self, rt: &R, asked: Asked, out: &mut W) -> io::Result<()> {
+    fn answer_asked<R: Eprint + Wait, W: Write>(&self, rt: &R, asked: Asked, out: &mut W) -> io::Result<()> {
         match asked {
             Asked::Page => write_text(out, "200 OK", "text/html; charset=utf-8", PAGE),
             Asked::Script => write_text(out, "200 OK", "text/javascript; charset=utf-8", SCRIPT),
@@ -173,7 +185,7 @@ impl Site {
     }
 
     /// Answers what was judged; nothing to what isn't finished.
-    pub fn answer<R: Wait, W: Write>(&self, rt: &R, judged: Judged, out: &mut W) -> io::Result<()> {
+    pub fn answer<R: Eprint + Wait, W: Write>(&self, rt: &R, judged: Judged, out: &mut W) -> io::Result<()> {
         match judged {
             Judged::Unfinished => Ok(()),
             Judged::Asked(asked) => self.answer_asked(rt, asked, out),

@@ -269,7 +269,7 @@ fn command<'a>(alloc: Global, words: &CommandWords) -> Result<Command<'a>, Alloc
 pub fn reader<'a>(alloc: Global) -> Result<Command<'a>, AllocError> {
     let mut program = Command::new(alloc, "recorderd")
         .about("Records one VNC session, so that a crash at any moment loses nothing acknowledged")
-        .version("0.1.0")
+        .version("0.9.0")
         .subcommand_required(true);
     for words in &COMMANDS {
         program = program.subcommand(command(alloc, words)?)?;

@@ -78,7 +78,7 @@ fn exported<R: Files<File = File> + AllocGlobal>(
     let alloc = rt.alloc();
     let file = open_file(rt, what.recording)?;
     let metadata = file.metadata()?;
-    let mut index = open_recording(alloc, file, progress)?;
+    let mut index = open_recording(rt, file, progress)?;
     first_exported(&index, what.from_block, what.to).map_err(Refusal::Export)?;
     let out = open_out(rt, what.out, &metadata).map_err(|_| Refusal::File)?;
     write_part(alloc, &mut index, what, out, progress)

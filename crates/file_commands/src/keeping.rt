@@ -2,13 +2,14 @@
 
 use crate::refusal::Refusal;
 use disk::Disk;
-use file_disk::{FileDisk, sync_folder};
+use file_disk::{FileDisk, create_exclusively, sync_folder};
 use std::fs::File;
 use std::rt::Files;
 
-/// A new file, open for reading and writing. Refused where the path is taken, or can't be.
+/// A new file, open for reading and writing, for its owner alone. Refused where the path is taken, or
+/// can't be.
 pub fn create_new<R: Files<File = File>>(files: &R, path: &str) -> Result<FileDisk, Refusal> {
-    let file = File::create_new(files, path).map_err(|_| Refusal::File)?;
+    let file = create_exclusively(files, path).map_err(|_| Refusal::File)?;
     Ok(FileDisk::new(file))
 }
 

@@ -5,7 +5,7 @@ ghost use Rattle.std.specs.Prelude.{◌≢◌};
 use crate::command::Work;
 use crate::recording::open_path;
 use crate::refusal::{Ended, Refusal};
-use file_disk::{FileDisk, Progress, sync_folder};
+use file_disk::{FileDisk, Progress, create_exclusively, sync_folder};
 use gated_journal::State;
 use key_index::Indexed;
 use migration::{may_be_migrated, migrate};
@@ -25,14 +25,14 @@ pub struct Migration<'a> {
     pub out: &'a str,
 }
 
-// A file to be read and written; created where it isn't there. One without bytes is made its owner's
+// A file to be read and written: a new one, or one that is there. One without bytes is its owner's
 // alone, as a new recording's is; one with bytes stays as it is.
 fn open_target<R: Files<File = File>>(files: &R, path: &str) -> io::Result<File> {
-    let file = OpenOptions::new()
-        .read(true)
-        .write(true)
-        .create(true)
-        .open(files, path)?;
+    match create_exclusively(files, path) {
+        Err(error) if error.kind() == io::ErrorKind::AlreadyExists => {}
+        created => return created,
+    }
+    let file = OpenOptions::new().read(true).write(true).open(files, path)?;
     let metadata = file.metadata()?;
     if metadata.is_file() && metadata.len() == 0 {
         file.set_permissions(Permissions::from_mode(0o600))?;
@@ -64,7 +64,7 @@ fn migrated<R: Files<File = File> + AllocGlobal>(
     let mut index = open_path(rt, what.recording, progress)?;
     may_be_migrated(&index).map_err(Refusal::Migrate)?;
     let file = open_target(rt, what.out).map_err(|_| Refusal::File)?;
-    let target = FileDisk::watched(file, progress);
+    let target = FileDisk::new(file).watched(progress);
     let count = migrated_to(alloc, &mut index, target)?;
     sync_folder(rt, what.out).map_err(|_| Refusal::File)?;
     Ok(count)

@@ -89,7 +89,7 @@ fn screen_in<R: Files<File = File> + AllocGlobal>(
     let alloc = rt.alloc();
     let file = open_file(rt, what.recording)?;
     let metadata = file.metadata()?;
-    let mut index = open_recording(alloc, file, progress)?;
+    let mut index = open_recording(rt, file, progress)?;
     let screen = screen_of(alloc, &mut index, what.moment)?;
     Ok((screen, metadata))
 }

@@ -24,7 +24,7 @@ pub fn open_path<R: Files<File = File> + AllocGlobal>(
     ensures ready { IfOk result (λ i. i.value.numbers.state ≡ State.Ready) }
 {
     let file = open_file(rt, path)?;
-    open_recording(rt.alloc(), file, progress)
+    open_recording(rt, file, progress)
 }
 
 // A value in a box, where there is memory for it.
@@ -34,16 +34,17 @@ fn boxed<T: Drop>(alloc: Global, value: T) -> Result<Box<T>, Refusal>
     Box::new(alloc, value).map_err(|_| Refusal::Recording(IndexFault::NoMemory))
 }
 
-/// The recording that a file holds. It is boxed, since it is large, and each way out of a function
-/// that owns it would take it apart.
-pub fn open_recording(
-    alloc: Global,
+/// The recording that a file holds, which is open for reading alone. It is boxed, since it is large,
+/// and each way out of a function that owns it would take it apart.
+pub fn open_recording<R: Files<File = File> + AllocGlobal>(
+    rt: &R,
     file: File,
     progress: Progress,
 ) -> Result<Box<Indexed<FileDisk>>, Refusal>
     ensures ready { IfOk result (λ i. i.value.numbers.state ≡ State.Ready) }
 {
-    match Indexed::open(alloc, FileDisk::watched(file, progress)) {
+    let alloc = rt.alloc();
+    match Indexed::open(alloc, FileDisk::to_read(rt, file).watched(progress)) {
         Ok(index) => boxed(alloc, index),
         Err(refused) => Err(Refusal::Recording(refused.fault)),
     }

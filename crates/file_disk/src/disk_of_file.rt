@@ -4,16 +4,20 @@ ghost use Rattle.std.specs.Prelude.{◌≡◌, ◌+◌, ◌<◌, ◌^◌, length
 ghost use Rattle.disk.specs.Contents.{CountsFailure};
 
 use crate::last_error::LastError;
+use crate::medium::{fits_size_limit, has_nothing_to_sync};
 use crate::progress::Progress;
+use crate::written::Written;
 use disk::{Disk, DiskFault};
 use std::fs::File;
 use std::io;
 use std::marker::Model;
 use std::os::unix::fs::FileExt;
+use std::rt::Files;
 
-/// An open file as a disk. Reads and writes are at a place; each goes on where the system took or
-/// gave less than was asked for, and tries again where a signal cut it off. A sync reaches the
-/// device, with the length where that has changed. Each call that fails is counted.
+/// An open file as a disk. Reads and writes are at an offset; each goes on if the system took or
+/// gave less than was asked for, and tries again if a signal cut it off. A sync reaches the device,
+/// with the length if that has changed. Each call that fails is counted; a write beyond the process's
+/// limit of a file's size fails, and doesn't reach the system.
 ///
 /// Nothing is claimed of what a crash leaves, nor of the bytes that reads give: no proof can know
 /// them. Which rule of a disk each call stands for is written in docs/RECORDING.md.
@@ -21,8 +25,11 @@ use std::os::unix::fs::FileExt;
 pub struct FileDisk {
     file: File,
     failures: u64,
+    // Whether a sync has something to do: not on a read-only medium.
+    has_sync: bool,
     progress: Progress,
     last_error: Option<LastError>,
+    written: Option<Written>,
 }
 
 /// Contracts see the number of calls that failed.
@@ -35,38 +42,52 @@ impl Model for FileDisk {
 }
 
 impl FileDisk {
-    /// This file, as it is. It is written only where it is open for writing, and `write_at` called.
+    /// This file, as it is. It is written only if it is open for writing, and `write_at` called.
     pub fn new(file: File) -> FileDisk
         ensures { result ≡ 0 }
     {
-        FileDisk::watched(file, Progress::silent())
+        FileDisk {
+            file,
+            failures: 0,
+            has_sync: true,
+            progress: Progress::silent(),
+            last_error: None,
+            written: None,
+        }
+    }
+
+    /// The same of a file that is open for reading alone. On a read-only medium, whose file system
+    /// knows no sync, nothing can be written that a crash could take back: there a sync has nothing
+    /// to do.
+    pub fn to_read<R: Files<File = File> + AllocGlobal>(rt: &R, file: File) -> FileDisk
+        ensures { result ≡ 0 }
+    {
+        let has_sync = !has_nothing_to_sync(rt, &file);
+        let mut disk = FileDisk::new(file);
+        disk.has_sync = has_sync;
+        disk
     }
 
     /// The same, with what is read told of.
-    pub fn watched(file: File, progress: Progress) -> FileDisk
-        ensures { result ≡ 0 }
+    pub fn watched(self, progress: Progress) -> FileDisk
+        ensures { result ≡ self }
     {
-        FileDisk {
-            file,
-            failures: 0,
-            progress,
-            last_error: None,
-        }
+        let mut disk = self;
+        disk.progress = progress;
+        disk
     }
 
-    /// The same as [`new`](FileDisk::new), with what the system says of a failure noted.
-    pub fn noting(file: File, last_error: LastError) -> FileDisk
-        ensures { result ≡ 0 }
+    /// The same, with what the system says of a failure noted, and how far it is written.
+    pub fn noting(self, last_error: LastError, written: Written) -> FileDisk
+        ensures { result ≡ self }
     {
-        FileDisk {
-            file,
-            failures: 0,
-            progress: Progress::silent(),
-            last_error: Some(last_error),
-        }
+        let mut disk = self;
+        disk.last_error = Some(last_error);
+        disk.written = Some(written);
+        disk
     }
 
-    // Counts a call where it failed, and has the system's word for it noted.
+    // Counts a call if it failed, and has the system's word for it noted.
     fn counted<T>(&mut self, outcome: io::Result<T>) -> Result<T, DiskFault>
         ensures { CountsFailure self.old self.new result }
     {
@@ -80,6 +101,18 @@ impl FileDisk {
                 Err(DiskFault)
             }
         }
+    }
+
+    // Writes all these bytes, which end at this offset.
+    fn put(&mut self, offset: u64, bytes: &[u8], end: u64) -> io::Result<()>
+        ensures { self.new ≡ self.old }
+    {
+        fits_size_limit(end)?;
+        self.file.write_all_at(bytes, offset)?;
+        if let Some(written) = &self.written {
+            written.note(end);
+        }
+        Ok(())
     }
 }
 
@@ -115,13 +148,17 @@ impl Disk for FileDisk {
         requires fits { place + length bytes.now < 2 ^ 64 }
         ensures counts { CountsFailure self.old self.new result }
     {
-        let outcome = self.file.write_all_at(bytes, place);
+        let end = place + bytes.len() as u64;
+        let outcome = self.put(place, bytes, end);
         self.counted(outcome)
     }
 
     fn sync(&mut self) -> Result<(), DiskFault>
         ensures counts { CountsFailure self.old self.new result }
     {
+        if !self.has_sync {
+            return Ok(());
+        }
         let outcome = self.file.sync_data();
         self.counted(outcome)
     }

@@ -1,9 +1,21 @@
-//! The folder of a file.
+//! The name of a file, on the device.
 
-use std::fs::File;
+use std::fs::{File, OpenOptions};
 use std::io;
+use std::os::unix::fs::OpenOptionsExt;
 use std::path::Path;
 use std::rt::Files;
+
+/// A new file, open for reading and writing, for its owner alone from the start. Nothing may be at
+/// its path, and a link there isn't followed.
+pub fn create_exclusively<R: Files<File = File>>(files: &R, path: &str) -> io::Result<File> {
+    OpenOptions::new()
+        .read(true)
+        .write(true)
+        .create_new(true)
+        .mode(0o600)
+        .open(files, path)
+}
 
 /// Brings the name of a new file onto the device: syncs the folder that holds it. A file's own sync
 /// is of its bytes, so that a crash may still lose the name until this is done, once.
@@ -13,4 +25,11 @@ pub fn sync_folder<R: Files<File = File>>(files: &R, path: &str) -> io::Result<(
         _ => ".",
     };
     File::open(files, folder)?.sync_all()
+}
+
+/// Brings the name that a file got by a rename onto the device: syncs the file once more, since on
+/// some file systems (FAT) only that completes its new entry, and then the folder.
+pub fn sync_name<R: Files<File = File>>(files: &R, path: &str) -> io::Result<()> {
+    File::open(files, path)?.sync_all()?;
+    sync_folder(files, path)
 }

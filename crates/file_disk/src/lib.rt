@@ -5,9 +5,12 @@
 mod disk_of_file;
 mod folder;
 mod last_error;
+mod medium;
 mod progress;
+mod written;
 
 pub use disk_of_file::FileDisk;
-pub use folder::sync_folder;
+pub use folder::{create_exclusively, sync_folder, sync_name};
 pub use last_error::LastError;
 pub use progress::{Progress, Watched};
+pub use written::Written;

@@ -49,7 +49,7 @@ impl Progress {
     }
 }
 
-/// A reader or a writer of whose bytes that is said.
+/// A reader or a writer of whose bytes that is said. A read that a signal cut off is tried again.
 #[derive(Drop)]
 pub struct Watched<T> {
     pub inner: T,
@@ -58,9 +58,17 @@ pub struct Watched<T> {
 
 impl<R: Read> Read for Watched<R> {
     fn read(&mut self, buffer: &mut [u8]) -> io::Result<usize> {
-        let count = self.inner.read(buffer)?;
-        self.progress.pass(count);
-        Ok(count)
+        for _ in 0..u64::MAX {
+            match self.inner.read(buffer) {
+                Err(error) if error.kind() == io::ErrorKind::Interrupted => {}
+                outcome => {
+                    let count = outcome?;
+                    self.progress.pass(count);
+                    return Ok(count);
+                }
+            }
+        }
+        Err(io::ErrorKind::Interrupted.into())
     }
 }
 

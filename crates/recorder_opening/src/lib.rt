@@ -2,6 +2,7 @@
 #![tactic(auto)]
 
 mod beginning;
+mod draft;
 mod opening;
 mod recording;
 mod stopped;

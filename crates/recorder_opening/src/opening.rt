@@ -6,7 +6,7 @@ use crate::stopped::Stopped;
 use broadcast::Desk;
 use connections::{Beginning, Event, Host, Plan, Refusal, Stopwatch, Telling};
 use disk::Disk;
-use file_disk::{FileDisk, LastError};
+use file_disk::{FileDisk, LastError, Written};
 use flusher_core::Book;
 use gated_journal::Header;
 use std::alloc::Global;
@@ -24,6 +24,8 @@ pub struct Opening<'a, R> {
     pub plan: &'a Plan<'a>,
     pub telling: &'a Telling,
     pub last_error: &'a LastError,
+    /// How far the recording's file is written.
+    pub written: &'a Written,
 }
 
 /// A host, if there is one, and a second handle of its stream.

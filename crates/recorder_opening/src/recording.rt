@@ -1,14 +1,15 @@
 //! The recording's file: opened where it has bytes, or made whole.
 
+use crate::draft::{DraftFault, draft_path, open_draft};
 use crate::opening::Opening;
 use connections::{Event, Refusal};
-use file_disk::{FileDisk, sync_folder};
+use file_disk::{FileDisk, LastError, Written, sync_name};
 use flusher_core::Book;
 use gated_journal::{CreateFault, Header};
 use key_index::IndexFault;
 use std::alloc::Global;
-use std::fs::{File, Metadata, OpenOptions, Permissions};
-use std::os::unix::fs::{MetadataExt, PermissionsExt};
+use std::fs::{File, Metadata, OpenOptions};
+use std::os::unix::fs::MetadataExt;
 use std::rt::Files;
 use std::sync::Wait;
 use std::{fs, io};
@@ -28,10 +29,10 @@ impl Identity {
         }
     }
 
-    /// Whether the file at this path is this one.
-    pub fn is_at<R: Files>(self, rt: &R, path: &str) -> bool {
+    /// Whether the file at this path is this one, and at least this long.
+    pub fn is_at<R: Files>(self, rt: &R, path: &str, length: u64) -> bool {
         match fs::metadata(rt, path) {
-            Ok(metadata) => Identity::of(&metadata) == self,
+            Ok(metadata) => Identity::of(&metadata) == self && metadata.len() >= length,
             Err(_) => false,
         }
     }
@@ -67,25 +68,14 @@ fn is_link<R: Files<File = File>>(rt: &R, path: &str) -> bool {
     }
 }
 
-// A file beside the recording's path, empty, locked, and for its owner alone. What a creation that
-// was cut off left there is replaced.
-fn open_draft<R: Files<File = File>>(rt: &R, draft: &str, path: &str) -> io::Result<File> {
-    let file = OpenOptions::new()
-        .read(true)
-        .write(true)
-        .create(true)
-        .open(rt, draft)?;
-    lock(&file, true)?;
-    // Who came here behind another recorder finds its recording at the path.
-    if let Ok(metadata) = fs::metadata(rt, path) {
-        if metadata.len() > 0 {
-            fs::remove_file(rt, draft)?;
-            return Err(io::ErrorKind::AlreadyExists.into());
-        }
+// Whether a failure says that only who may write may do this.
+fn is_for_writers(error: &io::Error) -> bool {
+    match error.kind() {
+        io::ErrorKind::PermissionDenied
+        | io::ErrorKind::ReadOnlyFilesystem
+        | io::ErrorKind::InvalidInput => true,
+        _ => false,
     }
-    file.set_permissions(Permissions::from_mode(0o600))?;
-    file.set_len(0)?;
-    Ok(file)
 }
 
 // A value in a box, or this refusal, which is of memory.
@@ -137,16 +127,38 @@ impl<'a, R: AllocGlobal + Eprint + Files<File = File> + Wait> Opening<'a, R> {
         }
     }
 
-    // Opens the recording in a file.
-    fn open_book(&self, file: File) -> Result<Box<Book<FileDisk>>, Refusal> {
-        let Ok(noting) = self.last_error.share() else {
-            return Err(Refusal::Recording(IndexFault::NoMemory));
+    // A second handle of what is noted of the file; none where there is no memory for it.
+    fn notes(&self) -> Option<(LastError, Written)> {
+        Some((self.last_error.share().ok()?, self.written.share().ok()?))
+    }
+
+    // Brings the name of a recording that was found onto the device: whoever made it may have been
+    // cut off before. Who only reads may not be allowed to, and needn't where nothing is written.
+    fn settle_name(&self, is_written: bool) -> Result<(), Refusal> {
+        let path = self.plan.file;
+        match sync_name(self.rt, path) {
+            Err(error) if !is_written && is_for_writers(&error) => Ok(()),
+            synced => self.given(synced, "sync the folder of", path, Refusal::File),
+        }
+    }
+
+    // Opens the recording in a file of this length.
+    fn open_book(
+        &self,
+        file: File,
+        is_written: bool,
+        length: u64,
+    ) -> Result<Box<Book<FileDisk>>, Refusal> {
+        let no_memory = Refusal::Recording(IndexFault::NoMemory);
+        let (last_error, written) = self.notes().ok_or(no_memory)?;
+        written.note(length);
+        let disk = if is_written {
+            FileDisk::new(file)
+        } else {
+            FileDisk::to_read(self.rt, file)
         };
-        match Book::open(self.rt.alloc(), FileDisk::noting(file, noting)) {
-            Ok(book) => {
-                let no_memory = Refusal::Recording(IndexFault::NoMemory);
-                boxed(self.rt.alloc(), book, no_memory)
-            }
+        match Book::open(self.rt.alloc(), disk.noting(last_error, written)) {
+            Ok(book) => boxed(self.rt.alloc(), book, no_memory),
             Err(refused) => {
                 self.tell_last_error("read", self.plan.file);
                 Err(Refusal::Recording(refused.fault))
@@ -162,7 +174,8 @@ impl<'a, R: AllocGlobal + Eprint + Files<File = File> + Wait> Opening<'a, R> {
         let found = match self.open_file(is_written)? {
             Some((file, metadata)) if is_written && metadata.len() == 0 => Found::Empty(file),
             Some((file, metadata)) => {
-                let book = self.open_book(file)?;
+                self.settle_name(is_written)?;
+                let book = self.open_book(file, is_written, metadata.len())?;
                 return Ok(Found::Recording(book, Identity::of(&metadata)));
             }
             None => Found::Nothing,
@@ -182,7 +195,7 @@ impl<'a, R: AllocGlobal + Eprint + Files<File = File> + Wait> Opening<'a, R> {
             let _removed = fs::remove_file(self.rt, draft);
         }
         self.given(renamed, "rename to", path, Refusal::File)?;
-        let synced = sync_folder(self.rt, path);
+        let synced = sync_name(self.rt, path);
         self.given(synced, "sync the folder of", path, Refusal::File)
     }
 
@@ -207,22 +220,42 @@ impl<'a, R: AllocGlobal + Eprint + Files<File = File> + Wait> Opening<'a, R> {
         made
     }
 
+    // Tells why there is no draft.
+    fn tell_draft(&self, fault: DraftFault, draft: &str) {
+        match fault {
+            DraftFault::InTheWay => self.telling.tell(self.rt, Event::InTheWay(draft)),
+            DraftFault::Taken => self.telling.tell(self.rt, Event::Locked(self.plan.file)),
+            DraftFault::System(error) => {
+                self.telling.tell_failure(self.rt, "make", draft, &error);
+            }
+        }
+    }
+
+    // The file in which the recording is made, and which one it is.
+    fn make_draft(&self, draft: &str) -> Result<(File, Identity), Refusal> {
+        let opened = open_draft(self.rt, draft, self.plan.file).and_then(|file| {
+            let metadata = file.metadata()?;
+            Ok((file, Identity::of(&metadata)))
+        });
+        match opened {
+            Ok(made) => Ok(made),
+            Err(fault) => {
+                self.tell_draft(fault, draft);
+                Err(Refusal::File)
+            }
+        }
+    }
+
     /// Makes a recording at the plan's path where there is none, or no byte. It appears there whole:
     /// it is made under a name beside, with `.new` behind it, and renamed once its header and first
     /// gate are on the device.
     pub fn create(&self, header: Header) -> Result<(Box<Book<FileDisk>>, Identity), Refusal> {
-        let alloc = self.rt.alloc();
-        let path = self.plan.file;
-        let (Ok(draft), Ok(noting)) = (format!(in alloc; "{path}.new"), self.last_error.share())
-        else {
-            return Err(Refusal::Create(CreateFault::NoMemory));
-        };
-        let opened = open_draft(self.rt, &draft, path).and_then(|file| {
-            let metadata = file.metadata()?;
-            Ok((file, Identity::of(&metadata)))
-        });
-        let (file, identity) = self.given(opened, "make", &draft, Refusal::File)?;
-        let book = self.make_book(header, FileDisk::noting(file, noting), &draft)?;
+        let no_memory = Refusal::Create(CreateFault::NoMemory);
+        let (last_error, written) = self.notes().ok_or(no_memory)?;
+        let draft = draft_path(self.rt.alloc(), self.plan.file).map_err(|_| no_memory)?;
+        let (file, identity) = self.make_draft(&draft)?;
+        let disk = FileDisk::new(file).noting(last_error, written);
+        let book = self.make_book(header, disk, &draft)?;
         self.publish(&draft)?;
         Ok((book, identity))
     }

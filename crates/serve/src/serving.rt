@@ -6,7 +6,7 @@ ghost use Rattle.flusher_core.specs.State.{accepted_count};
 use crate::refusing::refuse;
 use crate::service::{Service, run_threads};
 use connections::{Event, Plan, Refusal, Room, Telling};
-use file_disk::LastError;
+use file_disk::{LastError, Written};
 use recorder_opening::{Opened, Opening, Source, Stopped};
 use shared_book::{Mark, Shared, Token};
 use sockets::Bell;
@@ -111,11 +111,13 @@ where
 {
     let telling = Telling::new(plan.is_verbose);
     let last_error = LastError::new(rt.alloc())?;
+    let written = Written::new(rt.alloc())?;
     let opening = Opening {
         rt: &*rt,
         plan: &*plan,
         telling: &telling,
         last_error: &last_error,
+        written: &written,
     };
     // These come first, so that no file is made where they can't be had.
     let bell = opening.given(Bell::new(rt), "make a bell for", plan.listen, Refusal::Net)?;
@@ -124,7 +126,7 @@ where
     let identity = opened.identity;
     say(out, "serving")?;
     let committed = serve_opened::<Brand, R, W>(rt, plan, token, opened, bell, last_error, err)?;
-    if !identity.is_at(rt, plan.file) {
+    if !identity.is_at(rt, plan.file, written.end()) {
         telling.tell(rt, Event::Replaced(plan.file));
         return Err(Stopped::Refused(Refusal::File));
     }
