@@ -11,6 +11,7 @@ use host_session::HostFault;
 use key_index::{IndexFault, Numbered};
 use shared_book::FlusherEnd;
 use std::fmt;
+use telling::HostEnd;
 
 /// Why `serve` is refused. Its text is the part that refused it, and the number there.
 #[derive(Clone, Copy, Debug, PartialEq, Eq)]
@@ -59,17 +60,6 @@ impl From<ReadFault> for Refusal {
             ReadFault::Device => IndexFault::Journal(OpenFault::Device),
         })
     }
-}
-
-/// How a host's stream ended.
-#[derive(Clone, Copy, Debug, PartialEq, Eq)]
-pub enum HostEnd {
-    /// At its end, or in the middle of a message, which is dropped.
-    Closed,
-    /// By a failure of its socket.
-    Socket,
-    /// By a fault.
-    Fault(HostFault),
 }
 
 /// How each part of a recorder ended.

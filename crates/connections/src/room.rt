@@ -3,7 +3,6 @@
 ghost use Rattle.std.specs.Prelude.{◌≡◌, ◌<◌, ◌^◌, IsTrue, length};
 
 use crate::plan::{Beginning, Plan};
-use crate::telling::{Event, Telling};
 use broadcast::Start;
 use file_disk::LastError;
 use pixel_format::RecordedScreen;
@@ -17,6 +16,7 @@ use std::marker::PhantomData;
 use std::sync::atomic::{AtomicBool, AtomicU64, Ordering};
 use std::sync::{Condvar, Mutex, Wait};
 use std::time::{Clock, Duration};
+use telling::{Event, Telling};
 
 /// Who watches, under a lock. Whoever waits here waits for the recorder to close or to be done, or
 /// for a viewer to have left, and is woken at each of them.
@@ -268,7 +268,7 @@ impl<M: Mark> Room<M> {
     }
 
     /// Tells what was recorded since it was last told of, if anything was.
-    pub fn tell_recorded<R: Eprint + Wait>(&self, rt: &R) {
+    pub fn tell_recorded<R: Wait>(&self, rt: &R) {
         let messages = self.recorded.messages.swap(0, Ordering::SeqCst);
         let bytes = self.recorded.bytes.swap(0, Ordering::SeqCst);
         if messages > 0 {

@@ -1,7 +1,7 @@
 //! The recording's file: opened where it has bytes, or made whole.
 
 use crate::opening::Opening;
-use connections::{Event, Refusal};
+use connections::Refusal;
 use file_disk::{FileDisk, sync_folder};
 use flusher_core::Book;
 use gated_journal::{CreateFault, Header};
@@ -12,6 +12,7 @@ use std::os::unix::fs::{MetadataExt, PermissionsExt};
 use std::rt::Files;
 use std::sync::Wait;
 use std::{fs, io};
+use telling::Event;
 
 /// Which file of the system one is, whatever its name.
 #[derive(Clone, Copy, Debug, PartialEq, Eq)]

@@ -3,7 +3,7 @@
 use crate::no_turnstile::NoTurnstile;
 use crate::service::Service;
 use broadcast::Start;
-use connections::{Event, Viewer, turn_away};
+use connections::{Viewer, turn_away};
 use disk::Disk;
 use reception::{Arrival, Reason};
 use shared_book::{Mark, run_viewer};
@@ -13,9 +13,10 @@ use std::sync::Wait;
 use std::thread;
 use std::thread::{Scope, Threads};
 use std::time::Clock;
+use telling::Event;
 use watching::{Live, Played, Watching};
 
-impl<'a, D: Disk, M: Mark, R: Clock + Eprint + Wait> Service<'a, D, M, R> {
+impl<'a, D: Disk, M: Mark, R: Clock + Wait> Service<'a, D, M, R> {
     // Shows a viewer the recording, from a seat. One that begins behind a message takes its seat at
     // the last key screen before, so that no more than a block is read under the lock at a time;
     // what lies between is painted for it before it is answered.
@@ -64,7 +65,7 @@ impl<'a, D: Disk, M: Mark, R: Clock + Eprint + Wait> Service<'a, D, M, R> {
     }
 }
 
-impl<'a, D: Disk + Send, M: Mark + Send + Sync, R: Threads + Clock + Eprint + Wait + Sync> Service<
+impl<'a, D: Disk + Send, M: Mark + Send + Sync, R: Threads + Clock + Wait + Sync> Service<
     'a,
     D,
     M,

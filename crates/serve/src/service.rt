@@ -3,7 +3,7 @@
 use crate::committing::Committing;
 use crate::no_turnstile::NoTurnstile;
 use crate::refusing::refuse;
-use connections::{Ends, Event, Host, HostEnd, Messages, Refusal, Room, Stopwatch, first_refusal};
+use connections::{Ends, Host, Messages, Refusal, Room, Stopwatch, first_refusal};
 use disk::Disk;
 use flusher_core::{HostRefusal, TakeRefusal};
 use recorder_opening::Stopped;
@@ -15,6 +15,7 @@ use std::sync::{Mutex, Wait};
 use std::thread::{JoinHandle, Scope, Threads};
 use std::time::Clock;
 use std::{io, thread};
+use telling::{Event, HostEnd};
 
 /// What the threads of a recorder share.
 #[derive(Drop)]
@@ -56,16 +57,7 @@ impl Outcome {
     }
 }
 
-// Says why the recorder is refused, if it is.
-fn outcome_of<W: Write>(refusal: Option<Refusal>, err: &mut W) -> Outcome {
-    let told = match refusal {
-        Some(refusal) => refuse(refusal, err),
-        None => Ok(()),
-    };
-    Outcome { refusal, told }
-}
-
-impl<'a, D: Disk, M: Mark, R: Clock + Eprint + Wait> Service<'a, D, M, R> {
+impl<'a, D: Disk, M: Mark, R: Clock + Wait> Service<'a, D, M, R> {
     // Hands in the host's messages until they end, and tells how its stream ended.
     fn record(&self, host: Box<Host>, stopwatch: Stopwatch) -> HostEnds {
         let end = Mutex::new(HostEnd::Closed);
@@ -119,6 +111,15 @@ impl<'a, D: Disk, M: Mark, R: Clock + Eprint + Wait> Service<'a, D, M, R> {
         }
     }
 
+    // Says why the recorder is refused, if it is.
+    fn outcome_of<W: Write>(&self, refusal: Option<Refusal>, err: &mut W) -> Outcome {
+        let told = match refusal {
+            Some(refusal) => refuse(self.rt, &self.room.telling, refusal, err),
+            None => Ok(()),
+        };
+        Outcome { refusal, told }
+    }
+
     // Ends what was started, where a thread couldn't be made.
     fn give_up(&self) {
         self.shut(Shutdown::Both);
@@ -131,7 +132,7 @@ impl<'a, D: Disk, M: Mark, R: Clock + Eprint + Wait> Service<'a, D, M, R> {
     }
 }
 
-impl<'a, D: Disk, M: Mark, R: Threads + Clock + Eprint + Wait> Service<'a, D, M, R> {
+impl<'a, D: Disk, M: Mark, R: Threads + Clock + Wait> Service<'a, D, M, R> {
     // Commits until the host has ended, and waits for its worker: how both ended.
     fn record_all(&self, host: Option<JoinHandle<HostEnds>>) -> Ends {
         let flusher = self.flush();
@@ -152,7 +153,7 @@ impl<'a, D: Disk, M: Mark, R: Threads + Clock + Eprint + Wait> Service<'a, D, M,
     fn conduct<W: Write>(&self, crew: Crew, err: &mut W) -> Outcome {
         let Crew { host, viewers } = crew;
         let ends = self.record_all(host);
-        let outcome = outcome_of(first_refusal(ends), err);
+        let outcome = self.outcome_of(first_refusal(ends), err);
         self.room.hall.end(self.rt);
         self.room.hall.wait_until_done(self.rt);
         self.room.bell.ring();
@@ -160,11 +161,11 @@ impl<'a, D: Disk, M: Mark, R: Threads + Clock + Eprint + Wait> Service<'a, D, M,
         if is_listener_sound || outcome.refusal.is_some() {
             return outcome;
         }
-        outcome_of(Some(Refusal::Net), err)
+        self.outcome_of(Some(Refusal::Net), err)
     }
 }
 
-impl<'a, D: Disk + Send, M: Mark + Send + Sync, R: Threads + Clock + Eprint + Wait + Sync> Service<
+impl<'a, D: Disk + Send, M: Mark + Send + Sync, R: Threads + Clock + Wait + Sync> Service<
     'a,
     D,
     M,
@@ -205,7 +206,7 @@ impl<'a, D: Disk + Send, M: Mark + Send + Sync, R: Threads + Clock + Eprint + Wa
             Some(crew) => self.conduct(crew, err),
             None => {
                 self.give_up();
-                outcome_of(Some(Refusal::Thread), err)
+                self.outcome_of(Some(Refusal::Thread), err)
             }
         }
     }
@@ -216,7 +217,7 @@ pub fn run_threads<
     'a,
     D: Disk + Send,
     M: Mark + Send + Sync,
-    R: Threads + Clock + Eprint + Wait + Sync,
+    R: Threads + Clock + Wait + Sync,
     W: Write,
 >(
     service: &'a Service<'a, D, M, R>,

@@ -64,7 +64,7 @@ impl Live {
     }
 
     // Whether the viewer, which lacks so many messages, goes on at the newest screen.
-    fn goes_to_newest<M: Mark, C: Connection, R: Clock + Eprint + Wait>(
+    fn goes_to_newest<M: Mark, C: Connection, R: Clock + Wait>(
         &self,
         place: &Place<'_, M, C, R>,
         missing: u64,
@@ -77,7 +77,7 @@ impl Live {
     }
 }
 
-impl<M: Mark, C: Connection, R: Clock + Eprint + Wait> Guide<M, C, R> for Live {
+impl<M: Mark, C: Connection, R: Clock + Wait> Guide<M, C, R> for Live {
     fn wish(&mut self, place: &Place<'_, M, C, R>) -> ViewerWish {
         if place.is_at_end {
             place.rest();

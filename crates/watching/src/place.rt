@@ -3,16 +3,17 @@
 ghost use Rattle.std.specs.Prelude.{◌≡◌, ◌<◌, ◌^◌, ◌+◌, length, true};
 ghost use Rattle.shared_book.specs.Receipts.{IsOfSize};
 
-use connections::{Event, Room, Viewer};
+use connections::{Room, Viewer};
 use replay::Slice;
 use shared_book::Mark;
 use sockets::Connection;
 use std::sync::Wait;
 use std::time::{Clock, Duration};
+use telling::Event;
 
 /// A viewer, the room that it is in, and where it stands in the recording.
 #[derive(Drop)]
-pub struct Place<'a, M: Mark, C: Connection, R: Clock + Eprint + Wait> {
+pub struct Place<'a, M: Mark, C: Connection, R: Clock + Wait> {
     pub rt: &'a R,
     pub viewer: &'a Viewer<M, C>,
     pub room: &'a Room<M>,
@@ -26,7 +27,7 @@ pub struct Place<'a, M: Mark, C: Connection, R: Clock + Eprint + Wait> {
     pub is_short: bool,
 }
 
-impl<'a, M: Mark, C: Connection, R: Clock + Eprint + Wait> Place<'a, M, C, R> {
+impl<'a, M: Mark, C: Connection, R: Clock + Wait> Place<'a, M, C, R> {
     /// Before it has a seat.
     pub fn new(rt: &'a R, viewer: &'a Viewer<M, C>, room: &'a Room<M>) -> Place<'a, M, C, R> {
         Place {

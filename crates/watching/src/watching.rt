@@ -9,7 +9,7 @@ use std::sync::Wait;
 use std::time::Clock;
 
 /// Decides what a viewer is shown next, and when.
-pub trait Guide<M: Mark, C: Connection, R: Clock + Eprint + Wait>: Drop {
+pub trait Guide<M: Mark, C: Connection, R: Clock + Wait>: Drop {
     /// What is wanted for the viewer at this place. It may wait before.
     fn wish(&mut self, place: &Place<'_, M, C, R>) -> ViewerWish;
 
@@ -19,18 +19,12 @@ pub trait Guide<M: Mark, C: Connection, R: Clock + Eprint + Wait>: Drop {
 
 /// Shows a viewer the recording as its guide decides.
 #[derive(Drop)]
-pub struct Watching<'a, M: Mark, C: Connection, R: Clock + Eprint + Wait, G: Guide<M, C, R>> {
+pub struct Watching<'a, M: Mark, C: Connection, R: Clock + Wait, G: Guide<M, C, R>> {
     place: Place<'a, M, C, R>,
     guide: G,
 }
 
-impl<'a, M: Mark, C: Connection, R: Clock + Eprint + Wait, G: Guide<M, C, R>> Watching<
-    'a,
-    M,
-    C,
-    R,
-    G,
-> {
+impl<'a, M: Mark, C: Connection, R: Clock + Wait, G: Guide<M, C, R>> Watching<'a, M, C, R, G> {
     /// At the start of a viewer's seat.
     pub fn new(
         rt: &'a R,
@@ -45,7 +39,7 @@ impl<'a, M: Mark, C: Connection, R: Clock + Eprint + Wait, G: Guide<M, C, R>> Wa
     }
 }
 
-impl<'a, M: Mark, C: Connection, R: Clock + Eprint + Wait, G: Guide<M, C, R>> ViewerSink<
+impl<'a, M: Mark, C: Connection, R: Clock + Wait, G: Guide<M, C, R>> ViewerSink<
     Receipt<M>,
     Ending<M>,
 > for Watching<'a, M, C, R, G> {
