@@ -151,7 +151,7 @@ impl Host {
     fn read_piece(&mut self) -> io::Result<()> {
         let count = match (&mut &self.stream).read(&mut self.buffer) {
             Ok(0) => {
-                self.end = Some(HostEnd::Closed);
+                self.end = Some(HostEnd::Closed(self.session.unfinished()));
                 return Ok(());
             }
             Ok(count) => count,
@@ -180,7 +180,7 @@ impl Host {
 
     // How the stream ended.
     fn end(&self) -> HostEnd {
-        self.end.unwrap_or(HostEnd::Closed)
+        self.end.unwrap_or(HostEnd::Closed(0))
     }
 
     // The next message; none at the stream's end, or once the recorder was asked to end. The host is

@@ -2,7 +2,7 @@
 
 ghost use Rattle.host_session.specs.declared.fault.HostFault.{HostFault};
 ghost use Rattle.shared_book.specs.declared.workers.FlusherEnd.TheVariants.{Take};
-ghost use Rattle.std.specs.Prelude.{◌≡◌, ◌≢◌, Err, None, Some, IfErr, OnOk, OnErr, true, false};
+ghost use Rattle.std.specs.Prelude.{◌≡◌, ◌≢◌, ℕ, Err, None, Some, IfErr, OnOk, OnErr, true, false};
 
 use broadcast::StepRefusal;
 use flusher_core::{HostRefusal, TakeRefusal};
@@ -84,10 +84,10 @@ pub fn first_refusal(ends: Ends) -> Option<Refusal>
     ensures fault { OnOk ends.flusher (OnOk ends.worker ((fault : HostFault)
         → ends.host ≡ HostEnd.Fault fault → result ≡ Some (Refusal.Host fault))) }
     ensures socket { OnOk ends.flusher (OnOk ends.worker (ends.host ≡ HostEnd.Socket → result ≡ Some Refusal.Net)) }
-    ensures listener { OnOk ends.flusher (OnOk ends.worker (ends.host ≡ HostEnd.Closed
-        → ends.is_listener_sound ≡ false → result ≡ Some Refusal.Net)) }
-    ensures done { OnOk ends.flusher (OnOk ends.worker (ends.host ≡ HostEnd.Closed
-        → ends.is_listener_sound ≡ true → result ≡ None)) }
+    ensures listener { OnOk ends.flusher (OnOk ends.worker ((unfinished : ℕ)
+        → ends.host ≡ HostEnd.Closed unfinished → ends.is_listener_sound ≡ false → result ≡ Some Refusal.Net)) }
+    ensures done { OnOk ends.flusher (OnOk ends.worker ((unfinished : ℕ)
+        → ends.host ≡ HostEnd.Closed unfinished → ends.is_listener_sound ≡ true → result ≡ None)) }
 {
     match ends.flusher {
         Err(FlusherEnd::Take(TakeRefusal::NoMemory)) => {
@@ -102,7 +102,7 @@ pub fn first_refusal(ends: Ends) -> Option<Refusal>
     match ends.host {
         HostEnd::Socket => Some(Refusal::Net),
         HostEnd::Fault(fault) => Some(Refusal::Host(fault)),
-        HostEnd::Closed if ends.is_listener_sound => None,
-        HostEnd::Closed => Some(Refusal::Net),
+        HostEnd::Closed(_) if ends.is_listener_sound => None,
+        HostEnd::Closed(_) => Some(Refusal::Net),
     }
 }

@@ -60,7 +60,7 @@ impl Outcome {
 impl<'a, D: Disk, M: Mark, R: Clock + Wait> Service<'a, D, M, R> {
     // Hands in the host's messages until they end, and tells how its stream ended.
     fn record(&self, host: Box<Host>, stopwatch: Stopwatch) -> HostEnds {
-        let end = Mutex::new(HostEnd::Closed);
+        let end = Mutex::new(HostEnd::Closed(0));
         let messages = Messages::new(self.rt, Box::into_inner(host), stopwatch, self.room, &end);
         let worker = run_host(self.rt, self.shared, messages, &NoTurnstile);
         let end = end.into_inner();
@@ -138,7 +138,7 @@ impl<'a, D: Disk, M: Mark, R: Threads + Clock + Wait> Service<'a, D, M, R> {
         let flusher = self.flush();
         let (worker, host) = match host {
             Some(recording) => recording.join(self.rt),
-            None => (Ok(()), HostEnd::Closed),
+            None => (Ok(()), HostEnd::Closed(0)),
         };
         Ends {
             flusher,
