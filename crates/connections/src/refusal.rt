@@ -23,7 +23,7 @@ pub enum Refusal {
     Recording(IndexFault),
     /// The recording isn't made.
     Create(CreateFault),
-    /// The device failed while messages were written.
+    /// The device failed while messages were written, or were read for a viewer.
     Device,
     /// The host sent a fault, or is of another size.
     Host(HostFault),
@@ -73,10 +73,12 @@ pub struct Ends {
     pub host: HostEnd,
     /// Whether each viewer's connection was taken.
     pub is_listener_sound: bool,
+    /// Whether all that viewers were to be shown could be read.
+    pub is_readable: bool,
 }
 
 /// The one reason that is told: the flusher's, else the worker's, else the host's or its socket's,
-/// else the listener's; none where all went well.
+/// else the listener's, else the device's where it was read; none where all went well.
 pub fn first_refusal(ends: Ends) -> Option<Refusal>
     ensures memory { ends.flusher ≡ Err (Take TakeRefusal.NoMemory) → result ≡ Some (Refusal.Book HostRefusal.NoMemory) }
     ensures flusher { OnErr ends.flusher (ends.flusher ≢ Err (Take TakeRefusal.NoMemory) → result ≡ Some Refusal.Device) }
@@ -86,8 +88,12 @@ pub fn first_refusal(ends: Ends) -> Option<Refusal>
     ensures socket { OnOk ends.flusher (OnOk ends.worker (ends.host ≡ HostEnd.Socket → result ≡ Some Refusal.Net)) }
     ensures listener { OnOk ends.flusher (OnOk ends.worker ((unfinished : ℕ)
         → ends.host ≡ HostEnd.Closed unfinished → ends.is_listener_sound ≡ false → result ≡ Some Refusal.Net)) }
+    ensures unreadable { OnOk ends.flusher (OnOk ends.worker ((unfinished : ℕ)
+        → ends.host ≡ HostEnd.Closed unfinished → ends.is_listener_sound ≡ true
+        → ends.is_readable ≡ false → result ≡ Some Refusal.Device)) }
     ensures done { OnOk ends.flusher (OnOk ends.worker ((unfinished : ℕ)
-        → ends.host ≡ HostEnd.Closed unfinished → ends.is_listener_sound ≡ true → result ≡ None)) }
+        → ends.host ≡ HostEnd.Closed unfinished → ends.is_listener_sound ≡ true
+        → ends.is_readable ≡ true → result ≡ None)) }
 {
     match ends.flusher {
         Err(FlusherEnd::Take(TakeRefusal::NoMemory)) => {
@@ -102,7 +108,8 @@ pub fn first_refusal(ends: Ends) -> Option<Refusal>
     match ends.host {
         HostEnd::Socket => Some(Refusal::Net),
         HostEnd::Fault(fault) => Some(Refusal::Host(fault)),
-        HostEnd::Closed(_) if ends.is_listener_sound => None,
-        HostEnd::Closed(_) => Some(Refusal::Net),
+        HostEnd::Closed(_) if !ends.is_listener_sound => Some(Refusal::Net),
+        HostEnd::Closed(_) if !ends.is_readable => Some(Refusal::Device),
+        HostEnd::Closed(_) => None,
     }
 }

@@ -189,6 +189,7 @@ pub struct Room<M: Mark> {
     pub last_error: LastError,
     committed: AtomicU64,
     recorded: Recorded,
+    is_unreadable: AtomicBool,
     is_stopped: AtomicBool,
     of: PhantomData<M>,
     ghost sized: { (screen.format ≡ M.head.format) × (screen.size.width ≡ M.head.width) × (screen.size.height ≡ M.head.height) },
@@ -228,6 +229,7 @@ impl<M: Mark> Room<M> {
                 messages: AtomicU64::new(0),
                 bytes: AtomicU64::new(0),
             },
+            is_unreadable: AtomicBool::new(false),
             is_stopped: AtomicBool::new(false),
             of: PhantomData,
         }
@@ -259,6 +261,20 @@ impl<M: Mark> Room<M> {
     /// Tells viewers that so many messages are committed.
     pub fn set_committed(&self, count: u64) {
         self.committed.store(count, Ordering::SeqCst);
+    }
+
+    /// Notes that the device failed where a viewer was to be shown what is recorded, and tells so the
+    /// first time.
+    pub fn note_unreadable<R: Wait>(&self, rt: &R) {
+        if !self.is_unreadable.swap(true, Ordering::SeqCst) {
+            let error = self.last_error.get();
+            self.telling.tell(rt, Event::Unreadable(error.as_ref()));
+        }
+    }
+
+    /// Whether the device failed so.
+    pub fn is_unreadable(&self) -> bool {
+        self.is_unreadable.load(Ordering::SeqCst)
     }
 
     /// Notes that so many messages, of so many bytes, were recorded.

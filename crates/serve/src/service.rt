@@ -145,6 +145,7 @@ impl<'a, D: Disk, M: Mark, R: Threads + Clock + Wait> Service<'a, D, M, R> {
             worker,
             host,
             is_listener_sound: true,
+            is_readable: true,
         }
     }
 
@@ -158,10 +159,16 @@ impl<'a, D: Disk, M: Mark, R: Threads + Clock + Wait> Service<'a, D, M, R> {
         self.room.hall.wait_until_done(self.rt);
         self.room.bell.ring();
         let is_listener_sound = viewers.join(self.rt);
-        if is_listener_sound || outcome.refusal.is_some() {
+        if outcome.refusal.is_some() {
             return outcome;
         }
-        self.outcome_of(Some(Refusal::Net), err)
+        let is_readable = !self.room.is_unreadable();
+        let ends = Ends {
+            is_listener_sound,
+            is_readable,
+            ..ends
+        };
+        self.outcome_of(first_refusal(ends), err)
     }
 }
 

@@ -102,6 +102,10 @@ impl<M: Mark, C: Connection, R: Clock + Wait> Guide<M, C, R> for Played {
         }
     }
 
+    fn is_live(&self, _place: &Place<'_, M, C, R>) -> bool {
+        false
+    }
+
     // The playing begins once all before its first message was handed over.
     fn hold(&mut self, place: &Place<'_, M, C, R>, slice: &Slice) {
         if self.begun.is_some() {

@@ -13,6 +13,9 @@ pub trait Guide<M: Mark, C: Connection, R: Clock + Wait>: Drop {
     /// What is wanted for the viewer at this place. It may wait before.
     fn wish(&mut self, place: &Place<'_, M, C, R>) -> ViewerWish;
 
+    /// Whether the viewer is shown what is newest, and not each message.
+    fn is_live(&self, place: &Place<'_, M, C, R>) -> bool;
+
     /// Returns once these messages, which were handed to the viewer's worker, may be shown.
     fn hold(&mut self, place: &Place<'_, M, C, R>, slice: &Slice);
 }
@@ -85,5 +88,10 @@ impl<'a, M: Mark, C: Connection, R: Clock + Wait, G: Guide<M, C, R>> ViewerSink<
 
     fn shortage(&mut self) {
         self.place.tell_shortage();
+    }
+
+    fn device_failed(&mut self) -> bool {
+        let is_live = self.guide.is_live(&self.place);
+        self.place.goes_on_after_failure(is_live)
     }
 }
