@@ -4,9 +4,8 @@ ghost use Rattle.std.specs.Prelude.{◌≡◌};
 
 use crate::clock::Stopwatch;
 use crate::limits::{HANDSHAKE, REQUEST};
-use crate::refusal::{HostEnd, Refusal};
+use crate::refusal::Refusal;
 use crate::room::Room;
-use crate::telling::{Event, Telling};
 use host_session::{HostFault, HostSession};
 use pixel_format::Format;
 use rfb_wire::HostMessage;
@@ -18,6 +17,7 @@ use std::net::{Net, Shutdown, TcpStream};
 use std::sync::{Mutex, Wait};
 use std::time::{Clock, Instant};
 use std::{io, thread};
+use telling::{Event, HostEnd, Telling};
 use terms::ScreenSize;
 
 /// How many bytes are read at a time.
@@ -39,7 +39,7 @@ impl Host {
     /// Connects to a host whose messages are for a recording of this format, and which is of this
     /// size, where one is expected, and ends its handshake, which may take 30 seconds. What fails is
     /// told.
-    pub fn connect<R: Net<Stream = TcpStream> + AllocGlobal + Clock + Eprint + Wait>(
+    pub fn connect<R: Net<Stream = TcpStream> + AllocGlobal + Clock + Wait>(
         rt: &R,
         address: &str,
         format: Format,
@@ -108,12 +108,7 @@ impl Host {
     }
 
     // Whether the handshake ended well: tells how.
-    fn is_welcome<R: Eprint + Wait>(
-        &self,
-        rt: &R,
-        address: &str,
-        telling: &Telling,
-    ) -> Result<(), Refusal> {
+    fn is_welcome<R: Wait>(&self, rt: &R, address: &str, telling: &Telling) -> Result<(), Refusal> {
         if let Some((size, name)) = self.screen() {
             telling.tell(
                 rt,
@@ -156,7 +151,7 @@ impl Host {
     fn read_piece(&mut self) -> io::Result<()> {
         let count = match (&mut &self.stream).read(&mut self.buffer) {
             Ok(0) => {
-                self.end = Some(HostEnd::Closed);
+                self.end = Some(HostEnd::Closed(self.session.unfinished()));
                 return Ok(());
             }
             Ok(count) => count,
@@ -185,16 +180,12 @@ impl Host {
 
     // How the stream ended.
     fn end(&self) -> HostEnd {
-        self.end.unwrap_or(HostEnd::Closed)
+        self.end.unwrap_or(HostEnd::Closed(0))
     }
 
     // The next message; none at the stream's end, or once the recorder was asked to end. The host is
     // asked for more, and read from, only where there is room for it.
-    fn next<M: Mark, R: Clock + Eprint + Wait>(
-        &mut self,
-        rt: &R,
-        room: &Room<M>,
-    ) -> Option<HostMessage> {
+    fn next<M: Mark, R: Clock + Wait>(&mut self, rt: &R, room: &Room<M>) -> Option<HostMessage> {
         for _ in 0..u64::MAX {
             if room.is_stopped() {
                 return None;
@@ -223,7 +214,7 @@ impl Host {
 
 /// A host's messages, each with the time when it came. How its stream ended is then told.
 #[derive(Drop)]
-pub struct Messages<'a, M: Mark, R: Clock + Eprint + Wait> {
+pub struct Messages<'a, M: Mark, R: Clock + Wait> {
     rt: &'a R,
     host: Host,
     stopwatch: Stopwatch,
@@ -232,7 +223,7 @@ pub struct Messages<'a, M: Mark, R: Clock + Eprint + Wait> {
     handed: u64,
 }
 
-impl<'a, M: Mark, R: Clock + Eprint + Wait> Messages<'a, M, R> {
+impl<'a, M: Mark, R: Clock + Wait> Messages<'a, M, R> {
     /// Those of a host, whose screen has the recording's size and whose messages have its format.
     pub fn new(
         rt: &'a R,
@@ -252,7 +243,7 @@ impl<'a, M: Mark, R: Clock + Eprint + Wait> Messages<'a, M, R> {
     }
 }
 
-impl<'a, M: Mark, R: Clock + Eprint + Wait> HostSource<Ticket<M>> for Messages<'a, M, R> {
+impl<'a, M: Mark, R: Clock + Wait> HostSource<Ticket<M>> for Messages<'a, M, R> {
     ghost format = { λ m. M.head.format };
 
     ghost width = { λ m. M.head.width };

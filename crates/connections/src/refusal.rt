@@ -2,7 +2,7 @@
 
 ghost use Rattle.host_session.specs.declared.fault.HostFault.{HostFault};
 ghost use Rattle.shared_book.specs.declared.workers.FlusherEnd.TheVariants.{Take};
-ghost use Rattle.std.specs.Prelude.{◌≡◌, ◌≢◌, Err, None, Some, IfErr, OnOk, OnErr, true, false};
+ghost use Rattle.std.specs.Prelude.{◌≡◌, ◌≢◌, ℕ, Err, None, Some, IfErr, OnOk, OnErr, true, false};
 
 use broadcast::StepRefusal;
 use flusher_core::{HostRefusal, TakeRefusal};
@@ -11,6 +11,7 @@ use host_session::HostFault;
 use key_index::{IndexFault, Numbered};
 use shared_book::FlusherEnd;
 use std::fmt;
+use telling::HostEnd;
 
 /// Why `serve` is refused. Its text is the part that refused it, and the number there.
 #[derive(Clone, Copy, Debug, PartialEq, Eq)]
@@ -22,7 +23,7 @@ pub enum Refusal {
     Recording(IndexFault),
     /// The recording isn't made.
     Create(CreateFault),
-    /// The device failed while messages were written.
+    /// The device failed while messages were written, or were read for a viewer.
     Device,
     /// The host sent a fault, or is of another size.
     Host(HostFault),
@@ -61,17 +62,6 @@ impl From<ReadFault> for Refusal {
     }
 }
 
-/// How a host's stream ended.
-#[derive(Clone, Copy, Debug, PartialEq, Eq)]
-pub enum HostEnd {
-    /// At its end, or in the middle of a message, which is dropped.
-    Closed,
-    /// By a failure of its socket.
-    Socket,
-    /// By a fault.
-    Fault(HostFault),
-}
-
 /// How each part of a recorder ended.
 #[derive(Clone, Copy, Debug, PartialEq, Eq)]
 pub struct Ends {
@@ -83,10 +73,12 @@ pub struct Ends {
     pub host: HostEnd,
     /// Whether each viewer's connection was taken.
     pub is_listener_sound: bool,
+    /// Whether all that viewers were to be shown could be read.
+    pub is_readable: bool,
 }
 
 /// The one reason that is told: the flusher's, else the worker's, else the host's or its socket's,
-/// else the listener's; none where all went well.
+/// else the listener's, else the device's where it was read; none where all went well.
 pub fn first_refusal(ends: Ends) -> Option<Refusal>
     ensures memory { ends.flusher ≡ Err (Take TakeRefusal.NoMemory) → result ≡ Some (Refusal.Book HostRefusal.NoMemory) }
     ensures flusher { OnErr ends.flusher (ends.flusher ≢ Err (Take TakeRefusal.NoMemory) → result ≡ Some Refusal.Device) }
@@ -94,10 +86,14 @@ pub fn first_refusal(ends: Ends) -> Option<Refusal>
     ensures fault { OnOk ends.flusher (OnOk ends.worker ((fault : HostFault)
         → ends.host ≡ HostEnd.Fault fault → result ≡ Some (Refusal.Host fault))) }
     ensures socket { OnOk ends.flusher (OnOk ends.worker (ends.host ≡ HostEnd.Socket → result ≡ Some Refusal.Net)) }
-    ensures listener { OnOk ends.flusher (OnOk ends.worker (ends.host ≡ HostEnd.Closed
-        → ends.is_listener_sound ≡ false → result ≡ Some Refusal.Net)) }
-    ensures done { OnOk ends.flusher (OnOk ends.worker (ends.host ≡ HostEnd.Closed
-        → ends.is_listener_sound ≡ true → result ≡ None)) }
+    ensures listener { OnOk ends.flusher (OnOk ends.worker ((unfinished : ℕ)
+        → ends.host ≡ HostEnd.Closed unfinished → ends.is_listener_sound ≡ false → result ≡ Some Refusal.Net)) }
+    ensures unreadable { OnOk ends.flusher (OnOk ends.worker ((unfinished : ℕ)
+        → ends.host ≡ HostEnd.Closed unfinished → ends.is_listener_sound ≡ true
+        → ends.is_readable ≡ false → result ≡ Some Refusal.Device)) }
+    ensures done { OnOk ends.flusher (OnOk ends.worker ((unfinished : ℕ)
+        → ends.host ≡ HostEnd.Closed unfinished → ends.is_listener_sound ≡ true
+        → ends.is_readable ≡ true → result ≡ None)) }
 {
     match ends.flusher {
         Err(FlusherEnd::Take(TakeRefusal::NoMemory)) => {
@@ -112,7 +108,8 @@ pub fn first_refusal(ends: Ends) -> Option<Refusal>
     match ends.host {
         HostEnd::Socket => Some(Refusal::Net),
         HostEnd::Fault(fault) => Some(Refusal::Host(fault)),
-        HostEnd::Closed if ends.is_listener_sound => None,
-        HostEnd::Closed => Some(Refusal::Net),
+        HostEnd::Closed(_) if !ends.is_listener_sound => Some(Refusal::Net),
+        HostEnd::Closed(_) if !ends.is_readable => Some(Refusal::Device),
+        HostEnd::Closed(_) => None,
     }
 }

@@ -3,7 +3,6 @@
 ghost use Rattle.std.specs.Prelude.{◌≡◌, ◌<◌, ◌^◌, IsTrue, length};
 
 use crate::plan::{Beginning, Plan};
-use crate::telling::{Event, Telling};
 use broadcast::Start;
 use file_disk::LastError;
 use pixel_format::RecordedScreen;
@@ -17,6 +16,7 @@ use std::marker::PhantomData;
 use std::sync::atomic::{AtomicBool, AtomicU64, Ordering};
 use std::sync::{Condvar, Mutex, Wait};
 use std::time::{Clock, Duration};
+use telling::{Event, Telling};
 
 /// Who watches, under a lock. Whoever waits here waits for the recorder to close or to be done, or
 /// for a viewer to have left, and is woken at each of them.
@@ -189,6 +189,7 @@ pub struct Room<M: Mark> {
     pub last_error: LastError,
     committed: AtomicU64,
     recorded: Recorded,
+    is_unreadable: AtomicBool,
     is_stopped: AtomicBool,
     of: PhantomData<M>,
     ghost sized: { (screen.format ≡ M.head.format) × (screen.size.width ≡ M.head.width) × (screen.size.height ≡ M.head.height) },
@@ -228,6 +229,7 @@ impl<M: Mark> Room<M> {
                 messages: AtomicU64::new(0),
                 bytes: AtomicU64::new(0),
             },
+            is_unreadable: AtomicBool::new(false),
             is_stopped: AtomicBool::new(false),
             of: PhantomData,
         }
@@ -261,6 +263,20 @@ impl<M: Mark> Room<M> {
         self.committed.store(count, Ordering::SeqCst);
     }
 
+    /// Notes that the device failed where a viewer was to be shown what is recorded, and tells so the
+    /// first time.
+    pub fn note_unreadable<R: Wait>(&self, rt: &R) {
+        if !self.is_unreadable.swap(true, Ordering::SeqCst) {
+            let error = self.last_error.get();
+            self.telling.tell(rt, Event::Unreadable(error.as_ref()));
+        }
+    }
+
+    /// Whether the device failed so.
+    pub fn is_unreadable(&self) -> bool {
+        self.is_unreadable.load(Ordering::SeqCst)
+    }
+
     /// Notes that so many messages, of so many bytes, were recorded.
     pub fn note_recorded(&self, messages: u64, bytes: u64) {
         self.recorded.messages.fetch_add(messages, Ordering::SeqCst);
@@ -268,7 +284,7 @@ impl<M: Mark> Room<M> {
     }
 
     /// Tells what was recorded since it was last told of, if anything was.
-    pub fn tell_recorded<R: Eprint + Wait>(&self, rt: &R) {
+    pub fn tell_recorded<R: Wait>(&self, rt: &R) {
         let messages = self.recorded.messages.swap(0, Ordering::SeqCst);
         let bytes = self.recorded.bytes.swap(0, Ordering::SeqCst);
         if messages > 0 {

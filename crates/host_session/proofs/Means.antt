@@ -1,7 +1,7 @@
 -- What a session stands for, in the words of its stream alone.
-use Rattle.std.proofs.Common.{ℕ, List, [], ◌++◌, refl, sym, ap, ◌∙◌}
+use Rattle.std.proofs.Common.{ℕ, ◌+◌, List, [], ◌++◌, length, refl, sym, ap, ◌∙◌}
 use Rattle.std.specs.Prelude.{Option, None, Some}
-use Rattle.std.proofs.lemmas.List.{append-nil}
+use Rattle.std.proofs.lemmas.List.{append-nil, length-append}
 use Rattle.terms.specs.Reading.{Got, Bad}
 use Rattle.rfb_wire.specs.Host.{Host}
 use Rattle.rfb_wire.specs.Reader.{Reader}
@@ -11,8 +11,8 @@ use Rattle.host_session.specs.declared.stage.Position.{Position}
 use Rattle.host_session.specs.Stage.{reason_of}
 use Rattle.host_session.specs.Handshake.{Told, handshake_at}
 use Rattle.host_session.specs.Take.{told_at}
-use Rattle.host_session.specs.Session.{Gets, IsListening, Stands, EndsAfter, AreGiven, told_by}
-use Rattle.host_session.specs.Conversation.{IsInMessages, WaitsForMore, IsConversation, IsRefusal, AreOfStream}
+use Rattle.host_session.specs.Session.{Gets, IsListening, Stands, EndsAfter, AreGiven, told_by, unfinished_in}
+use Rattle.host_session.specs.Conversation.{IsInMessages, WaitsForMore, Unfinished, IsConversation, IsRefusal, AreOfStream}
 use Rattle.host_session.proofs.Sessions.{handshake_is, say_last}
 use Rattle.host_session.specs.declared.expected.ExpectedScreen.{ExpectedScreen}
 
@@ -43,6 +43,17 @@ pub means : (expected : ExpectedScreen) (position : Position) (kept : List ℕ) 
     → Stands expected position kept reader stream messages said → IsConversation expected stream (told_by reader kept) messages said
 means expected position kept None stream messages said is = record { reads = is.reads; none = is.none }
 means expected position kept (Some r) stream messages said is = waits expected kept r stream messages said is
+
+pub unfinished_means : (expected : ExpectedScreen) (position : Position) (kept : List ℕ) (reader : Option Reader) (stream : List ℕ) (messages : List Host) (said : List ℕ)
+    → Stands expected position kept reader stream messages said → Unfinished expected stream (told_by reader kept) messages (unfinished_in reader)
+unfinished_means expected position kept None stream messages said is = refl
+unfinished_means expected position kept (Some r) stream messages said is = record {
+  answers = is.follows.gets.answers;
+  tail = is.tail;
+  behind = in_messages expected r.width r.height kept stream messages is.tail is.follows.gets;
+  waits = is.waits;
+  count_is = sym (ap length is.stands.is ∙ length-append r.kept is.stands.skipped ∙ ap (λ n. length r.kept + n) is.stands.count);
+}
 
 pub ends_means : (expected : ExpectedScreen) (kept : List ℕ) (reader : Option Reader) (stream : List ℕ) (messages : List Host) (said : List ℕ) (f : HostFault)
     → EndsAfter expected kept reader stream messages said f → IsRefusal expected stream (told_by reader kept) messages said f (reason_of f kept)

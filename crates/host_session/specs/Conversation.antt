@@ -1,5 +1,5 @@
 -- What a session with a host has done, in the words of the host's stream alone.
-use Rattle.std.specs.Prelude.{◌≡◌, ℕ, List, [], ◌++◌, Option, None, Some}
+use Rattle.std.specs.Prelude.{◌≡◌, ℕ, List, [], ◌++◌, length, Option, None, Some}
 use Rattle.terms.specs.Reading.{Got, More, Bad}
 use Rattle.terms.specs.declared.wire_fault.WireFault.{WireFault}
 use Rattle.client_wire.specs.Stream.{Part, Reads, given_of}
@@ -40,6 +40,19 @@ pub record WaitsForMore (expected : ExpectedScreen) (stream : List ℕ) (message
 abbrev pub IsConversation : ExpectedScreen → List ℕ → Option Told → List Host → List ℕ → Type 0
 IsConversation expected stream None messages said = IsInHandshake expected stream messages said
 IsConversation expected stream (Some told) messages said = WaitsForMore expected stream messages said told
+
+-- Behind the messages the stream has so many bytes, of an unfinished message.
+pub record HasUnfinished (expected : ExpectedScreen) (stream : List ℕ) (messages : List Host) (told : Told) (count : ℕ) : Type 0 where
+  pub answers : List ℕ
+  pub tail : List ℕ
+  pub behind : IsInMessages expected stream messages told answers tail
+  pub waits : message_at (message_limit expected.format) told.width told.height tail ≡ More
+  pub count_is : count ≡ length tail
+
+-- So many bytes of a stream that isn't refused are in no message yet; the handshake is in none.
+abbrev pub Unfinished : ExpectedScreen → List ℕ → Option Told → List Host → ℕ → Type 0
+Unfinished expected stream None messages count = count ≡ 0
+Unfinished expected stream (Some told) messages count = HasUnfinished expected stream messages told count
 
 -- A stream that is refused in the handshake, with the host's reason where it gives one,
 pub record IsRefusedInHandshake (expected : ExpectedScreen) (stream : List ℕ) (messages : List Host) (said : List ℕ) (f : HostFault) (reason : List ℕ) : Type 0 where

@@ -1,6 +1,6 @@
 -- A session with a host: what contracts see of it, and what it has made of the host's stream. The
 -- screen and the messages are judged by the limits of the recording's format.
-use Rattle.std.specs.Prelude.{◌≡◌, ℕ, List, [], ◌++◌, true, Option, None, Some, if◌then◌else◌}
+use Rattle.std.specs.Prelude.{◌≡◌, ℕ, ◌+◌, List, [], ◌++◌, length, true, Option, None, Some, if◌then◌else◌}
 use Rattle.std.specs.List.{flat_map}
 use Rattle.pixel_format.specs.declared.kind.Format.{Format}
 use Rattle.terms.specs.Reading.{More, Bad}
@@ -147,6 +147,11 @@ pub record Stopped (s : Session) (stream : List ℕ) (messages : List Host) (sen
 abbrev pub told_by : Option Reader → List ℕ → Option Told
 told_by None kept = None
 told_by (Some r) kept = Some (told_at r.width r.height kept)
+
+-- how many bytes have come of an unfinished message; in the handshake there are none
+abbrev pub unfinished_in : Option Reader → ℕ
+unfinished_in None = 0
+unfinished_in (Some r) = length r.kept + r.passed
 
 -- the screen's size, and its name, if they are told
 abbrev pub size_of : Option Told → Option ScreenSize

@@ -4,7 +4,8 @@ ghost use Rattle.std.specs.Prelude.{◌≡◌, ℕ, List, ◌++◌, [], IfErr, O
 ghost use Rattle.rfb_wire.specs.Host.{Host};
 ghost use Rattle.host_session.specs.declared.fault.HostFault.{HostFault};
 ghost use Rattle.host_session.specs.Fault.{UnlessMemory};
-ghost use Rattle.host_session.specs.Session.{IsAfter, Fed, Stopped, told_by, size_of, name_of, reason_in};
+ghost use Rattle.host_session.specs.Conversation.{Unfinished};
+ghost use Rattle.host_session.specs.Session.{IsAfter, Fed, Stopped, expected_of, told_by, size_of, name_of, reason_in, unfinished_in};
 
 use crate::exchange::Exchange;
 use crate::expected::ExpectedScreen;
@@ -167,6 +168,20 @@ impl HostSession {
         match &self.exchange.reader {
             Some(_) => &self.exchange.handshake.kept,
             None => &[],
+        }
+    }
+
+    /// How many bytes have come of a message that isn't whole yet; in the handshake there are none.
+    pub fn unfinished(&self) -> u64
+        ensures count { result ≡ unfinished_in self.now.reader }
+        // They are the bytes of the stream that are in no message.
+        ensures left { (stream sent : List ℕ) → (messages : List Host)
+            → IsAfter self.now stream messages sent
+            → Unfinished (expected_of self.now) stream (told_by self.now.reader self.now.kept) messages result }
+    {
+        match &self.exchange.reader {
+            Some(reader) => reader.unfinished(),
+            None => 0,
         }
     }
 

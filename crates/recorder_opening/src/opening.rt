@@ -4,7 +4,7 @@ use crate::beginning::beginning_of;
 use crate::recording::{Found, Identity};
 use crate::stopped::Stopped;
 use broadcast::Desk;
-use connections::{Beginning, Event, Host, Plan, Refusal, Stopwatch, Telling};
+use connections::{Beginning, Host, Plan, Refusal, Stopwatch};
 use disk::Disk;
 use file_disk::{FileDisk, LastError, Written};
 use flusher_core::Book;
@@ -16,6 +16,7 @@ use std::net::{Net, TcpListener, TcpStream};
 use std::rt::Files;
 use std::sync::Wait;
 use std::time::Clock;
+use telling::{Event, Telling};
 
 /// What a recorder is begun with: the system, what is asked for, and where is told what fails.
 #[derive(Drop)]

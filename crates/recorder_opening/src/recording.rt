@@ -2,7 +2,7 @@
 
 use crate::draft::{DraftFault, draft_path, open_draft};
 use crate::opening::Opening;
-use connections::{Event, Refusal};
+use connections::Refusal;
 use file_disk::{FileDisk, LastError, Written, sync_name};
 use flusher_core::Book;
 use gated_journal::{CreateFault, Header};
@@ -13,6 +13,7 @@ use std::os::unix::fs::MetadataExt;
 use std::rt::Files;
 use std::sync::Wait;
 use std::{fs, io};
+use telling::Event;
 
 /// Which file of the system one is, whatever its name.
 #[derive(Clone, Copy, Debug, PartialEq, Eq)]

@@ -1,9 +1,10 @@
 //! What the flusher works for.
 
-use connections::{Event, Room};
+use connections::Room;
 use shared_book::{Mark, Receipt, ReceiptSink};
 use std::sync::Wait;
 use std::time::{Clock, Instant};
+use telling::Event;
 
 /// After how many seconds what was recorded is told of.
 const MINUTE: u64 = 60;
@@ -11,14 +12,14 @@ const MINUTE: u64 = 60;
 /// Tells the host's worker and the viewers what was committed, and each minute in which something
 /// came, how much.
 #[derive(Drop)]
-pub struct Committing<'a, M: Mark, R: Clock + Eprint + Wait> {
+pub struct Committing<'a, M: Mark, R: Clock + Wait> {
     rt: &'a R,
     room: &'a Room<M>,
     since: Option<Instant>,
     is_short: bool,
 }
 
-impl<'a, M: Mark, R: Clock + Eprint + Wait> Committing<'a, M, R> {
+impl<'a, M: Mark, R: Clock + Wait> Committing<'a, M, R> {
     /// Before the first commit.
     pub fn new(rt: &'a R, room: &'a Room<M>) -> Committing<'a, M, R> {
         Committing {
@@ -43,7 +44,7 @@ impl<'a, M: Mark, R: Clock + Eprint + Wait> Committing<'a, M, R> {
     }
 }
 
-impl<'a, M: Mark, R: Clock + Eprint + Wait> ReceiptSink<Receipt<M>> for Committing<'a, M, R> {
+impl<'a, M: Mark, R: Clock + Wait> ReceiptSink<Receipt<M>> for Committing<'a, M, R> {
     fn receipt(&mut self, receipt: Receipt<M>) {
         let slice = receipt.slice();
         let count = slice.messages.len() as u64;

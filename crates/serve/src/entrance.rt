@@ -2,24 +2,25 @@
 
 use crate::no_turnstile::NoTurnstile;
 use crate::service::Service;
-use broadcast::Start;
-use connections::{Event, Viewer, turn_away};
+use broadcast::{NextRefusal, Start};
+use connections::{Viewer, turn_away};
 use disk::Disk;
 use reception::{Arrival, Reason};
-use shared_book::{Mark, run_viewer};
+use shared_book::{Mark, ViewerEnd, run_viewer};
 use sockets::{Accepted, Connection, accept};
 use std::net::{SocketAddr, TcpStream};
 use std::sync::Wait;
 use std::thread;
 use std::thread::{Scope, Threads};
 use std::time::Clock;
+use telling::Event;
 use watching::{Live, Played, Watching};
 
-impl<'a, D: Disk, M: Mark, R: Clock + Eprint + Wait> Service<'a, D, M, R> {
+impl<'a, D: Disk, M: Mark, R: Clock + Wait> Service<'a, D, M, R> {
     // Shows a viewer the recording, from a seat. One that begins behind a message takes its seat at
     // the last key screen before, so that no more than a block is read under the lock at a time;
     // what lies between is painted for it before it is answered.
-    fn watch<C: Connection>(&self, viewer: &Viewer<M, C>) {
+    fn watch<C: Connection>(&self, viewer: &Viewer<M, C>) -> Result<(), ViewerEnd> {
         let (rt, shared, room) = (self.rt, self.shared, self.room);
         let start = match room.from {
             Start::Live => Start::Live,
@@ -28,7 +29,7 @@ impl<'a, D: Disk, M: Mark, R: Clock + Eprint + Wait> Service<'a, D, M, R> {
                 Start::At(shared.key_before(rt, count))
             }
         };
-        let _ended = match room.program {
+        let ended = match room.program {
             Some(program) => {
                 let sink = Watching::new(rt, viewer, room, Played::new(program));
                 run_viewer(rt, shared, start, sink, &NoTurnstile)
@@ -39,6 +40,7 @@ impl<'a, D: Disk, M: Mark, R: Clock + Eprint + Wait> Service<'a, D, M, R> {
             }
         };
         viewer.leave(rt);
+        ended
     }
 
     // The viewer behind a connection, once its handshake is whole; none where it doesn't get so far.
@@ -64,21 +66,26 @@ impl<'a, D: Disk, M: Mark, R: Clock + Eprint + Wait> Service<'a, D, M, R> {
     }
 }
 
-impl<'a, D: Disk + Send, M: Mark + Send + Sync, R: Threads + Clock + Eprint + Wait + Sync> Service<
+impl<'a, D: Disk + Send, M: Mark + Send + Sync, R: Threads + Clock + Wait + Sync> Service<
     'a,
     D,
     M,
     R,
 > {
-    // Serves a viewer that has a seat until it leaves. What it does wrong ends it alone.
-    fn serve_viewer(&self, viewer: &Viewer<M, TcpStream>, from: SocketAddr) {
+    // Serves a viewer that has a seat until it leaves. What it does wrong ends it alone. Tells how it
+    // ended.
+    fn serve_viewer(&self, viewer: &Viewer<M, TcpStream>, from: SocketAddr) -> Event<'static> {
         let (rt, room) = (self.rt, self.room);
         thread::scope(thread::scope_env(), rt, |scope| {
-            match scope.spawn(move || self.watch(viewer)) {
-                Ok(_worker) => viewer.listen(rt, self.shared, &room.hall),
-                Err(_) => room.telling.tell(rt, Event::NoThread(from)),
+            let Ok(worker) = scope.spawn(move || self.watch(viewer)) else {
+                return Event::NoThread(from);
+            };
+            viewer.listen(rt, self.shared, &room.hall);
+            match worker.join(rt) {
+                Err(ViewerEnd::Next(NextRefusal::Device)) => Event::Unshown(from),
+                _ => Event::Left(from),
             }
-        });
+        })
     }
 
     // Hears a connection's handshake, and serves the viewer behind it, if it gets a seat.
@@ -94,9 +101,9 @@ impl<'a, D: Disk + Send, M: Mark + Send + Sync, R: Threads + Clock + Eprint + Wa
             return;
         }
         room.telling.tell(rt, Event::Came(from));
-        self.serve_viewer(&viewer, from);
+        let ended = self.serve_viewer(&viewer, from);
         room.hall.leave(rt);
-        room.telling.tell(rt, Event::Left(from));
+        room.telling.tell(rt, ended);
     }
 
     // Attends to a connection until it has ended.

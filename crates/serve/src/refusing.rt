@@ -3,9 +3,19 @@
 use connections::Refusal;
 use std::io;
 use std::io::Write;
+use std::sync::Wait;
+use std::time::Clock;
+use telling::Telling;
 
-/// Says why the recorder is refused.
-pub fn refuse<E: Write>(refusal: Refusal, err: &mut E) -> io::Result<()> {
+/// Says why the recorder is refused, behind what was told before, for which it waits a second at
+/// most.
+pub fn refuse<R: Clock + Wait, E: Write>(
+    rt: &R,
+    telling: &Telling,
+    refusal: Refusal,
+    err: &mut E,
+) -> io::Result<()> {
+    telling.settle(rt);
     writeln!(err, "recorderd: serve refused {refusal}")?;
     err.flush()
 }

@@ -3,7 +3,7 @@
 use crate::committing::Committing;
 use crate::no_turnstile::NoTurnstile;
 use crate::refusing::refuse;
-use connections::{Ends, Event, Host, HostEnd, Messages, Refusal, Room, Stopwatch, first_refusal};
+use connections::{Ends, Host, Messages, Refusal, Room, Stopwatch, first_refusal};
 use disk::Disk;
 use flusher_core::{HostRefusal, TakeRefusal};
 use recorder_opening::Stopped;
@@ -15,6 +15,7 @@ use std::sync::{Mutex, Wait};
 use std::thread::{JoinHandle, Scope, Threads};
 use std::time::Clock;
 use std::{io, thread};
+use telling::{Event, HostEnd};
 
 /// What the threads of a recorder share.
 #[derive(Drop)]
@@ -56,19 +57,10 @@ impl Outcome {
     }
 }
 
-// Says why the recorder is refused, if it is.
-fn outcome_of<W: Write>(refusal: Option<Refusal>, err: &mut W) -> Outcome {
-    let told = match refusal {
-        Some(refusal) => refuse(refusal, err),
-        None => Ok(()),
-    };
-    Outcome { refusal, told }
-}
-
-impl<'a, D: Disk, M: Mark, R: Clock + Eprint + Wait> Service<'a, D, M, R> {
+impl<'a, D: Disk, M: Mark, R: Clock + Wait> Service<'a, D, M, R> {
     // Hands in the host's messages until they end, and tells how its stream ended.
     fn record(&self, host: Box<Host>, stopwatch: Stopwatch) -> HostEnds {
-        let end = Mutex::new(HostEnd::Closed);
+        let end = Mutex::new(HostEnd::Closed(0));
         let messages = Messages::new(self.rt, Box::into_inner(host), stopwatch, self.room, &end);
         let worker = run_host(self.rt, self.shared, messages, &NoTurnstile);
         let end = end.into_inner();
@@ -119,6 +111,15 @@ impl<'a, D: Disk, M: Mark, R: Clock + Eprint + Wait> Service<'a, D, M, R> {
         }
     }
 
+    // Says why the recorder is refused, if it is.
+    fn outcome_of<W: Write>(&self, refusal: Option<Refusal>, err: &mut W) -> Outcome {
+        let told = match refusal {
+            Some(refusal) => refuse(self.rt, &self.room.telling, refusal, err),
+            None => Ok(()),
+        };
+        Outcome { refusal, told }
+    }
+
     // Ends what was started, where a thread couldn't be made.
     fn give_up(&self) {
         self.shut(Shutdown::Both);
@@ -131,19 +132,20 @@ impl<'a, D: Disk, M: Mark, R: Clock + Eprint + Wait> Service<'a, D, M, R> {
     }
 }
 
-impl<'a, D: Disk, M: Mark, R: Threads + Clock + Eprint + Wait> Service<'a, D, M, R> {
+impl<'a, D: Disk, M: Mark, R: Threads + Clock + Wait> Service<'a, D, M, R> {
     // Commits until the host has ended, and waits for its worker: how both ended.
     fn record_all(&self, host: Option<JoinHandle<HostEnds>>) -> Ends {
         let flusher = self.flush();
         let (worker, host) = match host {
             Some(recording) => recording.join(self.rt),
-            None => (Ok(()), HostEnd::Closed),
+            None => (Ok(()), HostEnd::Closed(0)),
         };
         Ends {
             flusher,
             worker,
             host,
             is_listener_sound: true,
+            is_readable: true,
         }
     }
 
@@ -152,19 +154,25 @@ impl<'a, D: Disk, M: Mark, R: Threads + Clock + Eprint + Wait> Service<'a, D, M,
     fn conduct<W: Write>(&self, crew: Crew, err: &mut W) -> Outcome {
         let Crew { host, viewers } = crew;
         let ends = self.record_all(host);
-        let outcome = outcome_of(first_refusal(ends), err);
+        let outcome = self.outcome_of(first_refusal(ends), err);
         self.room.hall.end(self.rt);
         self.room.hall.wait_until_done(self.rt);
         self.room.bell.ring();
         let is_listener_sound = viewers.join(self.rt);
-        if is_listener_sound || outcome.refusal.is_some() {
+        if outcome.refusal.is_some() {
             return outcome;
         }
-        outcome_of(Some(Refusal::Net), err)
+        let is_readable = !self.room.is_unreadable();
+        let ends = Ends {
+            is_listener_sound,
+            is_readable,
+            ..ends
+        };
+        self.outcome_of(first_refusal(ends), err)
     }
 }
 
-impl<'a, D: Disk + Send, M: Mark + Send + Sync, R: Threads + Clock + Eprint + Wait + Sync> Service<
+impl<'a, D: Disk + Send, M: Mark + Send + Sync, R: Threads + Clock + Wait + Sync> Service<
     'a,
     D,
     M,
@@ -205,7 +213,7 @@ impl<'a, D: Disk + Send, M: Mark + Send + Sync, R: Threads + Clock + Eprint + Wa
             Some(crew) => self.conduct(crew, err),
             None => {
                 self.give_up();
-                outcome_of(Some(Refusal::Thread), err)
+                self.outcome_of(Some(Refusal::Thread), err)
             }
         }
     }
@@ -216,7 +224,7 @@ pub fn run_threads<
     'a,
     D: Disk + Send,
     M: Mark + Send + Sync,
-    R: Threads + Clock + Eprint + Wait + Sync,
+    R: Threads + Clock + Wait + Sync,
     W: Write,
 >(
     service: &'a Service<'a, D, M, R>,

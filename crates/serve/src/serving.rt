@@ -5,14 +5,14 @@ ghost use Rattle.flusher_core.specs.State.{accepted_count};
 
 use crate::refusing::refuse;
 use crate::service::{Service, run_threads};
-use connections::{Event, Plan, Refusal, Room, Telling};
+use connections::{Plan, Refusal, Room};
 use file_disk::{LastError, Written};
+use libc::STDERR_FILENO;
 use recorder_opening::{Opened, Opening, Source, Stopped};
 use shared_book::{Mark, Shared, Token};
 use sockets::Bell;
 use std::fmt::Display;
 use std::fs::File;
-use std::io;
 use std::io::Write;
 use std::marker::Brand;
 use std::net::{Net, TcpListener, TcpStream};
@@ -20,6 +20,8 @@ use std::rt::Files;
 use std::sync::Wait;
 use std::thread::Threads;
 use std::time::Clock;
+use std::{io, thread};
+use telling::{Event, Telling};
 
 // What the threads of a recorder share beside the recording. It is boxed, since it is large, and each
 // way out of a function that owns it would take it apart.
@@ -28,6 +30,7 @@ fn room_of<M: Mark, R: AllocGlobal>(
     plan: &Plan<'_>,
     opened: &Opened,
     bell: Bell,
+    telling: &Telling,
     last_error: LastError,
 ) -> Result<Box<Room<M>>, Stopped>
     requires { opened.now.desk.value.head ≡ M.head }
@@ -41,7 +44,7 @@ fn room_of<M: Mark, R: AllocGlobal>(
         plan,
         opened.beginning,
         bell,
-        Telling::new(plan.is_verbose),
+        telling.share()?,
         last_error,
         desk.committed(),
     );
@@ -50,16 +53,13 @@ fn room_of<M: Mark, R: AllocGlobal>(
 
 // Serves a recording, which the host goes on with, under a mark that fits it: how many messages are
 // committed in the end.
-fn serve_opened<
-    M: Mark + Send + Sync,
-    R: Threads + Clock + Eprint + Wait + Sync + AllocGlobal,
-    W: Write,
->(
+fn serve_opened<M: Mark + Send + Sync, R: Threads + Clock + Wait + Sync + AllocGlobal, W: Write>(
     rt: &R,
     plan: &Plan<'_>,
     token: Token,
     opened: Box<Opened>,
     bell: Bell,
+    telling: &Telling,
     last_error: LastError,
     err: &mut W,
 ) -> Result<u64, Stopped>
@@ -68,7 +68,7 @@ fn serve_opened<
     requires first { accepted_count opened.value.desk.value.state.book ≡ M.first }
     requires names { token ≡ M.names }
 {
-    let room = room_of::<M, R>(rt, plan, &opened, bell, last_error)?;
+    let room = room_of::<M, R>(rt, plan, &opened, bell, telling, last_error)?;
     let Opened {
         desk,
         source: Source { host, stream },
@@ -97,6 +97,7 @@ fn say<O: Write, T: Display + Drop>(out: &mut O, line: T) -> io::Result<()> {
 fn run<'a, R, L, O, W>(
     rt: &'a R,
     plan: &'a Plan<'a>,
+    telling: &'a Telling,
     listen: L,
     out: &mut O,
     err: &mut W,
@@ -109,13 +110,12 @@ where
     W: Write,
     requires { L.IsAlwaysCallable listen }
 {
-    let telling = Telling::new(plan.is_verbose);
     let last_error = LastError::new(rt.alloc())?;
     let written = Written::new(rt.alloc())?;
     let opening = Opening {
         rt: &*rt,
         plan: &*plan,
-        telling: &telling,
+        telling: &*telling,
         last_error: &last_error,
         written: &written,
     };
@@ -125,12 +125,32 @@ where
     let opened = Box::new(rt.alloc(), opening.open(listen)?)?;
     let identity = opened.identity;
     say(out, "serving")?;
-    let committed = serve_opened::<Brand, R, W>(rt, plan, token, opened, bell, last_error, err)?;
+    let committed = serve_opened::<Brand, R, W>(
+        rt, plan, token, opened, bell, telling, last_error, err,
+    )?;
     if !identity.is_at(rt, plan.file, written.end()) {
         telling.tell(rt, Event::Replaced(plan.file));
         return Err(Stopped::Refused(Refusal::File));
     }
     Ok(say(out, format_args!("committed {committed}"))?)
+}
+
+// Whether a recorder is done that ended so; where it is refused, that is said.
+fn outcome_of<R: Clock + Wait, E: Write>(
+    rt: &R,
+    telling: &Telling,
+    ended: Result<(), Stopped>,
+    err: &mut E,
+) -> io::Result<bool> {
+    match ended {
+        Ok(()) => Ok(true),
+        Err(Stopped::Refused(refusal)) => {
+            refuse(rt, telling, refusal, err)?;
+            Ok(false)
+        }
+        Err(Stopped::Told) => Ok(false),
+        Err(Stopped::Failed(error)) => Err(error),
+    }
 }
 
 /// Records a host into a file, and serves the recording to viewers, who connect to the listener
@@ -151,15 +171,21 @@ where
     R: Net<Stream = TcpStream, Listener = TcpListener>,
     requires { L.IsAlwaysCallable listen }
 {
-    match run(rt, plan, listen, out, err) {
-        Ok(()) => Ok(true),
-        Err(Stopped::Refused(refusal)) => {
-            refuse(refusal, err)?;
-            Ok(false)
-        }
-        Err(Stopped::Told) => Ok(false),
-        Err(Stopped::Failed(error)) => Err(error),
-    }
+    let telling = &Telling::new(rt.alloc(), plan.is_verbose)?;
+    thread::scope(thread::scope_env(), rt, |scope| {
+        let is_written = !telling.is_verbose()
+            || scope
+                .spawn(move || telling.write_to(rt, STDERR_FILENO))
+                .is_ok();
+        let ended = if is_written {
+            run(rt, plan, telling, listen, out, err)
+        } else {
+            Err(Stopped::Refused(Refusal::Thread))
+        };
+        let outcome = outcome_of(rt, telling, ended, err);
+        telling.end(rt);
+        outcome
+    })
 }
 
 /// The same with viewers who connect to the plan's address.

@@ -132,4 +132,13 @@ pub trait ViewerSink<T, E>: Drop {
         ensures size { (width self.new ≡ width self.old) × (height self.new ≡ height self.old) }
         ensures stays { (position self.new ≡ position self.old) × (fresh self.new ≡ fresh self.old) }
     {}
+
+    /// Takes word that the device failed, so that nothing is handed to it: whether it is asked again.
+    /// Its worker ends where it isn't.
+    fn device_failed(&mut self) -> bool
+        ensures size { (width self.new ≡ width self.old) × (height self.new ≡ height self.old) }
+        ensures stays { (position self.new ≡ position self.old) × (fresh self.new ≡ fresh self.old) }
+    {
+        false
+    }
 }

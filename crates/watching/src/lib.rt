@@ -1,6 +1,7 @@
 //! What a viewer's worker works for: a recording that is shown as it grows, or in its own time.
 #![tactic(auto)]
 
+mod failure;
 mod live;
 mod place;
 mod played;

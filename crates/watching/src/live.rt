@@ -55,6 +55,11 @@ impl Live {
         }
     }
 
+    // Whether the viewer is a live one at this position.
+    fn follows(&self, position: u64) -> bool {
+        self.each_until <= position
+    }
+
     // Whether the viewer is shown the message behind this position by itself, once it has asked.
     fn shows_each(&self, position: u64) -> bool {
         match self.start {
@@ -64,7 +69,7 @@ impl Live {
     }
 
     // Whether the viewer, which lacks so many messages, goes on at the newest screen.
-    fn goes_to_newest<M: Mark, C: Connection, R: Clock + Eprint + Wait>(
+    fn goes_to_newest<M: Mark, C: Connection, R: Clock + Wait>(
         &self,
         place: &Place<'_, M, C, R>,
         missing: u64,
@@ -72,12 +77,12 @@ impl Live {
         if place.is_fresh {
             return self.start == Start::Live;
         }
-        let is_live = self.each_until <= place.position;
-        is_live && (missing > FAR || (missing > 0 && place.waits_for_whole_screen()))
+        self.follows(place.position)
+            && (missing > FAR || (missing > 0 && place.waits_for_whole_screen()))
     }
 }
 
-impl<M: Mark, C: Connection, R: Clock + Eprint + Wait> Guide<M, C, R> for Live {
+impl<M: Mark, C: Connection, R: Clock + Wait> Guide<M, C, R> for Live {
     fn wish(&mut self, place: &Place<'_, M, C, R>) -> ViewerWish {
         if place.is_at_end {
             place.rest();
@@ -91,6 +96,9 @@ impl<M: Mark, C: Connection, R: Clock + Eprint + Wait> Guide<M, C, R> for Live {
         if place.viewer.has_left() || (!is_waited_for && place.is_closing()) {
             return ViewerWish::Stop;
         }
+        if place.has_failed {
+            return ViewerWish::Newest;
+        }
         let missing = place.room.committed().saturating_sub(place.position);
         if self.goes_to_newest(place, missing) {
             ViewerWish::Newest
@@ -100,6 +108,10 @@ impl<M: Mark, C: Connection, R: Clock + Eprint + Wait> Guide<M, C, R> for Live {
             self.has_waited = true;
             ViewerWish::Wait
         }
+    }
+
+    fn is_live(&self, place: &Place<'_, M, C, R>) -> bool {
+        self.follows(place.position)
     }
 
     fn hold(&mut self, _place: &Place<'_, M, C, R>, _slice: &Slice) {

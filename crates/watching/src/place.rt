@@ -3,16 +3,18 @@
 ghost use Rattle.std.specs.Prelude.{◌≡◌, ◌<◌, ◌^◌, ◌+◌, length, true};
 ghost use Rattle.shared_book.specs.Receipts.{IsOfSize};
 
-use connections::{Event, Room, Viewer};
+use crate::failure::{AfterFailure, after_failure};
+use connections::{Room, Viewer};
 use replay::Slice;
 use shared_book::Mark;
 use sockets::Connection;
 use std::sync::Wait;
 use std::time::{Clock, Duration};
+use telling::Event;
 
 /// A viewer, the room that it is in, and where it stands in the recording.
 #[derive(Drop)]
-pub struct Place<'a, M: Mark, C: Connection, R: Clock + Eprint + Wait> {
+pub struct Place<'a, M: Mark, C: Connection, R: Clock + Wait> {
     pub rt: &'a R,
     pub viewer: &'a Viewer<M, C>,
     pub room: &'a Room<M>,
@@ -24,9 +26,11 @@ pub struct Place<'a, M: Mark, C: Connection, R: Clock + Eprint + Wait> {
     pub is_at_end: bool,
     /// Whether memory was short, which is told once, since it was handed something.
     pub is_short: bool,
+    /// Whether the device failed since it was handed something.
+    pub has_failed: bool,
 }
 
-impl<'a, M: Mark, C: Connection, R: Clock + Eprint + Wait> Place<'a, M, C, R> {
+impl<'a, M: Mark, C: Connection, R: Clock + Wait> Place<'a, M, C, R> {
     /// Before it has a seat.
     pub fn new(rt: &'a R, viewer: &'a Viewer<M, C>, room: &'a Room<M>) -> Place<'a, M, C, R> {
         Place {
@@ -37,6 +41,7 @@ impl<'a, M: Mark, C: Connection, R: Clock + Eprint + Wait> Place<'a, M, C, R> {
             is_fresh: true,
             is_at_end: false,
             is_short: false,
+            has_failed: false,
         }
     }
 
@@ -58,6 +63,7 @@ impl<'a, M: Mark, C: Connection, R: Clock + Eprint + Wait> Place<'a, M, C, R> {
         ensures fresh { self.new.is_fresh ≡ self.old.is_fresh }
     {
         self.is_short = false;
+        self.has_failed = false;
         if !self.viewer.has_left() {
             self.viewer.show(self.rt, slice);
         }
@@ -72,6 +78,17 @@ impl<'a, M: Mark, C: Connection, R: Clock + Eprint + Wait> Place<'a, M, C, R> {
             self.room.telling.tell(self.rt, Event::Shortage);
         }
         self.is_short = true;
+    }
+
+    /// Notes that the device failed: whether a viewer goes on that is a live one, or isn't.
+    pub fn goes_on_after_failure(&mut self, is_live: bool) -> bool
+        ensures position { self.new.position ≡ self.old.position }
+        ensures fresh { self.new.is_fresh ≡ self.old.is_fresh }
+    {
+        self.room.note_unreadable(self.rt);
+        let next = after_failure(is_live, self.has_failed);
+        self.has_failed = true;
+        next == AfterFailure::Newest
     }
 
     /// At the end of the recording: stays until the viewer leaves, or the recorder is closing and it

@@ -42,7 +42,7 @@ impl Played {
     }
 
     // Waits until a message of this time is due, or the playing is cut off.
-    fn wait_until_due<M: Mark, C: Connection, R: Clock + Eprint + Wait>(
+    fn wait_until_due<M: Mark, C: Connection, R: Clock + Wait>(
         &mut self,
         place: &Place<'_, M, C, R>,
         time: u32,
@@ -57,7 +57,7 @@ impl Played {
     }
 
     // What is wanted at the end: to begin again, where it is to and there is something to be played.
-    fn wish_at_end<M: Mark, C: Connection, R: Clock + Eprint + Wait>(
+    fn wish_at_end<M: Mark, C: Connection, R: Clock + Wait>(
         &mut self,
         place: &Place<'_, M, C, R>,
     ) -> ViewerWish {
@@ -73,13 +73,11 @@ impl Played {
 }
 
 // Whether the playing ends: the viewer has left, or the recorder is closing.
-fn is_cut_off<M: Mark, C: Connection, R: Clock + Eprint + Wait>(
-    place: &Place<'_, M, C, R>,
-) -> bool {
+fn is_cut_off<M: Mark, C: Connection, R: Clock + Wait>(place: &Place<'_, M, C, R>) -> bool {
     place.viewer.has_left() || place.is_closing()
 }
 
-impl<M: Mark, C: Connection, R: Clock + Eprint + Wait> Guide<M, C, R> for Played {
+impl<M: Mark, C: Connection, R: Clock + Wait> Guide<M, C, R> for Played {
     fn wish(&mut self, place: &Place<'_, M, C, R>) -> ViewerWish {
         if is_cut_off(place) {
             return ViewerWish::Stop;
@@ -102,6 +100,10 @@ impl<M: Mark, C: Connection, R: Clock + Eprint + Wait> Guide<M, C, R> for Played
         } else {
             ViewerWish::Wait
         }
+    }
+
+    fn is_live(&self, _place: &Place<'_, M, C, R>) -> bool {
+        false
     }
 
     // The playing begins once all before its first message was handed over.

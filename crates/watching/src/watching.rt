@@ -9,9 +9,12 @@ use std::sync::Wait;
 use std::time::Clock;
 
 /// Decides what a viewer is shown next, and when.
-pub trait Guide<M: Mark, C: Connection, R: Clock + Eprint + Wait>: Drop {
+pub trait Guide<M: Mark, C: Connection, R: Clock + Wait>: Drop {
     /// What is wanted for the viewer at this place. It may wait before.
     fn wish(&mut self, place: &Place<'_, M, C, R>) -> ViewerWish;
+
+    /// Whether the viewer is shown what is newest, and not each message.
+    fn is_live(&self, place: &Place<'_, M, C, R>) -> bool;
 
     /// Returns once these messages, which were handed to the viewer's worker, may be shown.
     fn hold(&mut self, place: &Place<'_, M, C, R>, slice: &Slice);
@@ -19,18 +22,12 @@ pub trait Guide<M: Mark, C: Connection, R: Clock + Eprint + Wait>: Drop {
 
 /// Shows a viewer the recording as its guide decides.
 #[derive(Drop)]
-pub struct Watching<'a, M: Mark, C: Connection, R: Clock + Eprint + Wait, G: Guide<M, C, R>> {
+pub struct Watching<'a, M: Mark, C: Connection, R: Clock + Wait, G: Guide<M, C, R>> {
     place: Place<'a, M, C, R>,
     guide: G,
 }
 
-impl<'a, M: Mark, C: Connection, R: Clock + Eprint + Wait, G: Guide<M, C, R>> Watching<
-    'a,
-    M,
-    C,
-    R,
-    G,
-> {
+impl<'a, M: Mark, C: Connection, R: Clock + Wait, G: Guide<M, C, R>> Watching<'a, M, C, R, G> {
     /// At the start of a viewer's seat.
     pub fn new(
         rt: &'a R,
@@ -45,7 +42,7 @@ impl<'a, M: Mark, C: Connection, R: Clock + Eprint + Wait, G: Guide<M, C, R>> Wa
     }
 }
 
-impl<'a, M: Mark, C: Connection, R: Clock + Eprint + Wait, G: Guide<M, C, R>> ViewerSink<
+impl<'a, M: Mark, C: Connection, R: Clock + Wait, G: Guide<M, C, R>> ViewerSink<
     Receipt<M>,
     Ending<M>,
 > for Watching<'a, M, C, R, G> {
@@ -91,5 +88,10 @@ impl<'a, M: Mark, C: Connection, R: Clock + Eprint + Wait, G: Guide<M, C, R>> Vi
 
     fn shortage(&mut self) {
         self.place.tell_shortage();
+    }
+
+    fn device_failed(&mut self) -> bool {
+        let is_live = self.guide.is_live(&self.place);
+        self.place.goes_on_after_failure(is_live)
     }
 }

@@ -1,10 +1,11 @@
 //! Recordings that are shown from their start.
 
 use super::checked;
-use super::peers::{ALL, BLACK, CHANGES, GREEN, Peer, Place, RED, listener, viewer};
+use super::peers::{ALL, BLACK, CHANGES, GREEN, Peer, Place, RED, listener, silent_viewer, viewer};
 use crate::plan_of;
 use serve::{Audience, Origin, Pace, Plan, Playing};
 use std::fs;
+use std::fs::OpenOptions;
 use std::net::{Net, TcpListener, TcpStream};
 use std::test::Fail;
 use std::time::{Clock, Instant};
@@ -68,5 +69,27 @@ fn each_message_is_shown(rt: HostRuntime) -> Result<(), Fail> {
     let said = serve_while!(rt, &plan, viewers, move || sees_each_in_time(rt, place))?;
     assert!(rt; said.as_str() == "true serving\ncommitted 2\n", "{said}");
     assert!(rt; checked(rt, file)?.as_str() == "recording 1 1 messages 2 blocks 1\n");
+    Ok(())
+}
+
+// The file is cut off before a viewer has a seat: it is closed.
+fn sees_nothing(rt: &HostRuntime, place: Place, file: &str) -> Result<(), Fail> {
+    let first = silent_viewer(rt, place)?;
+    first.hear(rt.alloc(), b"RFB 003.008\n")?; // the recording is open
+    OpenOptions::new().write(true).open(rt, file)?.set_len(0)?;
+    viewer(rt, place)?.ends()
+}
+
+#[test]
+fn a_viewer_is_closed_where_a_read_fails(rt: HostRuntime) -> Result<(), Fail> {
+    let rt = &rt;
+    let file = "lost";
+    fs::write(rt, file, RECORDING.as_slice())?;
+    let plan = plan_of(file, None, Audience::Count(1), Origin::Count(0));
+    let (viewers, place) = listener(rt)?;
+    let said = serve_while!(rt, &plan, viewers, move || sees_nothing(rt, place, file))?;
+    let refused = "false serving\nrecorderd: serve refused journal 3\n";
+    assert!(rt; said.as_str() == refused, "{said}");
+    fs::remove_file(rt, file)?;
     Ok(())
 }

@@ -5,8 +5,11 @@ use super::peers::{
     ALL, BLACK, CHANGES, GREEN, Loopback, RED, large_host, silent_viewer, small_host, viewer,
 };
 use serve::{Audience, Origin};
+use std::fs::OpenOptions;
 use std::net::{Net, TcpStream};
 use std::test::Fail;
+use std::time::Duration;
+use std::{fs, thread};
 
 // Two viewers, who see the black screen, and then the host's update.
 fn two_watch(rt: &HostRuntime, ends: Loopback) -> Result<(), Fail> {
@@ -105,4 +108,53 @@ fn a_viewer_that_sleeps_holds_up_nobody(rt: HostRuntime) -> Result<(), Fail> {
     let rt = &rt;
     let said = recorded!(rt, "asleep", Audience::Count(2), Origin::Live, one_sleeps)?;
     is_recorded(rt, "asleep", &said, 2, "2048 1024 messages 2 blocks 2")
+}
+
+// Waits until a file is longer than this: its length then.
+fn longer(rt: &HostRuntime, file: &str, length: u64) -> Result<u64, Fail> {
+    for _ in 0..2000 {
+        let now = fs::metadata(rt, file)?.len();
+        if now > length {
+            return Ok(now);
+        }
+        thread::sleep(rt, Duration::from_millis(10));
+    }
+    Err("the file didn't grow".into())
+}
+
+// The file loses what a viewer that doesn't read its answer is to be shown next. The viewer goes on
+// with what is newest.
+fn the_file_is_cut_off(rt: &HostRuntime, ends: Loopback, file: &str) -> Result<(), Fail> {
+    let alloc = rt.alloc();
+    let host = large_host(alloc, &ends.hosts)?;
+    let one = viewer(rt, ends.viewers)?;
+    one.say(&WHOLE)?;
+    let mut length = fs::metadata(rt, file)?.len();
+    // The first is committed once the second is written, and isn't read before the answer is.
+    for update in [&RED, &GREEN] {
+        host.talk(alloc, update, &MORE)?;
+        length = longer(rt, file, length)?;
+    }
+    OpenOptions::new().write(true).open(rt, file)?.set_len(0)?;
+    one.skip(alloc, LENGTH)?;
+    one.say(&ALL)?;
+    one.hear_at_last(alloc, &GREEN, &CHANGES)
+}
+
+#[test]
+fn a_viewer_goes_on_where_a_read_fails(rt: HostRuntime) -> Result<(), Fail> {
+    let rt = &rt;
+    let file = "cut";
+    let said = recorded!(
+        rt,
+        file,
+        Audience::Count(1),
+        Origin::Live,
+        the_file_is_cut_off,
+        file
+    )?;
+    let refused = "false serving\nrecorderd: serve refused journal 3\n";
+    assert!(rt; said.as_str() == refused, "{said}");
+    fs::remove_file(rt, file)?;
+    Ok(())
 }

@@ -1,0 +1,12 @@
+//! What is told of a recorder, a line each: the words, the queue in which lines wait to be written,
+//! and who puts them there and writes them.
+#![tactic(auto)]
+
+mod output;
+mod queue;
+mod telling;
+mod words;
+
+pub use queue::{Item, Queue};
+pub use telling::Telling;
+pub use words::{Event, HostEnd};
