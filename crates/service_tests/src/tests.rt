@@ -2,4 +2,4 @@
 
 mod browsing;
 mod serving;
-mod telling;
+mod told;
