@@ -65,7 +65,8 @@ Nothing was written: record into a new file, or give the screen its old size.";
 
 const TOO_LARGE: &str = "\
 The host's screen is too large: a side of more than 16,384, or more than 2^25
-pixels, in format 1 8,192 and 2^23; or a side is 0. Set the screen to a smaller size at the host.";
+pixels, in format 1 8,192 and 2^23; or a side is 0.
+Set the screen to a smaller size at the host.";
 
 /// The texts of `wire`, from 1 on.
 pub const WIRE: [&str; 9] = [

@@ -1,9 +1,9 @@
 //! Refusals of the system: its files, sockets and threads.
 
 const FILE_FAILS: &str = "\
-A file can't be opened, made, locked or written: no folder, no permission, a
-device, a pipe, a link to no recording; another recorder has it; FILE is there;
-OUT is the recording; or it was gone from PATH at the end. See `--verbose`.";
+A file can't be opened, made, locked or written: no permission, a device, a
+link to no recording; another recorder has it; FILE, or another PATH.new, is
+there; OUT is the recording; it was gone from PATH or shorter. See `--verbose`.";
 
 const NET_FAILS: &str = "\
 The address to listen at can't be used (it is in use, or unknown), or the host
