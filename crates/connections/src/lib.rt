@@ -15,5 +15,5 @@ pub use host::{Host, Messages};
 pub use pixel_format::Format;
 pub use plan::{Audience, Beginning, Origin, Plan, Playing};
 pub use refusal::{Ends, Refusal, first_refusal};
-pub use room::{Hall, Intake, Room};
+pub use room::{Device, Hall, Intake, Room};
 pub use viewer::{Viewer, turn_away};

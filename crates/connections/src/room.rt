@@ -15,8 +15,8 @@ use std::alloc::Global;
 use std::marker::PhantomData;
 use std::sync::atomic::{AtomicBool, AtomicU64, Ordering};
 use std::sync::{Condvar, Mutex, Wait};
-use std::time::{Clock, Duration};
-use telling::{Event, Telling};
+use std::time::{Clock, Duration, Instant};
+use telling::{Answering, Event, Silence, Telling};
 
 /// Who watches, under a lock. Whoever waits here waits for the recorder to close or to be done, or
 /// for a viewer to have left, and is woken at each of them.
@@ -163,6 +163,47 @@ impl Intake {
     }
 }
 
+/// Since when a block is being written, for who looks whether the device answers.
+#[derive(Drop)]
+pub struct Device {
+    started: Option<Instant>,
+    // In milliseconds from the start on, or the greatest number where none is written.
+    since: AtomicU64,
+}
+
+impl Device {
+    /// Nothing is written.
+    pub fn new<R: Clock>(rt: &R) -> Device {
+        Device {
+            started: Instant::now(rt).ok(),
+            since: AtomicU64::new(u64::MAX),
+        }
+    }
+
+    // How many milliseconds have passed; none where the clock can't be read.
+    fn now<R: Clock>(&self, rt: &R) -> Option<u64> {
+        let passed = self.started?.elapsed(rt).ok()?;
+        u64::try_from(passed.as_millis()).ok()
+    }
+
+    /// A block is written now.
+    pub fn begin<R: Clock>(&self, rt: &R) {
+        let now = self.now(rt).unwrap_or(u64::MAX);
+        self.since.store(now, Ordering::SeqCst);
+    }
+
+    /// No block is written.
+    pub fn end(&self) {
+        self.since.store(u64::MAX, Ordering::SeqCst);
+    }
+
+    /// What is told of the device now, by who tells of it.
+    pub fn look<R: Clock>(&self, rt: &R, silence: &mut Silence) -> Option<Answering> {
+        let call = Some(self.since.load(Ordering::SeqCst)).filter(|since| *since != u64::MAX);
+        silence.look(self.now(rt)?, call)
+    }
+}
+
 /// What was recorded since it was last told of.
 #[derive(Drop)]
 struct Recorded {
@@ -171,7 +212,8 @@ struct Recorded {
 }
 
 /// What all threads of a recorder share: the recording's screen and name, where viewers begin, who
-/// watches, what waits, how far the recording is committed, and what the system said of its file.
+/// watches, what waits, how far the recording is committed, what the system said of its file, and
+/// whether a block is being written.
 #[derive(Drop)]
 pub struct Room<M: Mark> {
     pub alloc: Global,
@@ -187,6 +229,7 @@ pub struct Room<M: Mark> {
     pub bell: Bell,
     pub telling: Telling,
     pub last_error: LastError,
+    pub device: Device,
     committed: AtomicU64,
     recorded: Recorded,
     is_unreadable: AtomicBool,
@@ -207,6 +250,7 @@ impl<M: Mark> Room<M> {
         bell: Bell,
         telling: Telling,
         last_error: LastError,
+        device: Device,
         committed: u64,
     ) -> Room<M>
         requires sized { (screen.format ≡ M.head.format) × (screen.size.width ≡ M.head.width) × (screen.size.height ≡ M.head.height) }
@@ -224,6 +268,7 @@ impl<M: Mark> Room<M> {
             bell,
             telling,
             last_error,
+            device,
             committed: AtomicU64::new(committed),
             recorded: Recorded {
                 messages: AtomicU64::new(0),

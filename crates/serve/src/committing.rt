@@ -45,7 +45,12 @@ impl<'a, M: Mark, R: Clock + Wait> Committing<'a, M, R> {
 }
 
 impl<'a, M: Mark, R: Clock + Wait> ReceiptSink<Receipt<M>> for Committing<'a, M, R> {
+    fn writing(&mut self) {
+        self.room.device.begin(self.rt);
+    }
+
     fn receipt(&mut self, receipt: Receipt<M>) {
+        self.room.device.end();
         let slice = receipt.slice();
         let count = slice.messages.len() as u64;
         let mut bytes = 0u64;

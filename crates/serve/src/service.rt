@@ -8,14 +8,14 @@ use disk::Disk;
 use flusher_core::{HostRefusal, TakeRefusal};
 use recorder_opening::Stopped;
 use shared_book::{FlusherEnd, Mark, Shared, run_flusher, run_host};
-use sockets::{Stop, wait_for_stop};
+use sockets::{Stop, Woken, wait_for_stop};
 use std::io::Write;
 use std::net::{Shutdown, TcpListener, TcpStream};
 use std::sync::{Mutex, Wait};
 use std::thread::{JoinHandle, Scope, Threads};
-use std::time::Clock;
+use std::time::{Clock, Duration};
 use std::{io, thread};
-use telling::{Event, HostEnd};
+use telling::{Event, HostEnd, Silence};
 
 /// What the threads of a recorder share.
 #[derive(Drop)]
@@ -93,6 +93,7 @@ impl<'a, D: Disk, M: Mark, R: Clock + Wait> Service<'a, D, M, R> {
     fn flush(&self) -> Result<(), FlusherEnd> {
         let committing = Committing::new(self.rt, self.room);
         let end = run_flusher(self.rt, self.shared, committing, &NoTurnstile);
+        self.room.device.end();
         self.room.tell_recorded(self.rt);
         if let Err(why) = end {
             self.tell_why(why);
@@ -100,6 +101,20 @@ impl<'a, D: Disk, M: Mark, R: Clock + Wait> Service<'a, D, M, R> {
         }
         self.room.intake.end(self.rt);
         end
+    }
+
+    // Tells where the device doesn't answer, and where it goes on, until the bell rings.
+    fn watch_device(&self) {
+        let room = self.room;
+        let mut silence = Silence::new();
+        for _ in self.rt.forever() {
+            if room.bell.wait(None, Some(Duration::from_secs(1))) == Woken::Rung {
+                return;
+            }
+            if let Some(answering) = room.device.look(self.rt, &mut silence) {
+                room.telling.tell(self.rt, Event::Device(answering));
+            }
+        }
     }
 
     // Waits for what stops the recorder from outside, and stops it.
@@ -196,6 +211,9 @@ impl<'a, D: Disk + Send, M: Mark + Send + Sync, R: Threads + Clock + Wait + Sync
         };
         if stop.may_come() {
             scope.spawn(move || self.stop_when(stop)).ok()?;
+        }
+        if host.is_some() && self.room.telling.is_verbose() {
+            scope.spawn(move || self.watch_device()).ok()?;
         }
         let viewers = scope.spawn(move || self.accept_all()).ok()?;
         Some(Crew { host, viewers })

@@ -5,7 +5,7 @@ ghost use Rattle.flusher_core.specs.State.{accepted_count};
 
 use crate::refusing::refuse;
 use crate::service::{Service, run_threads};
-use connections::{Plan, Refusal, Room};
+use connections::{Device, Plan, Refusal, Room};
 use file_disk::{LastError, Written};
 use libc::STDERR_FILENO;
 use recorder_opening::{Opened, Opening, Source, Stopped};
@@ -25,7 +25,7 @@ use telling::{Event, Telling};
 
 // What the threads of a recorder share beside the recording. It is boxed, since it is large, and each
 // way out of a function that owns it would take it apart.
-fn room_of<M: Mark, R: AllocGlobal>(
+fn room_of<M: Mark, R: AllocGlobal + Clock>(
     rt: &R,
     plan: &Plan<'_>,
     opened: &Opened,
@@ -46,6 +46,7 @@ fn room_of<M: Mark, R: AllocGlobal>(
         bell,
         telling.share()?,
         last_error,
+        Device::new(rt),
         desk.committed(),
     );
     Ok(Box::new(alloc, room)?)

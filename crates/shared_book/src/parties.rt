@@ -45,6 +45,9 @@ pub trait HostSource<T>: Drop {
 
 /// What takes the flusher's receipts, one for each commit.
 pub trait ReceiptSink<T>: Drop {
+    /// Takes word that a block is written now. What comes of it is its receipt, or the flusher's end.
+    fn writing(&mut self) {}
+
     /// Takes the receipt of what was committed.
     fn receipt(&mut self, receipt: T);
 

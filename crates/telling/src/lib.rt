@@ -4,9 +4,11 @@
 
 mod output;
 mod queue;
+mod silence;
 mod telling;
 mod words;
 
 pub use queue::{Item, Queue};
+pub use silence::{Answering, Silence};
 pub use telling::Telling;
 pub use words::{Event, HostEnd};

@@ -3,7 +3,7 @@
 ghost use Rattle.std.specs.Prelude.{◌≡◌, false, true};
 
 /// What a viewer's worker does once the device failed in reading for it.
-#[derive(Clone, Copy, Debug, PartialEq, Eq)]
+#[derive(Clone, Copy, PartialEq)]
 pub enum AfterFailure {
     /// It goes on at the newest screen, which is in memory.
     Newest,
