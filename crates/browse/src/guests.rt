@@ -74,6 +74,13 @@ impl Guests {
         self.guests.iter().position(|guest| guest.number == number)
     }
 
+    // Where the first connection stands that gives way at this time.
+    fn first_silent(&self, now: u64) -> Option<usize>
+        ensures { result ≡ position (is_silent now) self.now }
+    {
+        self.guests.iter().position(|guest| is_silent(guest, now))
+    }
+
     /// Receives a connection of this number at this time. If as many as may be are served, it takes
     /// the place of the first that has said nothing for a second, without a whole request.
     pub fn enter(&mut self, number: u64, now: u64) -> Entrance
@@ -93,11 +100,12 @@ impl Guests {
             self.guests.push(guest);
             return Entrance::Free;
         }
-        match self.guests.iter().position(|guest| is_silent(guest, now)) {
+        match self.first_silent(now) {
             Some(silent) => {
-                let gone = self.guests.remove(silent);
+                let gone = self.guests[silent].number;
+                self.guests.remove(silent);
                 self.guests.push(guest);
-                Entrance::InPlaceOf(gone.number)
+                Entrance::InPlaceOf(gone)
             }
             None => Entrance::Full,
         }
