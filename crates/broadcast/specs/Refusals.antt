@@ -2,8 +2,8 @@
 use Rattle.std.specs.Prelude.{ℕ, List, [], ◌∷◌}
 use Rattle.terms.specs.Fault.{IsNumber}
 use Rattle.flusher_core.specs.Refusals.{host_refusals, take_refusals, flush_refusals}
-use Rattle.gated_journal.specs.declared.faults.ReadFault.{ReadFault}
-use Rattle.gated_journal.specs.declared.faults.ReadFault.TheVariants as read
+use Rattle.block_walk.specs.declared.faults.ReadFault.{ReadFault}
+use Rattle.block_walk.specs.declared.faults.ReadFault.TheVariants as read
 use Rattle.broadcast.specs.declared.refusal.JoinRefusal.{JoinRefusal}
 use Rattle.broadcast.specs.declared.refusal.JoinRefusal.TheVariants as joining
 use Rattle.broadcast.specs.declared.refusal.NextRefusal.{NextRefusal}

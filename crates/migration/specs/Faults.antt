@@ -1,11 +1,11 @@
 -- The faults by the numbers that programs print, from 1 on, and what becomes of those of the layers
 -- below.
 use Rattle.std.specs.Prelude.{List, [], ◌∷◌}
-use Rattle.gated_journal.specs.declared.faults.CreateFault.{CreateFault}
-use Rattle.gated_journal.specs.declared.faults.CreateFault.TheVariants as create
-use Rattle.gated_journal.specs.declared.faults.OpenFault.TheVariants as journal
-use Rattle.gated_journal.specs.declared.faults.ReadFault.{ReadFault}
-use Rattle.gated_journal.specs.declared.faults.ReadFault.TheVariants as read
+use Rattle.block_walk.specs.declared.faults.CreateFault.{CreateFault}
+use Rattle.block_walk.specs.declared.faults.CreateFault.TheVariants as create
+use Rattle.block_walk.specs.declared.faults.OpenFault.TheVariants as journal
+use Rattle.block_walk.specs.declared.faults.ReadFault.{ReadFault}
+use Rattle.block_walk.specs.declared.faults.ReadFault.TheVariants as read
 use Rattle.key_index.specs.declared.faults.IndexFault.{IndexFault}
 use Rattle.key_index.specs.declared.faults.IndexFault.TheVariants as index
 use Rattle.migration.specs.declared.fault.MigrateFault.{MigrateFault}

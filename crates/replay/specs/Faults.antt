@@ -1,7 +1,7 @@
 -- The faults by the numbers that programs print, from 1 on, and why a message isn't read.
 use Rattle.std.specs.Prelude.{List, [], ◌∷◌}
-use Rattle.gated_journal.specs.declared.faults.ReadFault.{ReadFault}
-use Rattle.gated_journal.specs.declared.faults.ReadFault.TheVariants as read
+use Rattle.block_walk.specs.declared.faults.ReadFault.{ReadFault}
+use Rattle.block_walk.specs.declared.faults.ReadFault.TheVariants as read
 use Rattle.replay.specs.declared.fault.ReplayFault.{ReplayFault}
 use Rattle.replay.specs.declared.fault.ReplayFault.TheVariants as replay
 
