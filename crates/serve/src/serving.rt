@@ -173,20 +173,26 @@ where
     requires { L.IsAlwaysCallable listen }
 {
     let telling = &Telling::new(rt.alloc(), plan.is_verbose)?;
-    thread::scope(thread::scope_env(), rt, |scope| {
-        let is_written = !telling.is_verbose()
-            || scope
-                .spawn(move || telling.write_to(rt, STDERR_FILENO))
-                .is_ok();
-        let ended = if is_written {
-            run(rt, plan, telling, listen, out, err)
-        } else {
-            Err(Stopped::Refused(Refusal::Thread))
-        };
-        let outcome = outcome_of(rt, telling, ended, err);
-        telling.end(rt);
-        outcome
-    })
+    thread::scope(
+        thread::scope_env(),
+        rt,
+        |scope|
+            requires { L.IsAlwaysCallable listen }
+        {
+            let is_written = !telling.is_verbose()
+                || scope
+                    .spawn(move || telling.write_to(rt, STDERR_FILENO))
+                    .is_ok();
+            let ended = if is_written {
+                run(rt, plan, telling, listen, out, err)
+            } else {
+                Err(Stopped::Refused(Refusal::Thread))
+            };
+            let outcome = outcome_of(rt, telling, ended, err);
+            telling.end(rt);
+            outcome
+        },
+    )
 }
 
 /// The same with viewers who connect to the plan's address.
