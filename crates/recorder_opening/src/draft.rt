@@ -5,7 +5,7 @@ ghost use Rattle.recording_bytes.specs.Recording.{Block, Head, Recording};
 
 use disk::MemoryDisk;
 use file_disk::create_exclusively;
-use gated_journal::{Journal, OpenFault};
+use gated_journal::{Journal, OpenFault, one_reading};
 use recording_bytes::{LONGEST_NAME, u16_of};
 use std::alloc::{AllocError, Global};
 use std::fs::{File, Metadata};
@@ -75,7 +75,10 @@ pub fn is_left_by_creation(alloc: Global, bytes: Vec<u8>) -> Result<bool, OpenFa
     if !is_front(&bytes) {
         return Ok(false);
     }
-    match Journal::open(alloc, MemoryDisk::from_bytes(alloc, bytes)) {
+    one_reading();
+    let disk = MemoryDisk::from_bytes(alloc, bytes);
+    let _content = disk.bytes();
+    match Journal::open(alloc, disk) {
         Ok(journal) => Ok(journal.blocks() == 0),
         Err(refused) => match refused.fault {
             OpenFault::NotARecording => Ok(true),
@@ -88,9 +91,7 @@ pub fn is_left_by_creation(alloc: Global, bytes: Vec<u8>) -> Result<bool, OpenFa
 // Whether an open file is the one at a path, and no link to it.
 fn is_at<R: Files<File = File>>(rt: &R, file: &Metadata, path: &str) -> bool {
     match fs::symlink_metadata(rt, path) {
-        Ok(found) => {
-            found.is_file() && found.dev() == file.dev() && found.ino() == file.ino()
-        }
+        Ok(found) => { found.is_file() && found.dev() == file.dev() && found.ino() == file.ino() }
         Err(_) => false,
     }
 }
