@@ -46,12 +46,14 @@ fn salvaged(
 ) -> Result<(u64, Option<LeftOut>), Refusal> {
     let fault = source.fault().map(IndexFault::Journal);
     match salvage(alloc, source, target) {
-        Ok(Salvaged {
-            journal,
-            messages,
-            last_time,
-            wrong,
-        }) => {
+        Ok(
+            Salvaged {
+                journal,
+                messages,
+                last_time,
+                wrong,
+            },
+        ) => {
             let left_out = wrong.or(fault).map(|fault| LeftOut {
                 bytes: length.saturating_sub(journal.end() - 1),
                 after: last_time,
