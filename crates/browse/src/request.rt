@@ -110,7 +110,10 @@ pub fn asked_by(target: &[u8]) -> Option<Asked>
 // Whether a name is an address of the Internet Protocol, that of version 6 in brackets (RFC 3986,
 // section 3.2.2).
 fn is_address(name: &str) -> bool {
-    match name.strip_prefix("[").and_then(|rest| rest.strip_suffix("]")) {
+    match name
+        .strip_prefix("[")
+        .and_then(|rest| rest.strip_suffix("]"))
+    {
         Some(inner) => inner.parse::<Ipv6Addr>().is_ok(),
         None => name.parse::<Ipv4Addr>().is_ok(),
     }

@@ -2,8 +2,8 @@
 
 ghost use Rattle.std.specs.Prelude.{◌<◌};
 
-use crate::lobby::Lobby;
 use crate::answer::{Head, write_failure, write_fault, write_head, write_text};
+use crate::lobby::Lobby;
 use crate::page::{PAGE, SCRIPT, STYLE};
 use crate::request::{Asked, Judged};
 use file_commands::{Ended, Moment, Refusal, Stretch, StretchSink, screen_of, survey};
@@ -166,7 +166,12 @@ impl Site {
         }
     }
 
-    fn answer_asked<R: Eprint + Wait, W: Write>(&self, rt: &R, asked: Asked, out: &mut W) -> io::Result<()> {
+    fn answer_asked<R: Eprint + Wait, W: Write>(
+        &self,
+        rt: &R,
+        asked: Asked,
+        out: &mut W,
+    ) -> io::Result<()> {
         match asked {
             Asked::Page => write_text(out, "200 OK", "text/html; charset=utf-8", PAGE),
             Asked::Script => write_text(out, "200 OK", "text/javascript; charset=utf-8", SCRIPT),
@@ -185,7 +190,12 @@ impl Site {
     }
 
     /// Answers what was judged; nothing to what isn't finished.
-    pub fn answer<R: Eprint + Wait, W: Write>(&self, rt: &R, judged: Judged, out: &mut W) -> io::Result<()> {
+    pub fn answer<R: Eprint + Wait, W: Write>(
+        &self,
+        rt: &R,
+        judged: Judged,
+        out: &mut W,
+    ) -> io::Result<()> {
         match judged {
             Judged::Unfinished => Ok(()),
             Judged::Asked(asked) => self.answer_asked(rt, asked, out),

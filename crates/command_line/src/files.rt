@@ -3,7 +3,8 @@
 use crate::numbers::{if_given, number, time, within};
 use clap::ArgMatches;
 use file_commands::{
-    Chaining, Extract, FileCommand, Filming, Migration, Moment, PictureFormat, Scene, Timing,
+    Chaining, Extract, FileCommand, Filming, Migration, Moment, PictureFormat, Salvaging, Scene,
+    Timing,
 };
 use hex::FromHex;
 
@@ -69,6 +70,13 @@ fn migration<'a>(matches: &ArgMatches<'a>) -> Option<Migration<'a>> {
     })
 }
 
+fn salvaging<'a>(matches: &ArgMatches<'a>) -> Option<Salvaging<'a>> {
+    Some(Salvaging {
+        recording: matches.get_str("PATH")?,
+        out: matches.get_str("OUT")?,
+    })
+}
+
 fn timing<'a>(matches: &ArgMatches<'a>) -> Option<Timing<'a>> {
     let seconds = within(matches.get_str("SECONDS"), 1, 86_400, 10)?;
     Some(Timing {
@@ -88,6 +96,7 @@ pub fn on_files<'a>(name: &str, matches: &ArgMatches<'a>) -> Option<FileCommand<
         "picture" => scene(matches).map(FileCommand::Picture),
         "frames" => filming(matches).map(FileCommand::Frames),
         "migrate" => migration(matches).map(FileCommand::Migrate),
+        "salvage" => salvaging(matches).map(FileCommand::Salvage),
         "export" => extract(matches).map(FileCommand::Export),
         "fbs-check" => matches.get_str("PATH").map(FileCommand::FbsCheck),
         _ => None,

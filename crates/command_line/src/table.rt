@@ -27,7 +27,7 @@ struct CommandWords {
     arguments: &'static [Argument],
 }
 
-const COMMANDS: [CommandWords; 13] = [
+const COMMANDS: [CommandWords; 14] = [
     CommandWords {
         name: "drill",
         about: "Runs the drill script on standard input, and answers each of its lines",
@@ -66,6 +66,15 @@ const COMMANDS: [CommandWords; 13] = [
         name: "migrate",
         about: "Writes a recording of format 1 again in format 2, whose blocks have digests",
         example: "Example: recorderd migrate r chained",
+        arguments: &[
+            Word("PATH", "The recording"),
+            Word("OUT", "The file to write, without bytes or not there yet"),
+        ],
+    },
+    CommandWords {
+        name: "salvage",
+        about: "Writes what is right of a damaged recording, up to its first fault, into a new one",
+        example: "Example: recorderd salvage damaged saved",
         arguments: &[
             Word("PATH", "The recording"),
             Word("OUT", "The file to write, without bytes or not there yet"),

@@ -13,6 +13,8 @@ pub enum Area {
     Digest,
     /// A recording of format 1, written again in format 2.
     Migrate,
+    /// What is right of a damaged recording, written into a new one.
+    Salvage,
     /// A part of a recording, written as an FBS file.
     Export,
     /// An FBS file that is read.
@@ -46,6 +48,7 @@ impl Area {
             "replay" => Some(Area::Replay),
             "digest" => Some(Area::Digest),
             "migrate" => Some(Area::Migrate),
+            "salvage" => Some(Area::Salvage),
             "export" => Some(Area::Export),
             "fbs" => Some(Area::Fbs),
             "wire" => Some(Area::Wire),

@@ -7,7 +7,7 @@ ghost use Rattle.explanations.specs.Areas.{word_of, IsNumberOf};
 use crate::area::Area;
 use crate::exports::{EXPORT, FBS};
 use crate::peers::{HANDSHAKE, WIRE};
-use crate::recordings::{BOOK, DIGEST, INDEX, JOURNAL, MIGRATE, REPLAY};
+use crate::recordings::{BOOK, DIGEST, INDEX, JOURNAL, MIGRATE, REPLAY, SALVAGE};
 use crate::system::{FILE, NET, THREAD};
 
 // The text of a number, counted from 1.
@@ -43,6 +43,7 @@ pub fn explanation(area: Area, number: u64) -> Option<&'static str>
         Area::Replay => text_of(&REPLAY, number),
         Area::Digest => text_of(&DIGEST, number),
         Area::Migrate => text_of(&MIGRATE, number),
+        Area::Salvage => text_of(&SALVAGE, number),
         Area::Export => text_of(&EXPORT, number),
         Area::Fbs => text_of(&FBS, number),
         Area::Wire => text_of(&WIRE, number),

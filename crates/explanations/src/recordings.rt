@@ -7,7 +7,7 @@ written to it: name another PATH, or move the file away.";
 
 const DAMAGED: &str = "\
 With `block B`: block B isn't whole; the device or another program changed it.
-Nothing was written: restore the file from a copy, and see to the device.
+Restore the file from a copy, or `salvage` what is before B; see to the device.
 Without: the device failed, or is full, as a recording was made: start again.";
 
 const DEVICE_FAILED: &str = "\
@@ -21,28 +21,28 @@ Free memory or raise its limit, and start again.";
 
 const BAD_DIGEST: &str = "\
 The digest of block B isn't that of its bytes behind the blocks before it: block
-B was changed, or one before it dropped, inserted or changed.
-Nothing was written: restore the file from a copy.";
+B was changed, or one before it dropped, inserted or changed. Nothing was
+written: restore the file from a copy, or `salvage` what is before B.";
 
 const BAD_ENTRY: &str = "\
 An entry of block B is damaged: its kind or its length, or how the block ends.
-The device or another program changed the file. Nothing was written: restore
-the file from a copy, and see to the device.";
+The device or another program changed the file. Restore it from a copy, or
+`salvage` what is before B; see to the device.";
 
 const BAD_MESSAGE: &str = "\
 An entry of block B isn't one message of a host for a screen of this size.
-The device or another program changed the file. Nothing was written: restore
-the file from a copy, and see to the device.";
+The device or another program changed the file. Restore it from a copy, or
+`salvage` what is before B; see to the device.";
 
 const KEY_DIFFERS: &str = "\
 The key screen of block B is missing, isn't due, or shows another screen than
-the messages before it paint. The device or another program changed the file.
-Nothing was written: restore it from a copy, and see to the device.";
+the messages before it paint. The device or another program changed the file:
+restore it from a copy, or `salvage` what is before B; see to the device.";
 
 const TIMES_FALL: &str = "\
 A message of block B has an earlier time than the one before it.
-The device or another program changed the file. Nothing was written: restore
-the file from a copy, and see to the device.";
+The device or another program changed the file. Restore it from a copy, or
+`salvage` what is before B; see to the device.";
 
 const NO_MEMORY_FOR_MESSAGES: &str = "\
 Memory ran out while the messages of a recording were read. Nothing was written.
@@ -145,6 +145,35 @@ pub const MIGRATE: [&str; 6] = [
     NO_MEMORY_TO_MIGRATE,
     ALREADY_TWO,
     TOO_LONG_IN_TWO,
+];
+
+const SAVED_TARGET_NOT_EMPTY: &str = "\
+The file to write has bytes, and is as it was.
+Name a file that isn't there; what an earlier `salvage` was refused in, remove.";
+
+const DAMAGED_SOURCE_FAILED: &str = "\
+The damaged recording can't be read: its disk failed, or it changed meanwhile.
+Copy what can be read of it to another disk, and salvage that.";
+
+const SAVED_TARGET_FAILED: &str = "\
+The file to write can't be written or synced: full, gone, or failing.
+Remove it, mend that, and salvage again; the damaged recording is as it was.";
+
+const NO_MEMORY_TO_SALVAGE: &str = "\
+Out of memory. The largest block is read whole, and two screens are painted.
+Remove the file to write, and salvage again with more memory.";
+
+const TOO_LONG_TO_SALVAGE: &str = "\
+The recording would be longer than one may be, which is 2^40 bytes.
+No recorder makes such a file: see how it came to be.";
+
+/// The texts of `salvage`, from 1 on.
+pub const SALVAGE: [&str; 5] = [
+    SAVED_TARGET_NOT_EMPTY,
+    DAMAGED_SOURCE_FAILED,
+    SAVED_TARGET_FAILED,
+    NO_MEMORY_TO_SALVAGE,
+    TOO_LONG_TO_SALVAGE,
 ];
 
 /// The texts of `book`, from 1 on.

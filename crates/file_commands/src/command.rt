@@ -5,7 +5,8 @@ use crate::exporting::Extract;
 use crate::framing::Filming;
 use crate::migrating::Migration;
 use crate::picturing::Scene;
-use crate::refusal::{Ended, answer};
+use crate::refusal::{Ended, LeftOut, answer};
+use crate::salvaging::Salvaging;
 use crate::timing::Timing;
 use file_disk::Progress;
 use std::fs::File;
@@ -42,6 +43,10 @@ pub enum FileCommand<'a> {
     /// has. The new file is created only once it is known that the recording can be migrated; one
     /// with bytes is refused, and stays as it is.
     Migrate(Migration<'a>),
+    /// `salvage` writes the blocks of a recording before its first fault into a new one, as they are,
+    /// and prints how many messages they have. What is left out is said on standard error. The new
+    /// file is as that of `migrate`.
+    Salvage(Salvaging<'a>),
     /// `fbs-check` prints the size of the FBS file at a path, how many messages it has, and how many
     /// bytes of an unfinished last one.
     FbsCheck(&'a str),
@@ -59,6 +64,7 @@ impl FileCommand<'_> {
             FileCommand::Frames(_) => "frames",
             FileCommand::Export(_) => "export",
             FileCommand::Migrate(_) => "migrate",
+            FileCommand::Salvage(_) => "salvage",
             FileCommand::FbsCheck(_) => "fbs-check",
         }
     }
@@ -77,6 +83,7 @@ impl FileCommand<'_> {
             FileCommand::Frames(what) => work.frames(what),
             FileCommand::Export(what) => work.export(what),
             FileCommand::Migrate(what) => work.migrate(what),
+            FileCommand::Salvage(what) => work.salvage(what),
             FileCommand::FbsCheck(path) => work.fbs_check(path),
         }
     }
@@ -91,6 +98,8 @@ pub struct Work<'a, R, O> {
     pub progress: Progress,
     /// Where the command prints.
     pub out: &'a mut O,
+    /// What it leaves out, to be told on standard error.
+    pub left_out: Option<LeftOut>,
 }
 
 /// Runs a command: what it prints is written to `out`, and long work told of to a person. Answers
@@ -103,6 +112,16 @@ pub fn run<R: Files<File = File> + AllocGlobal, O: Write, E: Write>(
     out: &mut O,
     err: &mut E,
 ) -> io::Result<bool> {
-    let mut work = Work { rt, progress, out };
-    answer(command.word(), command.carry_out(&mut work), err)
+    let mut work = Work {
+        rt,
+        progress,
+        out,
+        left_out: None,
+    };
+    let outcome = command.carry_out(&mut work);
+    if let Some(left_out) = work.left_out {
+        let word = command.word();
+        writeln!(err, "recorderd: {word} {left_out}")?;
+    }
+    answer(command.word(), outcome, err)
 }

@@ -12,6 +12,7 @@ mod migrating;
 mod picturing;
 mod recording;
 mod refusal;
+mod salvaging;
 mod surveying;
 mod timing;
 
@@ -24,6 +25,7 @@ pub use migrating::Migration;
 pub use pictures::PictureFormat;
 pub use picturing::{Moment, Scene, screen_of};
 pub use recording::open_path;
-pub use refusal::{DigestFault, Ended, Refusal, answer, refuse};
+pub use refusal::{DigestFault, Ended, LeftOut, Refusal, answer, refuse};
+pub use salvaging::Salvaging;
 pub use surveying::{Stretch, StretchSink, survey};
 pub use timing::Timing;

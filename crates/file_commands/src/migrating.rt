@@ -25,9 +25,9 @@ pub struct Migration<'a> {
     pub out: &'a str,
 }
 
-// A file to be read and written: a new one, or one that is there. One without bytes is its owner's
-// alone, as a new recording's is; one with bytes stays as it is.
-fn open_target<R: Files<File = File>>(files: &R, path: &str) -> io::Result<File> {
+/// A file to be read and written: a new one, or one that is there. One without bytes is its owner's
+/// alone, as a new recording's is; one with bytes stays as it is.
+pub fn open_target<R: Files<File = File>>(files: &R, path: &str) -> io::Result<File> {
     match create_exclusively(files, path) {
         Err(error) if error.kind() == io::ErrorKind::AlreadyExists => {}
         created => return created,

@@ -25,9 +25,10 @@ struct GrowingDisk {
 impl GrowingDisk {
     // The file that a call finds.
     fn file(&mut self) -> Result<&[u8], DiskFault> {
+        let last = self.states.len().saturating_sub(1);
         if self.waiting > 0 {
             self.waiting -= 1;
-        } else if self.state + 1 < self.states.len() {
+        } else if self.state < last {
             self.state += 1;
         }
         match self.states.get(self.state) {
