@@ -3,7 +3,7 @@ use Rattle.std.proofs.Common.{◌≡◌, List, ℕ, length, sym, ◌∙◌, ap, 
 use Rattle.std.proofs.lemmas.Bool.{eqb-true}
 use Rattle.std.proofs.lemmas.List.{nil_from_length}
 use Rattle.disk.specs.Memory.{Kept}
-use Rattle.gated_journal.specs.Journal.{IsJudged}
+use Rattle.gated_journal.specs.Causes.{IsJudged}
 use Rattle.recording_bytes.specs.Recording.{Block, Head, Recording}
 use Rattle.recorder_opening.proofs.draft.is_left_by_creation.Goals as goal
 
