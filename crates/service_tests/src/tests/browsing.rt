@@ -115,7 +115,7 @@ fn all_is_answered(rt: &HostRuntime, place: SocketAddr) -> Result<(), Fail> {
 // Serves for two seconds: whether that is done, and what is printed.
 fn print<R>(rt: &R, file: &str, listener: TcpListener) -> io::Result<String>
 where
-    R: AllocGlobal + Clock + Files<File = File> + Sync + Threads + Wait,
+    R: AllocGlobal + Clock + Eprint + Files<File = File> + Sync + Threads + Wait,
     R: Net<Stream = TcpStream, Listener = TcpListener>,
 {
     let alloc = rt.alloc();
