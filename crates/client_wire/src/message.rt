@@ -33,14 +33,6 @@ impl Encodings {
     {
         &self.numbers
     }
-
-    /// Gives back the vector of the numbers.
-    pub fn into_vec(self) -> Vec<i32>
-        ensures { result.items ≡ self }
-    {
-        let Encodings { numbers } = self;
-        numbers
-    }
 }
 
 /// A message of a viewer (RFC 6143, section 7.5).

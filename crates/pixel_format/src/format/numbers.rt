@@ -78,21 +78,7 @@ impl PixelFormat {
         self.put_number(number, bytes);
     }
 
-    /// Appends the pixel of a number. Running out of memory may leave a part of it.
-    pub fn append_number(&self, number: u32, bytes: &mut Vec<u8>) -> Result<(), NoMemory>
-        requires { IsNumber self.now number }
-        ensures ok { OnOk result (Appends (IsPixel self.now (number_color self.now number)) bytes.old.items bytes.new.items) }
-        ensures written { OnOk result (bytes.new.items ≡ bytes.old.items ++ pixel_of self.now (number_color self.now number)) }
-        ensures grows { Grows bytes.old.items bytes.new.items }
-    {
-        match self.bytes() {
-            1 => self.append_sized_number(1, number, bytes),
-            2 => self.append_sized_number(2, number, bytes),
-            _ => self.append_sized_number(4, number, bytes),
-        }
-    }
-
-    // The same for pixels of so many bytes, which the compiler knows where it is called.
+    // Appends the pixel of a number, in so many bytes, which the compiler knows where it is called.
     #[inline(always)]
     fn append_sized_number(
         &self,

@@ -34,7 +34,7 @@ fn write_all(encodings: &[i32], out: &mut Vec<u8>) -> Result<(), NoMemory>
 fn messages_that_are_written(rt: HostRuntime) -> Result<(), Fail> {
     let encodings = Encodings::from_vec(Vec::from_slice(rt.alloc(), &[-239, 5])?);
     let mut out = Vec::new(rt.alloc());
-    write_all(&encodings.into_vec(), &mut out)?;
+    write_all(encodings.as_slice(), &mut out)?;
     assert!(rt; out.as_slice() == WRITTEN.as_slice());
     Ok(())
 }
