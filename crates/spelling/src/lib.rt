@@ -1,0 +1,8 @@
+//! How moments of a recording, and names and paths, are spelled on the command line.
+#![tactic(auto)]
+
+mod escaping;
+mod moments;
+
+pub use escaping::Escaped;
+pub use moments::moment;
