@@ -31,7 +31,7 @@ pub enum Asked {
     Style,
     /// `/times`: the recording's size and length, and what came when, as JSON.
     Times,
-    /// `/picture?at=TIME` or `/picture?message=COUNT`: the screen at a moment, as a BMP picture.
+    /// `/picture?at=TIME` or `/picture?message=COUNT`: the screen at a moment, as a PNG picture.
     Picture(Moment),
 }
 

@@ -5,7 +5,7 @@ ghost use Rattle.std.specs.Prelude.{◌<◌};
 use crate::connection::attend;
 use crate::lobby::Lobby;
 use crate::site::Site;
-use file_commands::{Ended, Refusal, answer, open_path};
+use file_commands::{Ended, Places, Refusal, SystemError, answer, open_path};
 use file_disk::Progress;
 use sockets::{Accepted, Bell, Stop, accept, wait_for_stop};
 use std::alloc::Global;
@@ -27,6 +27,19 @@ pub struct Browsing<'a> {
     pub listen: &'a str,
     /// When it ends.
     pub stop: Stop,
+    /// Whether a second line says what the system said where it is refused.
+    pub is_verbose: bool,
+}
+
+impl<'a> Browsing<'a> {
+    // What its words name.
+    fn places(&self) -> Places<'a> {
+        Places {
+            source: self.recording,
+            out: "",
+            listen: self.listen,
+        }
+    }
 }
 
 // Serves a connection on a thread of its own, if it is one of few. One too many is closed.
@@ -98,6 +111,11 @@ fn open<R: AllocGlobal + Clock + Files<File = File> + Net>(
     Site::new(rt.alloc(), index, Lobby::new(rt)?, Bell::new(rt)?)
 }
 
+// What fails of a listener.
+fn broken(error: io::Error) -> Refusal {
+    Refusal::Net(SystemError::of(&error))
+}
+
 // Listens, says where, and serves until it is to end.
 fn serve<R, L, O: Write>(
     rt: &R,
@@ -111,9 +129,7 @@ where
     L: FnOnce() -> io::Result<TcpListener> + Drop,
     requires { L.IsAlwaysCallable listen }
 {
-    let Ok(listener) = listen() else {
-        return Err(Ended::Refused(Refusal::Net));
-    };
+    let listener = listen().map_err(broken)?;
     listener.set_nonblocking(true)?;
     let address = listener.local_addr()?;
     writeln!(out, "browsing http://{address}/")?;
@@ -123,10 +139,7 @@ where
         rt,
         |scope| serve_in(rt, scope, site, &listener, stop),
     );
-    match served {
-        Ok(()) => Ok(()),
-        Err(_) => Err(Ended::Refused(Refusal::Net)),
-    }
+    Ok(served.map_err(broken)?)
 }
 
 fn run<R, L, O: Write>(
@@ -164,7 +177,8 @@ where
     L: FnOnce() -> io::Result<TcpListener> + Drop,
     requires { L.IsAlwaysCallable listen }
 {
-    answer("browse", run(rt, &what, listen, progress, out), err)
+    let places = what.is_verbose.then_some(what.places());
+    answer("browse", run(rt, &what, listen, progress, out), places, err)
 }
 
 /// Listens at an address; a number alone is a port of this machine, which no other machine reaches.

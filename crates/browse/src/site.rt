@@ -10,7 +10,7 @@ use file_commands::{Ended, Moment, Refusal, Stretch, StretchSink, screen_of, sur
 use file_disk::FileDisk;
 use key_index::Indexed;
 use painter::Screen;
-use pictures::{PictureFormat, write_picture};
+use pictures::{PictureFormat, png_length, write_picture};
 use replay::ReplayFault;
 use sockets::Bell;
 use std::alloc::Global;
@@ -79,14 +79,13 @@ fn write_times<W: Write>(index: &mut Indexed<FileDisk>, out: &mut W) -> Result<(
 
 // A picture of a screen.
 fn write_screen<W: Write>(alloc: Global, screen: &Screen, out: &mut W) -> io::Result<()> {
-    let ScreenSize { width, height } = screen.size();
     let head = Head {
         status: "200 OK",
-        media: "image/bmp",
-        size: 54 + 4 * u64::from(width) * u64::from(height),
+        media: "image/png",
+        size: png_length(screen.size()),
     };
     write_head(out, head)?;
-    write_picture(alloc, screen, PictureFormat::Bmp, out)
+    write_picture(alloc, screen, PictureFormat::Png, out)
 }
 
 // Why a recording can't be read, where that is why there is no picture.

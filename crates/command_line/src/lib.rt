@@ -1,11 +1,13 @@
 //! The command line of `recorderd`: its words, and what is done by them.
 #![tactic(auto)]
 
+mod advice;
 mod files;
 mod numbers;
 mod running;
 mod servers;
 mod table;
 mod words;
+mod wrong;
 
-pub use running::command;
+pub use running::{command, no_words};

@@ -10,11 +10,6 @@ pub fn number(word: &str) -> Option<u64> {
     word.parse().ok()
 }
 
-/// A time in milliseconds of a recording.
-pub fn time(word: &str) -> Option<u32> {
-    u32::try_from(number(word)?).ok()
-}
-
 /// A decimal number with at most three places behind the point, in thousandths.
 pub fn thousandths(word: &str) -> Option<u32> {
     let (whole, part) = word.split_once(".").unwrap_or((word, "0"));

@@ -2,9 +2,11 @@
 
 ghost use Rattle.std.specs.Prelude.{◌≤◌};
 
+use crate::advice::{ADDRESS, asks_for_more, has_port};
 use crate::words::{Chosen, read_words};
-use file_commands::{create_new, keep, refuse, run};
+use file_commands::{FileCommand, Places, Refusal, create_new, keep, refuse, run};
 use file_disk::Progress;
+use serve::Plan;
 use std::fs::File;
 use std::io;
 use std::io::{Read, Write};
@@ -21,27 +23,60 @@ const REFUSED: u8 = 1;
 /// The words are no command line.
 const BAD_WORDS: u8 = 2;
 
+/// What a bad command line is told by, whatever is wrong with it.
+const BAD: &str = "recorderd: bad command line";
+
+// Says why the file of a drill's recording isn't made or written.
+fn refuse_drill<E: Write>(
+    path: &str,
+    refusal: Refusal,
+    is_verbose: bool,
+    err: &mut E,
+) -> io::Result<bool> {
+    let places = Places {
+        source: "",
+        out: path,
+        listen: "",
+    };
+    refuse("drill", refusal, is_verbose.then_some(places), err)?;
+    Ok(false)
+}
+
 // Runs a drill whose recording is kept in a new file, which is made first.
 fn drill_to_file<R: Files<File = File> + AllocGlobal, I: Read + Drop, O: Write, E: Write>(
     rt: &R,
     path: &str,
+    is_verbose: bool,
     input: I,
     out: &mut O,
     err: &mut E,
 ) -> io::Result<bool> {
     let mut disk = match create_new(rt, path) {
         Ok(disk) => disk,
-        Err(refusal) => {
-            refuse("drill", refusal, err)?;
-            return Ok(false);
-        }
+        Err(refusal) => return refuse_drill(path, refusal, is_verbose, err),
     };
     let ran = drill::run_and_read(rt.alloc(), input, out)?;
-    if let Err(refusal) = keep(rt, path, &mut disk, &ran.recording) {
-        refuse("drill", refusal, err)?;
-        return Ok(false);
+    match keep(rt, path, &mut disk, &ran.recording) {
+        Ok(()) => Ok(ran.is_whole),
+        Err(refusal) => refuse_drill(path, refusal, is_verbose, err),
     }
-    Ok(ran.is_whole)
+}
+
+// Prints a line for each recording: whether all can be read.
+fn info<R: Files<File = File> + AllocGlobal, O: Write, E: Write>(
+    rt: &R,
+    paths: &[&str],
+    is_verbose: bool,
+    progress: Progress,
+    out: &mut O,
+    err: &mut E,
+) -> io::Result<bool> {
+    let mut is_whole = true;
+    for path in paths {
+        let is_done = run(rt, &FileCommand::Info(path), is_verbose, progress, out, err)?;
+        is_whole = is_whole && is_done;
+    }
+    Ok(is_whole)
 }
 
 fn print<O: Write>(out: &mut O, text: &str) -> io::Result<bool> {
@@ -49,14 +84,27 @@ fn print<O: Write>(out: &mut O, text: &str) -> io::Result<bool> {
     Ok(true)
 }
 
-// The status of a bad command line, which is told.
-fn bad_words<E: Write>(err: &mut E) -> u8
+// The status of a bad command line, which is told, and at length why.
+fn bad_words<E: Write>(why: &str, is_verbose: bool, err: &mut E) -> u8
     ensures { result ≤ 2 }
 {
-    match writeln!(err, "recorderd: bad command line") {
+    let told = if is_verbose {
+        write!(err, "{BAD}\n{why}")
+    } else {
+        writeln!(err, "{BAD}")
+    };
+    match told {
         Ok(()) => BAD_WORDS,
         Err(_) => REFUSED,
     }
+}
+
+/// Tells of words that can't be read, since one is no text, and why where it `is_verbose`. Answers the
+/// exit status: that of a bad command line, or 1 where it can't be told.
+pub fn no_words<E: Write>(is_verbose: bool, err: &mut E) -> u8
+    ensures { result ≤ 2 }
+{
+    bad_words("error: a word isn't text in UTF-8\n", is_verbose, err)
 }
 
 // Prints what a refusal means, on a line of its own.
@@ -78,13 +126,34 @@ fn status_of<O: Write>(done: io::Result<bool>, out: &mut O) -> u8
     }
 }
 
-/// Runs the program: the words of its command line (the first is its own name), where long work is
-/// told of, its input, and its two outputs; files and sockets are those of the runtime. Answers the
-/// exit status: 0 where it is done, 1 where it is refused, where memory for its own work is, or where
-/// a stream can't be read or written, and 2 for a bad command line.
+// Serves; where it is refused and the address to listen at has no port, advice may be told.
+fn served<R, O: Write, E: Write>(
+    rt: &R,
+    plan: &Plan<'_>,
+    is_verbose: bool,
+    out: &mut O,
+    err: &mut E,
+) -> io::Result<bool>
+where
+    R: AllocGlobal + Clock + Eprint + Files<File = File> + Sync + Threads + Wait,
+    R: Net<Stream = TcpStream, Listener = TcpListener>,
+{
+    let is_done = serve::serve(rt, plan, out, err)?;
+    if !is_done && is_verbose && !has_port(plan.listen) {
+        writeln!(err, "recorderd: {ADDRESS}")?;
+    }
+    Ok(is_done)
+}
+
+/// Runs the program: the words of its command line (the first is its own name), whether a person is at
+/// its standard error, where long work is told of, its input, and its two outputs; files and sockets
+/// are those of the runtime. To a person, and with `--verbose`, more is told of a refusal than its
+/// line. Answers the exit status: 0 where it is done, 1 where it is refused, where memory for its own
+/// work is, or where a stream can't be read or written, and 2 for a bad command line.
 pub fn command<R, I: Read + Drop, O: Write, E: Write>(
     rt: &R,
     words: &[String],
+    is_attended: bool,
     progress: Progress,
     input: I,
     out: &mut O,
@@ -96,25 +165,26 @@ where
     ensures { result ≤ 2 }
 {
     let alloc = rt.alloc();
-    let Ok(chosen) = read_words(alloc, words) else {
+    let is_verbose = is_attended || asks_for_more(words);
+    let Ok(chosen) = read_words(alloc, words, is_verbose) else {
         return REFUSED;
     };
     let done = match chosen {
         Chosen::Drill { keep: None } => drill::run(alloc, input, out),
-        Chosen::Drill { keep: Some(path) } => drill_to_file(rt, path, input, out, err),
-        Chosen::OnFiles(what) => run(rt, &what, progress, out, err),
+        Chosen::Drill { keep: Some(path) } => {
+            drill_to_file(rt, path, is_verbose, input, out, err)
+        }
+        Chosen::OnFiles(what) => run(rt, &what, is_verbose, progress, out, err),
+        Chosen::Info(paths) => info(rt, &paths, is_verbose, progress, out, err),
         Chosen::Browse(what) => {
             let address = what.listen;
             let listen = || browse::listen_at(rt, alloc, address);
             browse::browse(rt, what, listen, progress, out, err)
         }
-        Chosen::Serve(plan) => serve::serve(rt, &plan, out, err),
+        Chosen::Serve(plan) => served(rt, &plan, is_verbose, out, err),
         Chosen::Text(text) => print(out, &text),
-        Chosen::Explain(area, number) => match explanations::explain(area, number) {
-            Some(text) => print_line(out, text),
-            None => return bad_words(err),
-        },
-        Chosen::Bad => return bad_words(err),
+        Chosen::Explain(text) => print_line(out, text),
+        Chosen::Bad(why) => return bad_words(&why, is_verbose, err),
     };
     status_of(done, out)
 }

@@ -1,84 +1,125 @@
 //! The words of the two servers, `browse` and `serve`.
 
-use crate::numbers::{if_given, number, thousandths, time, within};
+use crate::numbers::{if_given, number, thousandths, within};
+use crate::wrong::{MOMENT, SECONDS, Wrong, word};
 use browse::Browsing;
 use clap::ArgMatches;
-use serve::{Audience, Format, Origin, Pace, Plan, Playing, Stop};
+use serve::{Audience, Format, Origin, Pace, Plan, Playing, Stop, Told};
+use spelling::moment;
 
-fn stop(matches: &ArgMatches<'_>) -> Option<Stop> {
-    Some(Stop {
+fn stop(matches: &ArgMatches<'_>) -> Result<Stop, Wrong> {
+    let after = if_given(matches.get_str("SECONDS").map(number));
+    Ok(Stop {
         at_end_of_input: matches.get_flag("until-input-ends"),
-        after: if_given(matches.get_str("SECONDS").map(number))?,
+        after: after.ok_or(Wrong::Value("SECONDS", SECONDS))?,
     })
 }
 
 /// Which recording is looked at, and where.
-pub fn browsing<'a>(matches: &ArgMatches<'a>) -> Option<Browsing<'a>> {
-    Some(Browsing {
-        recording: matches.get_str("PATH")?,
+pub fn browsing<'a>(matches: &ArgMatches<'a>, is_verbose: bool) -> Result<Browsing<'a>, Wrong> {
+    Ok(Browsing {
+        recording: word(matches, "PATH")?,
         listen: matches.get_str("ADDR").unwrap_or("8080"),
         stop: stop(matches)?,
+        is_verbose,
     })
 }
 
 // By a number of messages, or by a time; one of the two is given at most.
-fn origin(matches: &ArgMatches<'_>) -> Option<Origin> {
+fn origin(matches: &ArgMatches<'_>) -> Result<Origin, Wrong> {
     match (matches.get_str("FROM"), matches.get_str("TIME")) {
-        (None | Some("live"), None) => Some(Origin::Live),
-        (Some(word), None) => Some(Origin::Count(number(word)?)),
-        (None, Some(word)) => Some(Origin::Time(time(word)?)),
-        _ => None,
+        (None | Some("live"), None) => Ok(Origin::Live),
+        (Some(word), None) => match number(word) {
+            Some(count) => Ok(Origin::Count(count)),
+            None => Err(Wrong::Value("FROM", "a number of messages, or live")),
+        },
+        (None, Some(word)) => match moment(word) {
+            Some(time) => Ok(Origin::Time(time)),
+            None => Err(Wrong::Value("TIME", MOMENT)),
+        },
+        _ => Err(Wrong::Words("only one of --from and --at may be given")),
     }
 }
 
+// How fast a recording is played.
+fn pace(word: &str) -> Option<Pace> {
+    Pace::from_thousandths(thousandths(word)?)
+}
+
 // How a recording is played, if it is; a host's isn't.
-fn playing(matches: &ArgMatches<'_>) -> Option<Option<Playing>> {
+fn playing(matches: &ArgMatches<'_>) -> Result<Option<Playing>, Wrong> {
     let longest_pause = matches.get_str("PAUSE");
     let repeats = matches.get_flag("repeat");
-    let Some(pace) = matches.get_str("PACE") else {
-        let is_plain = longest_pause.is_none() && !repeats;
-        return is_plain.then_some(None);
+    let Some(word) = matches.get_str("PACE") else {
+        if longest_pause.is_some() || repeats {
+            return Err(Wrong::Words("--longest-pause and --repeat need --pace"));
+        }
+        return Ok(None);
     };
     if matches.get_str("HOST").is_some() {
-        return None;
+        return Err(Wrong::Words("--pace is for a recording alone, without --host"));
     }
-    Some(Some(Playing {
-        pace: Pace::from_thousandths(thousandths(pace)?)?,
-        longest_pause: if_given(longest_pause.map(thousandths))?,
+    let Some(pace) = pace(word) else {
+        return Err(Wrong::Value("PACE", "a number from 0.1 to 100"));
+    };
+    let longest_pause = if_given(longest_pause.map(thousandths));
+    Ok(Some(Playing {
+        pace,
+        longest_pause: longest_pause.ok_or(Wrong::Value("PAUSE", SECONDS))?,
         repeats,
     }))
 }
 
-fn format(word: Option<&str>) -> Option<Format> {
+fn format(word: Option<&str>) -> Result<Format, Wrong> {
     match word {
-        Some("1") => Some(Format::One),
-        None | Some("2") => Some(Format::Two),
-        Some(_) => None,
+        Some("1") => Ok(Format::One),
+        None | Some("2") => Ok(Format::Two),
+        Some(_) => Err(Wrong::Value("FORMAT", "1 or 2")),
     }
 }
 
-fn audience(word: Option<&str>) -> Option<Audience> {
+fn audience(word: Option<&str>) -> Result<Audience, Wrong> {
     match word {
-        Some("any") => Some(Audience::Any),
+        Some("any") => Ok(Audience::Any),
         _ => {
             let seats = Format::Two.limits().seats as u64;
-            Some(Audience::Count(within(word, 1, seats, 1)? as u32))
+            match within(word, 1, seats, 1) {
+                Some(count) => Ok(Audience::Count(count as u32)),
+                None => Err(Wrong::Value("N", "a number from 1 to 256, or any")),
+            }
         }
     }
 }
 
+// How much is told of what happens: all where that is asked for, and on a terminal why it is refused.
+fn told(matches: &ArgMatches<'_>, is_verbose: bool) -> Told {
+    if matches.get_flag("verbose") {
+        Told::Everything
+    } else if is_verbose {
+        Told::Refusals
+    } else {
+        Told::Nothing
+    }
+}
+
 /// What is recorded and served, to whom, and how it ends.
-pub fn plan<'a>(matches: &ArgMatches<'a>) -> Option<Plan<'a>> {
-    Some(Plan {
-        file: matches.get_str("PATH")?,
-        listen: matches.get_str("ADDR")?,
+pub fn plan<'a>(matches: &ArgMatches<'a>, is_verbose: bool) -> Result<Plan<'a>, Wrong> {
+    let key_interval = within(matches.get_str("K"), 1, 4096, 256);
+    let playing = match playing(matches) {
+        Ok(playing) => playing,
+        Err(wrong) => return Err(wrong),
+    };
+    Ok(Plan {
+        file: word(matches, "PATH")?,
+        listen: word(matches, "ADDR")?,
         host: matches.get_str("HOST"),
         format: format(matches.get_str("FORMAT"))?,
-        key_interval: within(matches.get_str("K"), 1, 4096, 256)? as u16,
+        key_interval: key_interval.ok_or(Wrong::Value("K", "a number from 1 to 4096"))? as u16,
         audience: audience(matches.get_str("N"))?,
+        overwrites: matches.get_flag("overwrite"),
         from: origin(matches)?,
-        playing: playing(matches)?,
+        playing,
         stop: stop(matches)?,
-        is_verbose: matches.get_flag("verbose"),
+        told: told(matches, is_verbose),
     })
 }

@@ -1,5 +1,6 @@
 //! What stands in help of each command, as a table, and the reader of words that is made of it.
 
+use crate::wrong::Spelling;
 use clap::{Arg, ArgAction, Command};
 use std::alloc::{AllocError, Global};
 
@@ -9,6 +10,8 @@ enum Argument {
     Word(&'static str, &'static str),
     /// A word that may be left out, and its name.
     MaybeWord(&'static str, &'static str),
+    /// One word or more, and their name.
+    Words(&'static str, &'static str),
     /// `--NAME VALUE`: both names.
     Value(&'static str, &'static str, &'static str),
     /// The same, where it has to be given.
@@ -17,7 +20,13 @@ enum Argument {
     Flag(&'static str, &'static str),
 }
 
-use Argument::{Flag, MaybeWord, NeededValue, Value, Word};
+use Argument::{Flag, MaybeWord, NeededValue, Value, Word, Words};
+
+/// What each command takes; `serve` has its own, which says more.
+const VERBOSE: Argument = Flag(
+    "verbose",
+    "Says more of what is refused, on standard error, as on a terminal",
+);
 
 /// A command: its name, what it does, an example, and what it takes, in the order of its help.
 struct CommandWords {
@@ -27,7 +36,7 @@ struct CommandWords {
     arguments: &'static [Argument],
 }
 
-const COMMANDS: [CommandWords; 14] = [
+const COMMANDS: [CommandWords; 15] = [
     CommandWords {
         name: "drill",
         about: "Runs the drill script on standard input, and answers each of its lines",
@@ -49,6 +58,12 @@ const COMMANDS: [CommandWords; 14] = [
         about: "Reads a whole recording, and prints its size and how much it holds",
         example: "Example: recorderd check r",
         arguments: &[Word("PATH", "The recording")],
+    },
+    CommandWords {
+        name: "info",
+        about: "Prints a line for each recording: what it is, and how much it holds",
+        example: "Example: recorderd info *.rec",
+        arguments: &[Words("PATH", "The recordings")],
     },
     CommandWords {
         name: "digest",
@@ -78,6 +93,10 @@ const COMMANDS: [CommandWords; 14] = [
         arguments: &[
             Word("PATH", "The recording"),
             Word("OUT", "The file to write, without bytes or not there yet"),
+            Flag(
+                "behind",
+                "Writes also the blocks that go on with the digests behind the recording's end",
+            ),
         ],
     },
     CommandWords {
@@ -112,18 +131,18 @@ const COMMANDS: [CommandWords; 14] = [
     },
     CommandWords {
         name: "picture",
-        about: "Writes the screen at a moment of a recording as a picture, in PPM or BMP",
-        example: "Example, after a minute: recorderd picture r r.bmp --at 60000",
+        about: "Writes the screen at a moment of a recording as a picture, in PNG, PPM or BMP",
+        example: "Example, after a minute: recorderd picture r r.png --at 1:00",
         arguments: &[
             Word("PATH", "The recording"),
             Word(
                 "OUT",
-                "The file to write, which ends in .ppm or .bmp; or -, for PPM on standard output",
+                "The file to write, in .png, .ppm or .bmp; or -, for PPM on standard output",
             ),
             Value(
                 "at",
                 "TIME",
-                "The moment, in milliseconds of the recording, as list prints them",
+                "The moment: 61210 (in milliseconds, as list prints them), 61.2s, 1:01.2 or 1:02:03",
             ),
             Value(
                 "message",
@@ -146,12 +165,12 @@ const COMMANDS: [CommandWords; 14] = [
             Value(
                 "from",
                 "FROM",
-                "The first picture's moment, in milliseconds of the recording [default: 0]",
+                "The first picture's moment, as 61210 (in milliseconds) or 1:01.2 [default: 0]",
             ),
             Value(
                 "to",
                 "TO",
-                "No picture is later [default: when the last message is shown]",
+                "No picture is later; as --from [default: when the last message is shown]",
             ),
         ],
     },
@@ -196,6 +215,10 @@ const COMMANDS: [CommandWords; 14] = [
                 "FORMAT",
                 "A new recording's format, 1 or 2, whose blocks have digests [default: 2]",
             ),
+            Flag(
+                "overwrite",
+                "Goes on with a recording even over blocks that a damaged gate hides",
+            ),
             Value(
                 "viewers",
                 "N",
@@ -209,7 +232,7 @@ const COMMANDS: [CommandWords; 14] = [
             Value(
                 "at",
                 "TIME",
-                "In place of a number of messages: a time, in milliseconds of the recording",
+                "In place of a number of messages: a moment, as 61210 (in milliseconds) or 1:01.2",
             ),
             Value(
                 "pace",
@@ -245,6 +268,7 @@ fn arg<'a>(alloc: Global, argument: &Argument) -> Arg<'a> {
     let (name, long, is_needed, help) = match *argument {
         Word(name, help) => (name, None, true, help),
         MaybeWord(name, help) => (name, None, false, help),
+        Words(name, help) => (name, None, true, help),
         Value(long, name, help) => (name, Some(long), false, help),
         NeededValue(long, name, help) => (name, Some(long), true, help),
         Flag(long, help) => {
@@ -258,9 +282,10 @@ fn arg<'a>(alloc: Global, argument: &Argument) -> Arg<'a> {
         .help(help)
         .required(is_needed)
         .action(ArgAction::Set);
-    match long {
-        Some(long) => arg.long(long),
-        None => arg,
+    match (long, argument) {
+        (Some(long), _) => arg.long(long),
+        (None, Words(..)) => arg.num_args(1..),
+        (None, _) => arg,
     }
 }
 
@@ -271,14 +296,41 @@ fn command<'a>(alloc: Global, words: &CommandWords) -> Result<Command<'a>, Alloc
     for argument in words.arguments {
         command = command.arg(arg(alloc, argument))?;
     }
-    Ok(command)
+    if words.name == "serve" {
+        return Ok(command);
+    }
+    command.arg(arg(alloc, &VERBOSE))
+}
+
+/// How a command's argument is written that has this name in help.
+pub fn spelled(command: &str, of: &'static str) -> Spelling {
+    for words in &COMMANDS {
+        if words.name != command {
+            continue;
+        }
+        for argument in words.arguments {
+            match *argument {
+                Value(long, name, _) | NeededValue(long, name, _) if name == of => {
+                    return Spelling {
+                        long: Some(long),
+                        name: of,
+                    };
+                }
+                _ => {}
+            }
+        }
+    }
+    Spelling {
+        long: None,
+        name: of,
+    }
 }
 
 /// The reader of the program's words.
 pub fn reader<'a>(alloc: Global) -> Result<Command<'a>, AllocError> {
     let mut program = Command::new(alloc, "recorderd")
         .about("Records one VNC session, so that a crash at any moment loses nothing acknowledged")
-        .version("0.9.0")
+        .version("0.10.0")
         .subcommand_required(true);
     for words in &COMMANDS {
         program = program.subcommand(command(alloc, words)?)?;

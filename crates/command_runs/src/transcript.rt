@@ -21,7 +21,15 @@ where
 {
     let mut out = Output::new(rt.alloc(), room);
     let mut err = Output::new(rt.alloc(), usize::MAX);
-    let status = command(rt, words, Progress::silent(), input, &mut out, &mut err);
+    let status = command(
+        rt,
+        words,
+        false,
+        Progress::silent(),
+        input,
+        &mut out,
+        &mut err,
+    );
     let mut printed = out.bytes;
     printed.extend_from_slice(&err.bytes)?;
     Ok(Outcome { status, printed })

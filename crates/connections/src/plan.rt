@@ -5,6 +5,7 @@ use pixel_format::Format;
 use playing::{Pace, Program};
 use reception::Term;
 use sockets::Stop;
+use telling::Told;
 
 /// How many viewers are served.
 #[derive(Clone, Copy, Debug, PartialEq, Eq)]
@@ -59,6 +60,8 @@ pub struct Plan<'a> {
     pub key_interval: u16,
     /// How many viewers are served.
     pub audience: Audience,
+    /// Whether what stands behind the end of the recording is written over, whatever it is.
+    pub overwrites: bool,
     /// Where each viewer begins.
     pub from: Origin,
     /// How the recording is played, where it is in its own time. There is no host then.
@@ -66,8 +69,8 @@ pub struct Plan<'a> {
     /// What ends it beside the host, which isn't read from any more then; what it sent is committed
     /// and shown to the viewers who are there.
     pub stop: Stop,
-    /// Whether what happens is told on standard error.
-    pub is_verbose: bool,
+    /// How much of what happens is told on standard error.
+    pub told: Told,
 }
 
 impl Plan<'_> {

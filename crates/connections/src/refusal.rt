@@ -19,6 +19,9 @@ pub enum Refusal {
     /// The recording's file can't be opened or made, another recorder has it, or it isn't there any
     /// more in the end.
     File,
+    /// Blocks that go on with the digests stand behind the end of the recording, more than a crash
+    /// leaves there, and would be written over.
+    Hidden,
     /// The recording isn't opened.
     Recording(IndexFault),
     /// The recording isn't made.
@@ -39,6 +42,7 @@ impl fmt::Display for Refusal {
     fn fmt<W: fmt::Write>(&self, f: &mut fmt::Formatter<W>) -> fmt::Result {
         match self {
             Refusal::File => write!(f, "file 1"),
+            Refusal::Hidden => write!(f, "file 2"),
             Refusal::Device => write!(f, "journal 3"),
             Refusal::Net => write!(f, "net 1"),
             Refusal::Thread => write!(f, "thread 1"),

@@ -7,7 +7,7 @@ use broadcast::Start;
 use file_disk::LastError;
 use pixel_format::RecordedScreen;
 use playing::Program;
-use reception::{Arrival, Backlog, Reception, Term};
+use reception::{Arrival, Backlog, Reason, Reception, Term};
 use rfb_wire::HostMessage;
 use shared_book::Mark;
 use sockets::Bell;
@@ -45,9 +45,14 @@ impl Hall {
         self.reception.lock(rt).give_up();
     }
 
-    /// Ends a handshake that is whole: whether the viewer takes a seat.
-    pub fn seat<R: Wait>(&self, rt: &R) -> bool {
+    /// Ends a handshake that is whole: the viewer takes a seat, or this is why not.
+    pub fn seat<R: Wait>(&self, rt: &R) -> Result<(), Reason> {
         self.reception.lock(rt).seat()
+    }
+
+    /// How many viewers are still to come, of those that are waited for.
+    pub fn missing<R: Wait>(&self, rt: &R) -> u32 {
+        self.reception.lock(rt).missing()
     }
 
     /// Frees a viewer's seat.

@@ -33,6 +33,6 @@ IsNumberOf area.Fbs number = (1 ≤ number) × (number ≤ 9)
 IsNumberOf area.Wire number = (1 ≤ number) × (number ≤ 9)
 IsNumberOf area.Host number = ((1 ≤ number) × (number ≤ 9)) ⊎ ((20 ≤ number) × (number ≤ 24))
 IsNumberOf area.Book number = (1 ≤ number) × (number ≤ 4)
-IsNumberOf area.File number = number ≡ 1
+IsNumberOf area.File number = (1 ≤ number) × (number ≤ 2)
 IsNumberOf area.Net number = number ≡ 1
 IsNumberOf area.Thread number = number ≡ 1

@@ -6,8 +6,8 @@ It is another file, or an older version's creation was cut off. Nothing was
 written to it: name another PATH, or move the file away.";
 
 const DAMAGED: &str = "\
-With `block B`: block B isn't whole; the device or another program changed it.
-Restore the file from a copy, or `salvage` what is before B; see to the device.
+With `block B`: block B isn't whole. Mostly, the file is a copy cut short: copy
+it again. Or the device or a program changed it: `salvage` what is before B.
 Without: the device failed, or is full, as a recording was made: start again.";
 
 const DEVICE_FAILED: &str = "\

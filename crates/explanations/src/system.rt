@@ -1,9 +1,9 @@
 //! Refusals of the system: its files, sockets and threads.
 
 const FILE_FAILS: &str = "\
-A file can't be opened, made, locked or written: no permission, a device, a
-link to no recording; another recorder has it; FILE, or another PATH.new, is
-there; OUT is the recording; it was gone from PATH or shorter. See `--verbose`.";
+A file can't be opened, made, locked or written: no permission; a folder, device
+or pipe; a link to no recording; another recorder has it; FILE or PATH.new is
+there; OUT has a recording; PATH was replaced. With `--verbose`, a line says so.";
 
 const NET_FAILS: &str = "\
 The address to listen at can't be used (it is in use, or unknown), or the host
@@ -15,8 +15,13 @@ The system makes no thread: a limit of threads, or memory, is reached.
 Nothing more was recorded than `recorderd check PATH` tells.
 Raise the limit, or free memory, and start again.";
 
-/// The text of `file`.
-pub const FILE: [&str; 1] = [FILE_FAILS];
+const FILE_WAS_LONGER: &str = "\
+Behind the recording's end stand blocks that go on with its digests, more than
+a crash leaves: a damaged gate hides them. `salvage PATH OUT --behind` saves
+them. To write over them, start `recorderd serve` with `--overwrite`.";
+
+/// The texts of `file`, by number.
+pub const FILE: [&str; 2] = [FILE_FAILS, FILE_WAS_LONGER];
 
 /// The text of `net`.
 pub const NET: [&str; 1] = [NET_FAILS];

@@ -1,7 +1,8 @@
 //! The command `digest`.
 
+use crate::behind::behind_end;
 use crate::command::Work;
-use crate::recording::open_path;
+use crate::recording::{open_file, open_recording};
 use crate::refusal::{DigestFault, Ended, Refusal};
 use file_disk::{FileDisk, Progress};
 use gated_journal::OpenFault;
@@ -48,14 +49,19 @@ fn found(
 }
 
 impl<R: Files<File = File> + AllocGlobal, O: Write> Work<'_, R, O> {
-    /// Writes the number and the digest of the block that is asked for.
+    /// Writes the number and the digest of the block that is asked for, and notes what stands behind
+    /// the recording's end.
     pub fn digest(&mut self, what: &Chaining<'_>) -> Result<(), Ended> {
-        let mut index = open_path(self.rt, what.recording, self.progress)?;
+        let file = open_file(self.rt, what.recording)?;
+        let again = file.try_clone()?;
+        let mut index = open_recording(self.rt, file, self.progress)?;
         let (block, digest) = found(&mut index, what.digest)?;
         let digits = match hex::encode(self.rt.alloc(), digest.as_slice()) {
             Ok(digits) => digits,
             Err(_) => return Err(Ended::Failed(std::io::ErrorKind::OutOfMemory.into())),
         };
-        Ok(writeln!(self.out, "block {block} digest {digits}")?)
+        writeln!(self.out, "block {block} digest {digits}")?;
+        self.behind = behind_end(self.rt, again, &index)?;
+        Ok(())
     }
 }

@@ -1,7 +1,8 @@
 //! The commands `check` and `fbs-check`.
 
+use crate::behind::behind_end;
 use crate::command::Work;
-use crate::recording::{open_file, open_path};
+use crate::recording::{open_file, open_recording};
 use crate::refusal::{Ended, Refusal};
 use fbs_export::Counted;
 use file_disk::{Progress, Watched};
@@ -11,16 +12,21 @@ use std::rt::Files;
 use terms::ScreenSize;
 
 impl<R: Files<File = File> + AllocGlobal, O: Write> Work<'_, R, O> {
-    /// Opens the recording at a path, and writes its size, and how many messages and blocks count.
+    /// Opens the recording at a path, and writes its size, and how many messages and blocks count;
+    /// notes what stands behind its end.
     pub fn check(&mut self, path: &str) -> Result<(), Ended> {
-        let index = open_path(self.rt, path, self.progress)?;
+        let file = open_file(self.rt, path)?;
+        let again = file.try_clone()?;
+        let index = open_recording(self.rt, file, self.progress)?;
         let ScreenSize { width, height } = index.header().size();
         let messages = index.committed();
         let blocks = index.blocks();
-        Ok(writeln!(
+        writeln!(
             self.out,
             "recording {width} {height} messages {messages} blocks {blocks}"
-        )?)
+        )?;
+        self.behind = behind_end(self.rt, again, &index)?;
+        Ok(())
     }
 }
 
@@ -32,6 +38,7 @@ fn counted<R: Files<File = File> + AllocGlobal>(
 ) -> Result<Counted, Ended> {
     let alloc = rt.alloc();
     let inner = open_file(rt, path)?;
+    let progress = progress.through(inner.metadata()?.len());
     let mut reader = BufReader::new(alloc, Watched { inner, progress })?;
     Ok(fbs_export::count(alloc, &mut reader).map_err(Refusal::Fbs)?)
 }
@@ -45,6 +52,7 @@ impl<R: Files<File = File> + AllocGlobal, O: Write> Work<'_, R, O> {
             messages,
             rest,
         } = counted(self.rt, path, self.progress)?;
+        self.progress.end();
         Ok(writeln!(
             self.out,
             "fbs {width} {height} messages {messages} rest {rest}"

@@ -1,11 +1,12 @@
 //! The commands on files, and how one is run.
 
+use crate::behind::Behind;
 use crate::chaining::Chaining;
 use crate::exporting::Extract;
 use crate::framing::Filming;
 use crate::migrating::Migration;
 use crate::picturing::Scene;
-use crate::refusal::{Ended, LeftOut, answer};
+use crate::refusal::{Ended, LeftOut, Places, answer};
 use crate::salvaging::Salvaging;
 use crate::timing::Timing;
 use file_disk::Progress;
@@ -21,6 +22,9 @@ pub enum FileCommand<'a> {
     List(&'a str),
     /// `check` prints the size of the recording at a path, and how many messages and blocks count.
     Check(&'a str),
+    /// `info` prints a line for the recording at a path: its format, its size, how much it holds, and
+    /// whether it is being written.
+    Info(&'a str),
     /// `digest` prints the number and the digest of the last block that counts, or of the one that has
     /// a given digest.
     Digest(Chaining<'a>),
@@ -44,20 +48,21 @@ pub enum FileCommand<'a> {
     /// with bytes is refused, and stays as it is.
     Migrate(Migration<'a>),
     /// `salvage` writes the blocks of a recording before its first fault into a new one, as they are,
-    /// and prints how many messages they have. What is left out is said on standard error. The new
-    /// file is as that of `migrate`.
+    /// also those behind its end if that is asked for, and prints how many messages they have. What is
+    /// left out is said on standard error. The new file is as that of `migrate`.
     Salvage(Salvaging<'a>),
     /// `fbs-check` prints the size of the FBS file at a path, how many messages it has, and how many
     /// bytes of an unfinished last one.
     FbsCheck(&'a str),
 }
 
-impl FileCommand<'_> {
+impl<'a> FileCommand<'a> {
     // Its word on the command line.
     fn word(&self) -> &'static str {
         match self {
             FileCommand::List(_) => "list",
             FileCommand::Check(_) => "check",
+            FileCommand::Info(_) => "info",
             FileCommand::Digest(_) => "digest",
             FileCommand::Times(_) => "times",
             FileCommand::Picture(_) => "picture",
@@ -69,6 +74,28 @@ impl FileCommand<'_> {
         }
     }
 
+    // The files that its words name.
+    fn places(&self) -> Places<'a> {
+        let (source, out) = match self {
+            FileCommand::List(path)
+            | FileCommand::Check(path)
+            | FileCommand::Info(path)
+            | FileCommand::FbsCheck(path) => (*path, ""),
+            FileCommand::Digest(what) => (what.recording, ""),
+            FileCommand::Times(what) => (what.recording, ""),
+            FileCommand::Picture(what) => (what.recording, what.out.unwrap_or("")),
+            FileCommand::Frames(what) => (what.recording, ""),
+            FileCommand::Export(what) => (what.recording, what.out),
+            FileCommand::Migrate(what) => (what.recording, what.out),
+            FileCommand::Salvage(what) => (what.recording, what.out),
+        };
+        Places {
+            source,
+            out,
+            listen: "",
+        }
+    }
+
     // Does it.
     fn carry_out<R: Files<File = File> + AllocGlobal, O: Write>(
         &self,
@@ -77,6 +104,7 @@ impl FileCommand<'_> {
         match self {
             FileCommand::List(path) => work.list(path),
             FileCommand::Check(path) => work.check(path),
+            FileCommand::Info(path) => work.info(path),
             FileCommand::Digest(what) => work.digest(what),
             FileCommand::Times(what) => work.times(what),
             FileCommand::Picture(what) => work.picture(what),
@@ -100,14 +128,17 @@ pub struct Work<'a, R, O> {
     pub out: &'a mut O,
     /// What it leaves out, to be told on standard error.
     pub left_out: Option<LeftOut>,
+    /// What it found behind the end of a recording, to be told there too.
+    pub behind: Option<Behind>,
 }
 
 /// Runs a command: what it prints is written to `out`, and long work told of to a person. Answers
-/// whether it is done; else a line on `err` says why it is refused. An error is of the two writers, or
-/// of memory.
+/// whether it is done; else a line on `err` says why it is refused, and where `is_verbose` a second one
+/// what the system said. An error is of the two writers, or of memory.
 pub fn run<R: Files<File = File> + AllocGlobal, O: Write, E: Write>(
     rt: &R,
     command: &FileCommand<'_>,
+    is_verbose: bool,
     progress: Progress,
     out: &mut O,
     err: &mut E,
@@ -117,11 +148,16 @@ pub fn run<R: Files<File = File> + AllocGlobal, O: Write, E: Write>(
         progress,
         out,
         left_out: None,
+        behind: None,
     };
     let outcome = command.carry_out(&mut work);
+    let word = command.word();
+    if let Some(behind) = work.behind {
+        writeln!(err, "recorderd: {word} {behind}")?;
+    }
     if let Some(left_out) = work.left_out {
-        let word = command.word();
         writeln!(err, "recorderd: {word} {left_out}")?;
     }
-    answer(command.word(), outcome, err)
+    let places = is_verbose.then_some(command.places());
+    answer(word, outcome, places, err)
 }

@@ -1,43 +1,16 @@
 //! The command `export`.
 
 use crate::command::Work;
+use crate::out_file::open_out;
 use crate::recording::{open_file, open_recording};
 use crate::refusal::{Ended, Refusal};
 use fbs_export::{ExportFault, first_exported};
 use file_disk::{FileDisk, Progress, Watched};
 use key_index::Indexed;
 use std::alloc::Global;
-use std::fs::{File, Metadata, OpenOptions};
-use std::io;
+use std::fs::File;
 use std::io::{BufWriter, Write};
-use std::os::unix::fs::MetadataExt;
 use std::rt::Files;
-
-// Whether two names are of one file of the system.
-fn is_same_file(one: &Metadata, other: &Metadata) -> bool {
-    one.dev() == other.dev() && one.ino() == other.ino()
-}
-
-/// Opens a file to be written, created or emptied. The recording itself is refused, under whatever
-/// name: so it is asked of the open file, before it is emptied.
-pub fn open_out<R: Files<File = File>>(
-    files: &R,
-    path: &str,
-    recording: &Metadata,
-) -> io::Result<File> {
-    let file = OpenOptions::new()
-        .write(true)
-        .create(true)
-        .open(files, path)?;
-    let metadata = file.metadata()?;
-    if is_same_file(&metadata, recording) {
-        return Err(io::ErrorKind::InvalidInput.into());
-    }
-    if metadata.is_file() {
-        file.set_len(0)?;
-    }
-    Ok(file)
-}
 
 /// What is exported of which recording, and where to.
 #[derive(Clone, Copy)]
@@ -80,7 +53,7 @@ fn exported<R: Files<File = File> + AllocGlobal>(
     let metadata = file.metadata()?;
     let mut index = open_recording(rt, file, progress)?;
     first_exported(&index, what.from_block, what.to).map_err(Refusal::Export)?;
-    let out = open_out(rt, what.out, &metadata).map_err(|_| Refusal::File)?;
+    let out = open_out(rt, what.out, &metadata)?;
     write_part(alloc, &mut index, what, out, progress)
 }
 
@@ -88,6 +61,7 @@ impl<R: Files<File = File> + AllocGlobal, O: Write> Work<'_, R, O> {
     /// Writes a part of a recording as an FBS file, and tells how many messages it has.
     pub fn export(&mut self, what: &Extract<'_>) -> Result<(), Ended> {
         let count = exported(self.rt, what, self.progress)?;
+        self.progress.end();
         Ok(writeln!(self.out, "exported {count}")?)
     }
 }

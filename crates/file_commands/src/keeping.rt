@@ -1,5 +1,6 @@
 //! A recording that is kept in a new file.
 
+use crate::file_fault::{FileFault, SystemError, name_kept};
 use crate::refusal::Refusal;
 use disk::Disk;
 use file_disk::{FileDisk, create_exclusively, sync_folder};
@@ -9,8 +10,10 @@ use std::rt::Files;
 /// A new file, open for reading and writing, for its owner alone. Refused where the path is taken, or
 /// can't be.
 pub fn create_new<R: Files<File = File>>(files: &R, path: &str) -> Result<FileDisk, Refusal> {
-    let file = create_exclusively(files, path).map_err(|_| Refusal::File)?;
-    Ok(FileDisk::new(file))
+    match create_exclusively(files, path) {
+        Ok(file) => Ok(FileDisk::new(file)),
+        Err(error) => Err(Refusal::File(FileFault::Make(SystemError::of(&error)))),
+    }
 }
 
 /// Writes the bytes of a recording into its new file, and brings them and the file's name onto the
@@ -22,7 +25,7 @@ pub fn keep<R: Files<File = File>>(
     bytes: &[u8],
 ) -> Result<(), Refusal> {
     if disk.write_at(0, bytes).is_err() || disk.sync().is_err() {
-        return Err(Refusal::File);
+        return Err(Refusal::File(FileFault::Device));
     }
-    sync_folder(files, path).map_err(|_| Refusal::File)
+    name_kept(sync_folder(files, path)).map_err(Refusal::File)
 }

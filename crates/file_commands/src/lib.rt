@@ -1,31 +1,37 @@
 //! The commands on recordings and FBS files in files of the operating system.
 #![tactic(auto)]
 
+mod behind;
 mod chaining;
 mod checking;
 mod command;
 mod exporting;
+mod file_fault;
 mod framing;
+mod informing;
 mod keeping;
 mod listing;
 mod migrating;
+mod out_file;
 mod picturing;
 mod recording;
 mod refusal;
 mod salvaging;
+mod source_file;
 mod surveying;
 mod timing;
 
 pub use chaining::Chaining;
 pub use command::{FileCommand, run};
 pub use exporting::Extract;
+pub use file_fault::{FaultOf, FileFault, Role, SystemError};
 pub use framing::Filming;
 pub use keeping::{create_new, keep};
 pub use migrating::Migration;
 pub use pictures::PictureFormat;
 pub use picturing::{Moment, Scene, screen_of};
 pub use recording::open_path;
-pub use refusal::{DigestFault, Ended, LeftOut, Refusal, answer, refuse};
+pub use refusal::{DigestFault, Ended, LeftOut, Places, Refusal, answer, refuse};
 pub use salvaging::Salvaging;
 pub use surveying::{Stretch, StretchSink, survey};
 pub use timing::Timing;

@@ -3,17 +3,17 @@
 ghost use Rattle.std.specs.Prelude.{◌≢◌};
 
 use crate::command::Work;
+use crate::file_fault::name_kept;
+use crate::out_file::{demand_no_recording, open_target};
 use crate::recording::open_path;
 use crate::refusal::{Ended, Refusal};
-use file_disk::{FileDisk, Progress, create_exclusively, sync_folder};
+use file_disk::{FileDisk, Progress, sync_folder};
 use gated_journal::State;
 use key_index::Indexed;
 use migration::{may_be_migrated, migrate};
 use std::alloc::Global;
-use std::fs::{File, OpenOptions, Permissions};
-use std::io;
+use std::fs::File;
 use std::io::Write;
-use std::os::unix::fs::PermissionsExt;
 use std::rt::Files;
 
 /// Which recording is migrated, and where to.
@@ -23,21 +23,6 @@ pub struct Migration<'a> {
     pub recording: &'a str,
     /// The file that is written, which has no bytes or isn't there yet.
     pub out: &'a str,
-}
-
-/// A file to be read and written: a new one, or one that is there. One without bytes is its owner's
-/// alone, as a new recording's is; one with bytes stays as it is.
-pub fn open_target<R: Files<File = File>>(files: &R, path: &str) -> io::Result<File> {
-    match create_exclusively(files, path) {
-        Err(error) if error.kind() == io::ErrorKind::AlreadyExists => {}
-        created => return created,
-    }
-    let file = OpenOptions::new().read(true).write(true).open(files, path)?;
-    let metadata = file.metadata()?;
-    if metadata.is_file() && metadata.len() == 0 {
-        file.set_permissions(Permissions::from_mode(0o600))?;
-    }
-    Ok(file)
 }
 
 // How many messages a recording has once it is migrated to a disk.
@@ -63,10 +48,11 @@ fn migrated<R: Files<File = File> + AllocGlobal>(
     let alloc = rt.alloc();
     let mut index = open_path(rt, what.recording, progress)?;
     may_be_migrated(&index).map_err(Refusal::Migrate)?;
-    let file = open_target(rt, what.out).map_err(|_| Refusal::File)?;
+    let file = open_target(rt, what.out, what.recording)?;
+    demand_no_recording(&file)?;
     let target = FileDisk::new(file).watched(progress);
     let count = migrated_to(alloc, &mut index, target)?;
-    sync_folder(rt, what.out).map_err(|_| Refusal::File)?;
+    name_kept(sync_folder(rt, what.out))?;
     Ok(count)
 }
 
@@ -74,6 +60,7 @@ impl<R: Files<File = File> + AllocGlobal, O: Write> Work<'_, R, O> {
     /// Writes a recording of format 1 again in format 2, and tells how many messages it has.
     pub fn migrate(&mut self, what: &Migration<'_>) -> Result<(), Ended> {
         let count = migrated(self.rt, what, self.progress)?;
+        self.progress.end();
         Ok(writeln!(self.out, "migrated {count}")?)
     }
 }

@@ -1,7 +1,8 @@
 //! The command `picture`.
 
 use crate::command::Work;
-use crate::exporting::open_out;
+use crate::file_fault::written;
+use crate::out_file::open_out;
 use crate::recording::{open_file, open_recording};
 use crate::refusal::{Ended, Refusal};
 use file_disk::{FileDisk, Progress, Watched};
@@ -71,13 +72,10 @@ fn write_file<R: Files<File = File> + AllocGlobal>(
     progress: Progress,
 ) -> Result<(), Ended> {
     let alloc = rt.alloc();
-    let inner = open_out(rt, path, recording).map_err(|_| Refusal::File)?;
+    let inner = open_out(rt, path, recording)?;
     let mut writer = BufWriter::new(alloc, Watched { inner, progress })?;
-    let written = write_picture(alloc, screen, what.format, &mut writer);
-    written
-        .and_then(|()| writer.flush())
-        .map_err(|_| Refusal::File)?;
-    Ok(())
+    let painted = write_picture(alloc, screen, what.format, &mut writer);
+    Ok(written(painted.and_then(|()| writer.flush()))?)
 }
 
 // The screen that is asked for, and which file it was read from.

@@ -3,6 +3,7 @@
 ghost use Rattle.std.specs.Prelude.{◌≡◌, IfOk};
 
 use crate::refusal::Refusal;
+use crate::source_file::open_source;
 use file_disk::{FileDisk, Progress};
 use gated_journal::State;
 use key_index::{IndexFault, Indexed};
@@ -10,9 +11,9 @@ use std::alloc::Global;
 use std::fs::File;
 use std::rt::Files;
 
-/// The file, opened for reading alone.
+/// The file, opened for reading alone. What is no file isn't opened.
 pub fn open_file<R: Files<File = File>>(files: &R, path: &str) -> Result<File, Refusal> {
-    File::open(files, path).map_err(|_| Refusal::File)
+    open_source(files, path).map_err(Refusal::File)
 }
 
 /// The recording at a path, opened for reading alone.
@@ -44,7 +45,10 @@ pub fn open_recording<R: Files<File = File> + AllocGlobal>(
     ensures ready { IfOk result (λ i. i.value.numbers.state ≡ State.Ready) }
 {
     let alloc = rt.alloc();
-    match Indexed::open(alloc, FileDisk::to_read(rt, file).watched(progress)) {
+    let opened = Indexed::open(alloc, FileDisk::to_read(rt, file).watched(progress));
+    let mut progress = progress;
+    progress.end();
+    match opened {
         Ok(index) => boxed(alloc, index),
         Err(refused) => Err(Refusal::Recording(refused.fault)),
     }

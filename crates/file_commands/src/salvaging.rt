@@ -1,12 +1,16 @@
 //! The command `salvage`.
 
+use crate::behind::{Behind, behind_gate};
 use crate::command::Work;
-use crate::migrating::open_target;
+use crate::file_fault::name_kept;
+use crate::out_file::open_target;
 use crate::recording::open_file;
-use crate::refusal::{Ended, LeftOut, Refusal};
+use crate::refusal::{DigestFault, Ended, LeftOut, Refusal};
 use block_walk::WholeBlocks;
 use file_disk::{FileDisk, Progress, sync_folder};
 use key_index::IndexFault;
+use pixel_format::Format;
+use recording_bytes::OPEN_GATE;
 use salvage::{Salvaged, salvage};
 use std::alloc::Global;
 use std::fs::File;
@@ -20,61 +24,113 @@ pub struct Salvaging<'a> {
     pub recording: &'a str,
     /// The file that is written, which has no bytes or isn't there yet.
     pub out: &'a str,
+    /// Whether blocks are written, too, that go on with the digests behind the recording's end.
+    pub behind: bool,
 }
 
-// The whole blocks of the recording at a path, and how many bytes its file has.
+// What is salvaged: the whole blocks of a recording, how many bytes its file has, and the file.
+#[derive(Drop)]
+struct Source {
+    blocks: WholeBlocks<FileDisk>,
+    length: u64,
+    file: File,
+}
+
+// The whole blocks that reads of a disk give.
+fn blocks_on(alloc: Global, disk: FileDisk) -> Result<WholeBlocks<FileDisk>, Refusal> {
+    match WholeBlocks::open(alloc, disk) {
+        Ok(blocks) => Ok(blocks),
+        Err(refused) => Err(Refusal::Recording(IndexFault::Journal(refused.fault))),
+    }
+}
+
+// What is salvaged of a recording. In format 1 nothing tells which bytes behind its end are blocks.
 fn open_source<R: Files<File = File> + AllocGlobal>(
     rt: &R,
-    path: &str,
+    what: &Salvaging<'_>,
     progress: Progress,
-) -> Result<(WholeBlocks<FileDisk>, u64), Ended> {
-    let file = open_file(rt, path)?;
+) -> Result<Source, Ended> {
+    let alloc = rt.alloc();
+    let file = open_file(rt, what.recording)?;
     let length = file.metadata()?.len();
-    let disk = FileDisk::to_read(rt, file).watched(progress);
-    match WholeBlocks::open(rt.alloc(), disk) {
-        Ok(source) => Ok((source, length)),
-        Err(refused) => Err(Refusal::Recording(IndexFault::Journal(refused.fault)).into()),
+    let disk = FileDisk::to_read(rt, file.try_clone()?).watched(progress);
+    let mut blocks = blocks_on(alloc, disk)?;
+    if what.behind && blocks.header().format() == Format::One {
+        return Err(Refusal::Digest(DigestFault::NoDigests).into());
     }
+    if what.behind && blocks.fault().is_none() {
+        let gate = blocks.gate();
+        blocks = blocks_on(alloc, blocks.close().seen_with(gate, OPEN_GATE))?;
+    }
+    Ok(Source {
+        blocks,
+        length,
+        file,
+    })
 }
 
-// Writes what is right of a source: how many messages that is, and what is left out.
-fn salvaged(
-    alloc: Global,
-    source: &mut WholeBlocks<FileDisk>,
-    length: u64,
+// What was salvaged: how many messages; and what is left out, or stands behind the end.
+#[derive(Drop)]
+struct Outcome {
+    messages: u64,
+    left_out: Option<LeftOut>,
+    behind: Option<Behind>,
+}
+
+// Writes what is right of a source.
+fn salvaged<R: Files<File = File> + AllocGlobal>(
+    rt: &R,
+    source: Source,
     target: FileDisk,
-) -> Result<(u64, Option<LeftOut>), Refusal> {
-    let fault = source.fault().map(IndexFault::Journal);
-    match salvage(alloc, source, target) {
-        Ok(
-            Salvaged {
-                journal,
-                messages,
-                last_time,
-                wrong,
-            },
-        ) => {
-            let left_out = wrong.or(fault).map(|fault| LeftOut {
-                bytes: length.saturating_sub(journal.end() - 1),
-                after: last_time,
-                fault,
-            });
-            Ok((messages, left_out))
-        }
-        Err(refused) => Err(Refusal::Salvage(refused.fault)),
-    }
+) -> Result<Outcome, Refusal> {
+    let Source {
+        mut blocks,
+        length,
+        file,
+    } = source;
+    let fault = blocks.fault().map(IndexFault::Journal);
+    let Salvaged {
+        journal,
+        messages,
+        last_time,
+        wrong,
+    } = match salvage(rt.alloc(), &mut blocks, target) {
+        Ok(salvaged) => salvaged,
+        Err(refused) => return Err(Refusal::Salvage(refused.fault)),
+    };
+    let gate = journal.end().saturating_sub(1);
+    let left_out = wrong.or(fault).map(|fault| LeftOut {
+        bytes: length.saturating_sub(gate),
+        after: last_time,
+        fault,
+    });
+    let behind = match left_out {
+        Some(_) => None,
+        None => behind_gate(rt, file, journal.header(), &journal.last_digest(), gate)?,
+    };
+    Ok(Outcome {
+        messages,
+        left_out,
+        behind,
+    })
 }
 
 impl<R: Files<File = File> + AllocGlobal, O: Write> Work<'_, R, O> {
     /// Writes the blocks of a recording before its first fault into a new one, tells how many
-    /// messages they have, and notes what is left out.
+    /// messages they have, and notes what is left out, or what stands behind its end.
     pub fn salvage(&mut self, what: &Salvaging<'_>) -> Result<(), Ended> {
-        let (mut source, length) = open_source(self.rt, what.recording, self.progress)?;
-        let file = open_target(self.rt, what.out).map_err(|_| Refusal::File)?;
+        let source = open_source(self.rt, what, self.progress)?;
+        let file = open_target(self.rt, what.out, what.recording)?;
         let target = FileDisk::new(file).watched(self.progress);
-        let (count, left_out) = salvaged(self.rt.alloc(), &mut source, length, target)?;
-        sync_folder(self.rt, what.out).map_err(|_| Refusal::File)?;
+        let Outcome {
+            messages,
+            left_out,
+            behind,
+        } = salvaged(self.rt, source, target)?;
+        name_kept(sync_folder(self.rt, what.out))?;
         self.left_out = left_out;
-        Ok(writeln!(self.out, "salvaged {count}")?)
+        self.behind = behind;
+        self.progress.end();
+        Ok(writeln!(self.out, "salvaged {messages}")?)
     }
 }

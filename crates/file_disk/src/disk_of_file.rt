@@ -6,6 +6,7 @@ ghost use Rattle.disk.specs.Contents.{CountsFailure};
 use crate::last_error::LastError;
 use crate::medium::{fits_size_limit, has_nothing_to_sync};
 use crate::progress::Progress;
+use crate::tally::Tally;
 use crate::written::Written;
 use disk::{Disk, DiskFault};
 use std::fs::File;
@@ -30,6 +31,10 @@ pub struct FileDisk {
     progress: Progress,
     last_error: Option<LastError>,
     written: Option<Written>,
+    // How many bytes were read, for who asks meanwhile.
+    tally: Option<Tally>,
+    // The byte that reads give at this offset, whatever the file has there.
+    seen: Option<(u64, u8)>,
 }
 
 /// Contracts see the number of calls that failed.
@@ -53,6 +58,8 @@ impl FileDisk {
             progress: Progress::silent(),
             last_error: None,
             written: None,
+            tally: None,
+            seen: None,
         }
     }
 
@@ -72,8 +79,9 @@ impl FileDisk {
     pub fn watched(self, progress: Progress) -> FileDisk
         ensures { result ≡ self }
     {
+        let length = self.file.metadata().map_or(0, |metadata| metadata.len());
         let mut disk = self;
-        disk.progress = progress;
+        disk.progress = progress.through(length);
         disk
     }
 
@@ -85,6 +93,35 @@ impl FileDisk {
         disk.last_error = Some(last_error);
         disk.written = Some(written);
         disk
+    }
+
+    /// The same, with the bytes counted that are read.
+    pub fn counting(self, tally: Tally) -> FileDisk
+        ensures { result ≡ self }
+    {
+        let mut disk = self;
+        disk.tally = Some(tally);
+        disk
+    }
+
+    /// The same, with this byte at this offset in what reads give. The file stays as it is.
+    pub fn seen_with(self, offset: u64, byte: u8) -> FileDisk
+        ensures { result ≡ self }
+    {
+        let mut disk = self;
+        disk.seen = Some((offset, byte));
+        disk
+    }
+
+    // Puts the byte that is to be seen into these, which begin at this offset.
+    fn show(&self, offset: u64, bytes: &mut [u8]) {
+        let Some((at, byte)) = self.seen else {
+            return;
+        };
+        let place = at.checked_sub(offset);
+        if let Some(shown) = place.and_then(|place| bytes.get_mut(place as usize)) {
+            *shown = byte;
+        }
     }
 
     // Counts a call if it failed, and has the system's word for it noted.
@@ -139,8 +176,13 @@ impl Disk for FileDisk {
         requires fits { place + length buffer.old < 2 ^ 64 }
         ensures counts { CountsFailure self.old self.new result }
     {
-        self.progress.pass(buffer.len());
+        let end = place + buffer.len() as u64;
+        self.progress.reach(buffer.len(), end);
+        if let Some(tally) = &self.tally {
+            tally.add(buffer.len());
+        }
         let outcome = self.file.read_exact_at(buffer, place);
+        self.show(place, buffer);
         self.counted(outcome)
     }
 

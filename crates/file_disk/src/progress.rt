@@ -6,14 +6,15 @@ use std::io::{IsTerminal, Read, Stderr, Write};
 /// How many bytes a command goes over between two lines: a short one says nothing.
 const STEP: u64 = 64 << 20;
 
-/// Says how many MiB a command has gone over, on standard error, and only where that is a terminal.
-/// What is said there next stands in its place: the line ends with a carriage return alone, and is
-/// shorter than each line that a command ends with.
+/// Says how many MiB a command has gone over, on standard error, and only where that is a terminal; of
+/// a file whose length is known also how many it has, and how many are left. What is said there next
+/// stands in its place, once it is taken back: the line ends with a carriage return alone.
 #[derive(Clone, Copy)]
 pub struct Progress {
     terminal: Option<Stderr>,
     passed: u64,
     told: u64,
+    length: u64,
 }
 
 impl Progress {
@@ -21,8 +22,7 @@ impl Progress {
     pub fn new(stderr: Stderr) -> Progress {
         Progress {
             terminal: stderr.is_terminal().then_some(stderr),
-            passed: 0,
-            told: 0,
+            ..Progress::silent()
         }
     }
 
@@ -32,19 +32,50 @@ impl Progress {
             terminal: None,
             passed: 0,
             told: 0,
+            length: 0,
         }
     }
 
-    /// Goes on by so many bytes. Where they can't be told of, that ends nothing.
-    pub fn pass(&mut self, bytes: usize) {
-        self.passed = self.passed.saturating_add(bytes as u64);
-        if self.passed.saturating_sub(self.told) < STEP {
+    /// The same, of a file of so many bytes.
+    pub fn through(self, length: u64) -> Progress {
+        Progress { length, ..self }
+    }
+
+    // Says that it has come so far.
+    fn tell(&mut self, place: u64) {
+        let Some(terminal) = &mut self.terminal else {
             return;
+        };
+        let mib = place >> 20;
+        let _told = if place <= self.length {
+            let all = self.length >> 20;
+            let left = all - mib;
+            write!(terminal, "\x1b[K{mib} of {all} MiB, {left} left\r")
+        } else {
+            write!(terminal, "\x1b[K{mib} MiB\r")
+        };
+    }
+
+    /// Goes on by so many bytes, which end at this place of the file. Where they can't be told of, that
+    /// ends nothing.
+    pub fn reach(&mut self, bytes: usize, place: u64) {
+        self.passed = self.passed.saturating_add(bytes as u64);
+        if self.passed.saturating_sub(self.told) >= STEP {
+            self.told = self.passed;
+            self.tell(place);
         }
-        self.told = self.passed;
+    }
+
+    /// The same of bytes that follow on those before.
+    pub fn pass(&mut self, bytes: usize) {
+        let place = self.passed.saturating_add(bytes as u64);
+        self.reach(bytes, place);
+    }
+
+    /// Takes back what was said.
+    pub fn end(&mut self) {
         if let Some(terminal) = &mut self.terminal {
-            let mib = self.told >> 20;
-            let _told = write!(terminal, "\x1b[K{mib} MiB\r");
+            let _taken = write!(terminal, "\x1b[K");
         }
     }
 }

@@ -1,15 +1,15 @@
 -- Texts that are appended part by part.
 use Rattle.std.proofs.Common.{◌≡◌, ◌<◌, ℕ, ◌+◌, ◌-◌, suc, List, ◌++◌, sym, ap, ◌∙◌, arith, append_assoc}
 use Rattle.pixel_format.specs.Canvas.{Picture}
-use Rattle.pictures.specs.declared.picture.PictureFormat.{PictureFormat}
-use Rattle.pictures.specs.Pictures.{pixel_text, row_at, row_text, rows_text}
+use Rattle.pictures.specs.declared.plain.PlainFormat.{PlainFormat}
+use Rattle.pictures.specs.Plain.{pixel_text, row_at, row_text, rows_text}
 
-pub row_step : (f : PictureFormat) (picture : Picture) (y x w : ℕ) → x < w → row_text f picture y x (w - x) ≡ pixel_text f (picture x y) ++ row_text f picture y (x + 1) (w - (x + 1))
+pub row_step : (f : PlainFormat) (picture : Picture) (y x w : ℕ) → x < w → row_text f picture y x (w - x) ≡ pixel_text f (picture x y) ++ row_text f picture y (x + 1) (w - (x + 1))
 row_step f picture y x w inside =
     let one : w - x ≡ suc (w - (x + 1)) = omega arith in
     ap (row_text f picture y x) one
 
-pub rows_step : (f : PictureFormat) (picture : Picture) (w h place : ℕ) → place < h
+pub rows_step : (f : PlainFormat) (picture : Picture) (w h place : ℕ) → place < h
     → rows_text f picture w h place (h - place) ≡ row_text f picture (row_at f h place) 0 w ++ rows_text f picture w h (place + 1) (h - (place + 1))
 rows_step f picture w h place inside =
     let one : h - place ≡ suc (h - (place + 1)) = omega arith in

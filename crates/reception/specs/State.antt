@@ -2,7 +2,8 @@
 use Rattle.std.specs.Prelude.{ℕ, ◌+◌, ◌-◌, min, ◌==◌, ◌&&◌, ◌||◌, Bool, true, false, Option, Some, None, if◌then◌else◌}
 use Rattle.reception.specs.declared.term.Term.{Term}
 use Rattle.reception.specs.declared.term.Term.TheVariants.{Viewers, Recording, Stop}
-use Rattle.reception.specs.declared.term.Reason.TheVariants.{Full, Closing}
+use Rattle.reception.specs.declared.term.Reason.{Reason}
+use Rattle.reception.specs.declared.term.Reason.TheVariants.{Full, Enough, Closing}
 use Rattle.reception.specs.declared.term.Arrival.{Arrival}
 use Rattle.reception.specs.declared.term.Arrival.TheVariants.{Greeted, TurnedAway, Dropped}
 
@@ -52,13 +53,29 @@ have_all_gone (Some n) gone = gone == n
 abbrev pub is_done : State → Bool
 is_done s = s.ended && (s.watching == 0) && (is_closing s || have_all_gone (viewers_of s.term) s.gone)
 
--- how a connection is received that comes now
-abbrev pub arrival_at : State → Arrival
-arrival_at s =
-    if s.greeting == s.seats then Dropped
-    else (if is_closing s then TurnedAway Closing
-    else (if free_places s == 0 then TurnedAway Full else Greeted))
-
 -- whether a viewer whose handshake is whole now takes a seat
 abbrev pub takes_seat : State → Bool
 takes_seat s = if is_closing s then false else (if free_places s == 0 then false else true)
+
+-- how many viewers are still to come, of those that are waited for
+abbrev pub missing_among : Option ℕ → ℕ → ℕ
+missing_among None come = 0
+missing_among (Some n) come = n - come
+
+abbrev pub missing : State → ℕ
+missing s = missing_among (viewers_of s.term) (s.watching + s.gone)
+
+-- as many viewers as are served in all have come
+abbrev have_all_come : Option ℕ → ℕ → Bool
+have_all_come None come = false
+have_all_come (Some n) come = n - come == 0
+
+-- why a viewer takes no seat now
+abbrev pub reason_at : State → Reason
+reason_at s =
+    if is_closing s then Closing
+    else (if have_all_come (viewers_of s.term) (s.watching + s.gone) then Enough else Full)
+
+-- how a connection is received that comes now
+abbrev pub arrival_at : State → Arrival
+arrival_at s = if s.greeting == s.seats then Dropped else (if takes_seat s then Greeted else TurnedAway (reason_at s))

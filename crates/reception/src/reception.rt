@@ -1,7 +1,7 @@
 //! Who may watch, and when a recorder is done.
 
-ghost use Rattle.std.specs.Prelude.{◌≡◌, ◌≤◌, ◌<◌, ◌+◌, ◌-◌, ◌^◌, ℕ, true, false, Some};
-ghost use Rattle.reception.specs.State.{viewers_of, free_places, is_closing, is_done, arrival_at, takes_seat};
+ghost use Rattle.std.specs.Prelude.{◌≡◌, ◌↔◌, ◌≤◌, ◌<◌, ◌+◌, ◌-◌, ◌^◌, ℕ, true, false, Some, IfErr, IsOk, OnErr, OnOk};
+ghost use Rattle.reception.specs.State.{viewers_of, free_places, missing, is_closing, is_done, arrival_at, takes_seat, reason_at};
 
 use crate::term::{Arrival, Reason, Term};
 use std::marker::Model;
@@ -67,17 +67,41 @@ impl Reception {
         let _watching = self.watching;
     }
 
+    /// How many viewers are still to come, of those that are waited for.
+    pub fn missing(&self) -> u32
+        ensures { result ≡ missing self.now }
+    {
+        match self.term {
+            Term::Viewers(all) => all - (self.watching + self.gone as u32),
+            Term::Recording | Term::Stop => 0,
+        }
+    }
+
     // How many viewers may still take a seat.
     fn free_places(&self) -> u32
         ensures { result ≡ free_places self.now }
     {
         let empty = self.seats - self.watching;
         match self.term {
-            Term::Viewers(all) => {
-                let left = all - (self.watching + self.gone as u32);
-                empty.min(left)
-            }
+            Term::Viewers(_) => empty.min(self.missing()),
             Term::Recording | Term::Stop => empty,
+        }
+    }
+
+    // Whether a viewer takes a seat now; else why it doesn't.
+    fn has_place(&self) -> Result<(), Reason>
+        ensures place { IsOk result ↔ (takes_seat self.now ≡ true) }
+        ensures reason { IfErr result (λ reason. reason ≡ reason_at self.now) }
+    {
+        if self.is_closing() {
+            return Err(Reason::Closing);
+        }
+        if self.free_places() > 0 {
+            return Ok(());
+        }
+        match self.term {
+            Term::Viewers(_) if self.missing() == 0 => Err(Reason::Enough),
+            _ => Err(Reason::Full),
         }
     }
 
@@ -112,12 +136,9 @@ impl Reception {
             return Arrival::Dropped;
         }
         self.greeting += 1;
-        if self.is_closing() {
-            Arrival::TurnedAway(Reason::Closing)
-        } else if self.free_places() == 0 {
-            Arrival::TurnedAway(Reason::Full)
-        } else {
-            Arrival::Greeted
+        match self.has_place() {
+            Ok(()) => Arrival::Greeted,
+            Err(reason) => Arrival::TurnedAway(reason),
         }
     }
 
@@ -129,19 +150,18 @@ impl Reception {
         self.greeting = self.greeting.saturating_sub(1);
     }
 
-    /// Ends a handshake that is whole: whether the viewer takes a seat. It does where one is free,
-    /// also when others came first since it arrived.
-    pub fn seat(&mut self) -> bool
-        ensures taken { result ≡ takes_seat self.old }
-        ensures seated { result ≡ true → self.new ≡ record self.old { greeting = self.old.greeting - 1; watching = self.old.watching + 1 } }
-        ensures refused { result ≡ false → self.new ≡ record self.old { greeting = self.old.greeting - 1 } }
+    /// Ends a handshake that is whole: the viewer takes a seat where one is free, also when others came
+    /// first since it arrived; else this is why not.
+    pub fn seat(&mut self) -> Result<(), Reason>
+        ensures taken { IsOk result ↔ (takes_seat self.old ≡ true) }
+        ensures reason { IfErr result (λ reason. reason ≡ reason_at self.old) }
+        ensures seated { OnOk result (self.new ≡ record self.old { greeting = self.old.greeting - 1; watching = self.old.watching + 1 }) }
+        ensures refused { OnErr result (self.new ≡ record self.old { greeting = self.old.greeting - 1 }) }
     {
         self.give_up();
-        if self.is_closing() || self.free_places() == 0 {
-            return false;
-        }
+        self.has_place()?;
         self.watching += 1;
-        true
+        Ok(())
     }
 
     /// Frees the seat of a viewer who left. Where nobody watches it does nothing. More than

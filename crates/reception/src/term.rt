@@ -16,6 +16,8 @@ pub enum Term {
 pub enum Reason {
     /// No seat is free.
     Full,
+    /// As many viewers have come as are served in all.
+    Enough,
     /// No more viewers are taken: the recorder is about to end.
     Closing,
 }

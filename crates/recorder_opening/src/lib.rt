@@ -4,9 +4,11 @@
 mod beginning;
 mod draft;
 mod opening;
+mod reading;
 mod recording;
 mod stopped;
 
 pub use opening::{Opened, Opening, Source};
+pub use reading::Reading;
 pub use recording::Identity;
 pub use stopped::Stopped;

@@ -1,6 +1,7 @@
 //! A recorder's beginning: the recording, the host, and where viewers come.
 
 use crate::beginning::beginning_of;
+use crate::reading::Reading;
 use crate::recording::{Found, Identity};
 use crate::stopped::Stopped;
 use broadcast::Desk;
@@ -27,6 +28,8 @@ pub struct Opening<'a, R> {
     pub last_error: &'a LastError,
     /// How far the recording's file is written.
     pub written: &'a Written,
+    /// How far it is read, where there is a recording.
+    pub reading: &'a Reading,
 }
 
 /// A host, if there is one, and a second handle of its stream.
@@ -96,14 +99,14 @@ impl<
             return Ok(None);
         };
         let (format, expected) = match found {
-            Found::Recording(book, _) => (book.header().format(), Some(book.header().size())),
+            Found::Recording(unread) => (unread.header.format(), Some(unread.header.size())),
             _ => (self.plan.format, None),
         };
         let host = Host::connect(self.rt, address, format, expected, self.telling)?;
         Ok(Some(Box::new(self.rt.alloc(), host)?))
     }
 
-    // The recording that was found, or a new one for a host.
+    // The recording that was found, read, or a new one for a host.
     fn recording(
         &self,
         found: Found,
@@ -111,7 +114,7 @@ impl<
     ) -> Result<(Box<Book<FileDisk>>, Identity), Stopped> {
         // A file without bytes stays locked until the recording has taken its place.
         let _empty = match found {
-            Found::Recording(book, identity) => return Ok((book, identity)),
+            Found::Recording(unread) => return Ok(self.read(unread)?),
             Found::Empty(file) => Some(file),
             Found::Nothing => None,
         };
@@ -148,8 +151,8 @@ impl<
         })
     }
 
-    /// Opens the recording, connects to the host, listens, and makes the recording where there is
-    /// none.
+    /// Finds the recording, connects to the host, listens, and reads the recording, which may take
+    /// long, or makes it where there is none.
     pub fn open<L: FnOnce() -> io::Result<TcpListener> + Drop>(
         &self,
         listen: L,

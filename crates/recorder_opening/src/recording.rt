@@ -2,18 +2,30 @@
 
 use crate::draft::{DraftFault, draft_path, open_draft};
 use crate::opening::Opening;
+use block_walk::{hidden_behind, read_header};
 use connections::Refusal;
 use file_disk::{FileDisk, LastError, Written, sync_name};
 use flusher_core::Book;
 use gated_journal::{CreateFault, Header};
 use key_index::IndexFault;
+use pixel_format::Format;
 use std::alloc::Global;
 use std::fs::{File, Metadata, OpenOptions};
 use std::os::unix::fs::MetadataExt;
 use std::rt::Files;
 use std::sync::Wait;
-use std::{fs, io};
+use std::time::{Clock, Duration};
+use std::{fs, io, thread};
 use telling::Event;
+
+/// How often a lock is tried, and for how many milliseconds it waits between two tries.
+const TRIES: u32 = 5;
+
+const BETWEEN_TRIES: u64 = 20;
+
+/// How many blocks that go on with the digests a crash leaves at most behind the end of a recording:
+/// the one whose gate wasn't opened yet.
+const LEFT_BY_CRASH: u64 = 1;
 
 /// Which file of the system one is, whatever its name.
 #[derive(Clone, Copy, Debug, PartialEq, Eq)]
@@ -39,26 +51,41 @@ impl Identity {
     }
 }
 
+/// A recording of which only the header is read: its file, open and locked.
+#[derive(Drop)]
+pub struct Unread {
+    pub header: Header,
+    file: File,
+    identity: Identity,
+    length: u64,
+}
+
 /// What stands at the recording's path.
 #[derive(Drop)]
 pub enum Found {
-    /// A recording, opened. It is boxed, since it is large, and each way out of a function that owns
-    /// it would take it apart.
-    Recording(Box<Book<FileDisk>>, Identity),
+    /// A recording.
+    Recording(Unread),
     /// A file without bytes, open and locked.
     Empty(File),
     /// Nothing.
     Nothing,
 }
 
-// Locks a file, so that no two recorders write it: alone, or beside others that only read.
-fn lock(file: &File, is_written: bool) -> io::Result<()> {
-    let locked = if is_written {
-        file.try_lock()
-    } else {
-        file.try_lock_shared()
-    };
-    locked.map_err(|_| io::ErrorKind::WouldBlock.into())
+// Locks a file, so that no two recorders write it: alone, or beside others that only read. Who only
+// looks whether a recorder writes it has it locked for a moment, too.
+fn lock<R: Clock + Wait>(rt: &R, file: &File, is_written: bool) -> io::Result<()> {
+    for _ in 0..TRIES {
+        let locked = if is_written {
+            file.try_lock()
+        } else {
+            file.try_lock_shared()
+        };
+        if locked.is_ok() {
+            return Ok(());
+        }
+        thread::sleep(rt, Duration::from_millis(BETWEEN_TRIES));
+    }
+    Err(io::ErrorKind::WouldBlock.into())
 }
 
 // Whether a link stands at a path. A file that is renamed to it would take the link's place.
@@ -84,7 +111,7 @@ fn boxed<T: Drop>(alloc: Global, value: T, refusal: Refusal) -> Result<Box<T>, R
     Box::new(alloc, value).map_err(|_| refusal)
 }
 
-impl<'a, R: AllocGlobal + Eprint + Files<File = File> + Wait> Opening<'a, R> {
+impl<'a, R: AllocGlobal + Clock + Eprint + Files<File = File> + Wait> Opening<'a, R> {
     // Tells of a file that a recorder has open why it can't be locked.
     fn tell_lock(&self, error: &io::Error) {
         let path = self.plan.file;
@@ -112,7 +139,7 @@ impl<'a, R: AllocGlobal + Eprint + Files<File = File> + Wait> Opening<'a, R> {
             .write(is_written)
             .open(self.rt, path);
         let file = self.given(opened, "open", path, Refusal::File)?;
-        match lock(&file, is_written).and_then(|()| file.metadata()) {
+        match lock(self.rt, &file, is_written).and_then(|()| file.metadata()) {
             Ok(metadata) => Ok(Some((file, metadata))),
             Err(error) => {
                 self.tell_lock(&error);
@@ -143,22 +170,44 @@ impl<'a, R: AllocGlobal + Eprint + Files<File = File> + Wait> Opening<'a, R> {
         }
     }
 
-    // Opens the recording in a file of this length.
+    // The header of the recording in a file of this length.
+    fn header_of(&self, file: &File, length: u64) -> Result<Header, Refusal> {
+        let again = self.again(file)?;
+        let mut disk = FileDisk::to_read(self.rt, again);
+        match read_header(self.rt.alloc(), &mut disk, length) {
+            Ok(header) => Ok(header),
+            Err(fault) => Err(Refusal::Recording(IndexFault::Journal(fault))),
+        }
+    }
+
+    // A second handle of the recording's file.
+    fn again(&self, file: &File) -> Result<File, Refusal> {
+        self.given(file.try_clone(), "open", self.plan.file, Refusal::File)
+    }
+
+    // Opens the recording in a file of this length. In format 2 all of it is read twice.
     fn open_book(
         &self,
         file: File,
         is_written: bool,
         length: u64,
+        format: Format,
     ) -> Result<Box<Book<FileDisk>>, Refusal> {
         let no_memory = Refusal::Recording(IndexFault::NoMemory);
         let (last_error, written) = self.notes().ok_or(no_memory)?;
+        let tally = self.reading.tally.share().map_err(|_| no_memory)?;
         written.note(length);
+        self.reading.begin(match format {
+            Format::One => length,
+            Format::Two => length.saturating_mul(2),
+        });
         let disk = if is_written {
             FileDisk::new(file)
         } else {
             FileDisk::to_read(self.rt, file)
         };
-        match Book::open(self.rt.alloc(), disk.noting(last_error, written)) {
+        let disk = disk.noting(last_error, written).counting(tally);
+        match Book::open(self.rt.alloc(), disk) {
             Ok(book) => boxed(self.rt.alloc(), book, no_memory),
             Err(refused) => {
                 self.tell_last_error("read", self.plan.file);
@@ -167,17 +216,53 @@ impl<'a, R: AllocGlobal + Eprint + Files<File = File> + Wait> Opening<'a, R> {
         }
     }
 
-    /// Opens the recording at the plan's path, for a host to be written, else only to be read, and
-    /// locks its file. What is no file is refused, and so is a link to nothing or to a file without
-    /// bytes.
+    // Refuses a recording that was longer once: behind the closed gate at its end more blocks go on
+    // with its digests than a crash leaves there. What is recorded next would be written over them.
+    fn demand_end(&self, book: &Book<FileDisk>, file: File) -> Result<(), Refusal> {
+        let mut disk = FileDisk::to_read(self.rt, file);
+        let gate = book.end().saturating_sub(1);
+        let last = book.last_digest();
+        let hidden = hidden_behind(self.rt.alloc(), &mut disk, book.header(), &last, gate)?;
+        if hidden.blocks > LEFT_BY_CRASH {
+            self.telling.tell(self.rt, Event::Hidden(hidden.blocks));
+            return Err(Refusal::Hidden);
+        }
+        Ok(())
+    }
+
+    /// Reads a recording that was found. One that is to be written is refused where blocks behind its
+    /// end go on with the digests, if the plan doesn't give them up.
+    pub fn read(&self, unread: Unread) -> Result<(Box<Book<FileDisk>>, Identity), Refusal> {
+        let is_written = self.plan.host.is_some();
+        let Unread {
+            header,
+            file,
+            identity,
+            length,
+        } = unread;
+        let again = self.again(&file)?;
+        let book = self.open_book(file, is_written, length, header.format())?;
+        if is_written && !self.plan.overwrites {
+            self.demand_end(&book, again)?;
+        }
+        Ok((book, identity))
+    }
+
+    /// Finds the recording at the plan's path, for a host to be written, else only to be read; locks
+    /// its file, and reads its header. What is no file is refused, and so is a link to nothing or to a
+    /// file without bytes.
     pub fn find(&self) -> Result<Found, Refusal> {
         let is_written = self.plan.host.is_some();
         let found = match self.open_file(is_written)? {
             Some((file, metadata)) if is_written && metadata.len() == 0 => Found::Empty(file),
             Some((file, metadata)) => {
                 self.settle_name(is_written)?;
-                let book = self.open_book(file, is_written, metadata.len())?;
-                return Ok(Found::Recording(book, Identity::of(&metadata)));
+                return Ok(Found::Recording(Unread {
+                    header: self.header_of(&file, metadata.len())?,
+                    file,
+                    identity: Identity::of(&metadata),
+                    length: metadata.len(),
+                }));
             }
             None => Found::Nothing,
         };

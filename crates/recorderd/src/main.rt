@@ -4,9 +4,10 @@
 ghost use Rattle.std.specs.Prelude.{◌≤◌, IfSome};
 ghost use Rattle.std.specs.Process.{exit_status};
 
-use command_line::command;
+use command_line::{command, no_words};
 use file_disk::Progress;
 use std::fs::{File, OpenOptions};
+use std::io::IsTerminal;
 use std::os::fd::AsRawFd;
 use std::process::ExitCode;
 use std::{env, io};
@@ -39,7 +40,8 @@ fn arguments(rt: &HostRuntime) -> io::Result<Vec<String>> {
     Ok(env::args(rt)?.collect(rt.alloc())?)
 }
 
-// How the program ends: with the status of its command, or with 1 where its words can't be read.
+// How the program ends: with the status of its command, or with 1 where there is no memory for its
+// words.
 fn exit_code(status: Option<u8>) -> ExitCode
     requires { IfSome status (λ status. status ≤ 2) }
     ensures { exit_status result ≤ 2 }
@@ -49,12 +51,25 @@ fn exit_code(status: Option<u8>) -> ExitCode
 
 fn main(rt: HostRuntime) -> ExitCode {
     let _held = hold_standard_streams(&rt);
-    let Ok(words) = arguments(&rt) else {
-        return exit_code(None);
+    let mut err = rt.stderr();
+    let is_attended = err.is_terminal();
+    let words = match arguments(&rt) {
+        Ok(words) => words,
+        Err(error) if error.kind() == io::ErrorKind::InvalidData => {
+            return exit_code(Some(no_words(is_attended, &mut err)));
+        }
+        Err(_) => return exit_code(None),
     };
     let mut out = io::writer(&rt);
-    let mut err = rt.stderr();
     let progress = Progress::new(err);
-    let status = command(&rt, &words, progress, rt.reader(), &mut out, &mut err);
+    let status = command(
+        &rt,
+        &words,
+        is_attended,
+        progress,
+        rt.reader(),
+        &mut out,
+        &mut err,
+    );
     exit_code(Some(status))
 }

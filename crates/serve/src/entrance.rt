@@ -96,8 +96,8 @@ impl<'a, D: Disk + Send, M: Mark + Send + Sync, R: Threads + Clock + Wait + Sync
             room.telling.tell(rt, Event::Unheard(from));
             return;
         };
-        if !room.hall.seat(rt) {
-            room.telling.tell(rt, Event::TurnedAway(from, Reason::Full));
+        if let Err(reason) = room.hall.seat(rt) {
+            room.telling.tell(rt, Event::TurnedAway(from, reason));
             return;
         }
         room.telling.tell(rt, Event::Came(from));
@@ -111,6 +111,7 @@ impl<'a, D: Disk + Send, M: Mark + Send + Sync, R: Threads + Clock + Wait + Sync
         if let Arrival::TurnedAway(reason) = arrival {
             let text = match reason {
                 Reason::Full => "all seats are taken",
+                Reason::Enough => "as many viewers have come as are served",
                 Reason::Closing => "the recording has ended",
             };
             return self.refuse(&stream, Event::TurnedAway(from, reason), text);

@@ -12,3 +12,4 @@ pub use connections::{Audience, Format, Origin, Plan, Playing};
 pub use playing::Pace;
 pub use serving::{serve, serve_on};
 pub use sockets::Stop;
+pub use telling::Told;

@@ -135,6 +135,14 @@ impl<'a, D: Disk, M: Mark, R: Clock + Wait> Service<'a, D, M, R> {
         Outcome { refusal, told }
     }
 
+    // Tells how many viewers are still waited for, once nothing more is recorded.
+    fn tell_missing(&self) {
+        let missing = self.room.hall.missing(self.rt);
+        if missing > 0 {
+            self.room.telling.tell(self.rt, Event::Missing(missing));
+        }
+    }
+
     // Ends what was started, where a thread couldn't be made.
     fn give_up(&self) {
         self.shut(Shutdown::Both);
@@ -171,6 +179,7 @@ impl<'a, D: Disk, M: Mark, R: Threads + Clock + Wait> Service<'a, D, M, R> {
         let ends = self.record_all(host);
         let outcome = self.outcome_of(first_refusal(ends), err);
         self.room.hall.end(self.rt);
+        self.tell_missing();
         self.room.hall.wait_until_done(self.rt);
         self.room.bell.ring();
         let is_listener_sound = viewers.join(self.rt);
@@ -212,7 +221,7 @@ impl<'a, D: Disk + Send, M: Mark + Send + Sync, R: Threads + Clock + Wait + Sync
         if stop.may_come() {
             scope.spawn(move || self.stop_when(stop)).ok()?;
         }
-        if host.is_some() && self.room.telling.is_verbose() {
+        if host.is_some() && self.room.telling.tells_all() {
             scope.spawn(move || self.watch_device()).ok()?;
         }
         let viewers = scope.spawn(move || self.accept_all()).ok()?;

@@ -8,7 +8,7 @@ use crate::service::{Service, run_threads};
 use connections::{Device, Plan, Refusal, Room};
 use file_disk::{LastError, Written};
 use libc::STDERR_FILENO;
-use recorder_opening::{Opened, Opening, Source, Stopped};
+use recorder_opening::{Opened, Opening, Reading, Source, Stopped};
 use shared_book::{Mark, Shared, Token};
 use sockets::Bell;
 use std::fmt::Display;
@@ -18,7 +18,7 @@ use std::marker::Brand;
 use std::net::{Net, TcpListener, TcpStream};
 use std::rt::Files;
 use std::sync::Wait;
-use std::thread::Threads;
+use std::thread::{JoinHandle, Threads};
 use std::time::Clock;
 use std::{io, thread};
 use telling::{Event, Telling};
@@ -95,10 +95,29 @@ fn say<O: Write, T: Display + Drop>(out: &mut O, line: T) -> io::Result<()> {
     out.flush()
 }
 
+// The reading of a recording, and the thread that tells how far it is.
+#[derive(Drop)]
+struct WatchedReading<'a> {
+    reading: &'a Reading,
+    watcher: Option<JoinHandle<()>>,
+}
+
+impl WatchedReading<'_> {
+    // Says that it is over, and waits for the thread: where few threads can be had, others need it.
+    fn end<R: Threads + Wait>(self, rt: &R) {
+        let WatchedReading { reading, watcher } = self;
+        reading.end(rt);
+        if let Some(watcher) = watcher {
+            watcher.join(rt);
+        }
+    }
+}
+
 fn run<'a, R, L, O, W>(
     rt: &'a R,
     plan: &'a Plan<'a>,
     telling: &'a Telling,
+    watched: WatchedReading<'a>,
     listen: L,
     out: &mut O,
     err: &mut W,
@@ -119,11 +138,14 @@ where
         telling: &*telling,
         last_error: &last_error,
         written: &written,
+        reading: watched.reading,
     };
     // These come first, so that no file is made where they can't be had.
     let bell = opening.given(Bell::new(rt), "make a bell for", plan.listen, Refusal::Net)?;
     let token = Token::new(rt.alloc())?;
-    let opened = Box::new(rt.alloc(), opening.open(listen)?)?;
+    let opened = opening.open(listen);
+    watched.end(rt);
+    let opened = Box::new(rt.alloc(), opened?)?;
     let identity = opened.identity;
     say(out, "serving")?;
     let committed = serve_opened::<Brand, R, W>(
@@ -172,7 +194,8 @@ where
     R: Net<Stream = TcpStream, Listener = TcpListener>,
     requires { L.IsAlwaysCallable listen }
 {
-    let telling = &Telling::new(rt.alloc(), plan.is_verbose)?;
+    let telling = &Telling::new(rt.alloc(), plan.told)?;
+    let reading = &Reading::new(rt.alloc())?;
     thread::scope(
         thread::scope_env(),
         rt,
@@ -183,11 +206,20 @@ where
                 || scope
                     .spawn(move || telling.write_to(rt, STDERR_FILENO))
                     .is_ok();
+            let watcher = if telling.is_verbose() {
+                scope
+                    .spawn(move || reading.watch(rt, telling, plan.file))
+                    .ok()
+            } else {
+                None
+            };
+            let watched = WatchedReading { reading, watcher };
             let ended = if is_written {
-                run(rt, plan, telling, listen, out, err)
+                run(rt, plan, telling, watched, listen, out, err)
             } else {
                 Err(Stopped::Refused(Refusal::Thread))
             };
+            reading.end(rt);
             let outcome = outcome_of(rt, telling, ended, err);
             telling.end(rt);
             outcome

@@ -3,7 +3,7 @@
 
 ghost use Rattle.std.specs.Prelude.{◌≡◌};
 
-use serve::{Audience, Format, Origin, Plan, Stop};
+use serve::{Audience, Format, Origin, Plan, Stop, Told};
 
 /// A plan of a test: what it serves, to whom, and where they begin. It ends with its viewers.
 pub fn plan_of<'a>(
@@ -25,7 +25,8 @@ pub fn plan_of<'a>(
         from,
         playing: None,
         stop: Stop::never(),
-        is_verbose: false,
+        overwrites: false,
+        told: Told::Nothing,
     }
 }
 

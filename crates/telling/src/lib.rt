@@ -10,5 +10,5 @@ mod words;
 
 pub use queue::{Item, Queue};
 pub use silence::{Answering, Silence};
-pub use telling::Telling;
+pub use telling::{Telling, Told};
 pub use words::{Event, HostEnd};

@@ -91,13 +91,15 @@ impl<'a, M: Mark, C: Connection, R: Clock + Wait> Place<'a, M, C, R> {
         next == AfterFailure::Newest
     }
 
-    /// At the end of the recording: stays until the viewer leaves, or the recorder is closing and it
-    /// was shown the rest.
+    /// At the end of the recording: stays until the viewer was shown the rest, or leaves; where there
+    /// is no host, first until the recorder is closing.
     pub fn rest(&self) {
         let viewer = self.viewer;
-        self.room
-            .hall
-            .wait_until_closing(self.rt, || viewer.has_left());
+        if self.room.is_alone {
+            self.room
+                .hall
+                .wait_until_closing(self.rt, || viewer.has_left());
+        }
         viewer.wait_until_shown(self.rt);
     }
 

@@ -21,12 +21,12 @@ const RECORDING: [u8; 54] =
 const TIMES: &str =
     "{\"width\":1,\"height\":1,\"messages\":1,\"length\":0,\"every\":1,\"stretches\":[{\"time\":0,\"message\":0,\"block\":0,\"updates\":1,\"bytes\":20}]}\n";
 
-/// A bitmap of its one place, before the message and behind it.
-const BLACK: [u8; 58] =
-    *b"BM\x3a\0\0\0\0\0\0\0\x36\0\0\0\x28\0\0\0\x01\0\0\0\x01\0\0\0\x01\0\x20\0\0\0\0\0\x04\0\0\0\0\0\0\0\0\0\0\0\0\0\0\0\0\0\0\0\0\0\0\0";
+/// A picture of its one place, before the message and behind it.
+const BLACK: [u8; 101] =
+    *b"\x89PNG\r\n\x1a\n\0\0\0\rIHDR\0\0\0\x01\0\0\0\x01\x08\x02\0\0\0\x90wS\xde\0\0\0\x02IDATx\x01\xec\x1a~\xd2\0\0\0\x09IDAT\0\x04\0\xfb\xff\0\0\0\0\x90K\x91\xff\0\0\0\x09IDAT\x01\0\0\xff\xff\0\x04\0\x01\xe8\xe5Q\x1a\0\0\0\0IEND\xaeB`\x82";
 
-const RED: [u8; 58] =
-    *b"BM\x3a\0\0\0\0\0\0\0\x36\0\0\0\x28\0\0\0\x01\0\0\0\x01\0\0\0\x01\0\x20\0\0\0\0\0\x04\0\0\0\0\0\0\0\0\0\0\0\0\0\0\0\0\0\0\0\0\0\xff\0";
+const RED: [u8; 101] =
+    *b"\x89PNG\r\n\x1a\n\0\0\0\rIHDR\0\0\0\x01\0\0\0\x01\x08\x02\0\0\0\x90wS\xde\0\0\0\x02IDATx\x01\xec\x1a~\xd2\0\0\0\x09IDAT\0\x04\0\xfb\xff\0\xff\0\0.\xd3\xa5\x12\0\0\0\x09IDAT\x01\0\0\xff\xff\x03\x01\x01\0\x92\x87=\xc8\0\0\0\0IEND\xaeB`\x82";
 
 // Asks a server for something: whether it answers with this status and body.
 fn is_answered(
@@ -128,6 +128,7 @@ where
             at_end_of_input: false,
             after: Some(2),
         },
+        is_verbose: false,
     };
     let is_done = browse(
         rt,

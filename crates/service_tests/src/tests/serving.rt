@@ -96,6 +96,7 @@ fn checked(rt: &HostRuntime, file: &str) -> Result<String, Fail> {
     run(
         rt,
         &FileCommand::Check(file),
+        false,
         Progress::silent(),
         &mut out,
         &mut err,

@@ -7,7 +7,7 @@ use std::sync::Wait;
 use std::test::Fail;
 use std::thread::Threads;
 use std::{io, thread};
-use telling::{Event, Telling};
+use telling::{Event, Telling, Told};
 
 /// More lines than a socket and the queue take.
 const LINES: u64 = 20_000;
@@ -15,7 +15,7 @@ const LINES: u64 = 20_000;
 // Tells so many lines while nobody reads, and then that nothing more is told: what is read from then
 // on, if anybody reads.
 fn told<R: AllocGlobal + Net + Sync + Threads + Wait>(rt: &R, is_read: bool) -> io::Result<String> {
-    let telling = &Telling::new(rt.alloc(), true)?;
+    let telling = &Telling::new(rt.alloc(), Told::Everything)?;
     let (reader, writer) = UnixStream::pair(rt)?;
     thread::scope(thread::scope_env(), rt, |scope| {
         // The socket is closed behind it.

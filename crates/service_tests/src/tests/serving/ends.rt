@@ -13,8 +13,8 @@ use std::test::Fail;
 /// An update of the one place in blue.
 const BLUE: [u8; 20] = *b"\0\0\0\x01\0\0\0\0\0\x01\0\x01\0\0\0\0\xff\0\0\0";
 
-/// A version, and the refusal of a viewer for whom there is no seat.
-const NO_SEAT: &[u8; 36] = b"RFB 003.008\n\0\0\0\0\x13all seats are taken";
+/// A version, and the refusal of a viewer who comes when as many have come as are served.
+const ENOUGH: &[u8; 56] = b"RFB 003.008\n\0\0\0\0\x27as many viewers have come as are served";
 
 // Sends 300 updates and a blue one in one piece, and ends.
 fn burst(alloc: Global, host: &Peer) -> Result<(), Fail> {
@@ -27,8 +27,8 @@ fn burst(alloc: Global, host: &Peer) -> Result<(), Fail> {
     host.finish()
 }
 
-// One viewer comes and goes, a second is there, a third finds no seat, and one says nothing; then
-// the host ends, and the second is shown the end.
+// One viewer comes, and a second is turned away, since one is served; or it goes, a second is there,
+// and one says nothing. Then the host ends, and who is there is shown the end.
 fn the_end_is_shown(rt: &HostRuntime, ends: Loopback, stays: bool) -> Result<(), Fail> {
     let alloc = rt.alloc();
     let host = small_host(alloc, &ends.hosts)?;
@@ -37,11 +37,13 @@ fn the_end_is_shown(rt: &HostRuntime, ends: Loopback, stays: bool) -> Result<(),
     if stays {
         let refused = silent_viewer(rt, ends.viewers)?;
         refused.say(b"RFB 003.008\n")?;
-        refused.hear(alloc, NO_SEAT)?;
+        refused.hear(alloc, ENOUGH)?;
         refused.ends()?;
         first.say(&CHANGES)?;
         burst(alloc, &host)?;
-        return first.hear_at_last(alloc, &BLUE, &CHANGES);
+        first.hear_at_last(alloc, &BLUE, &CHANGES)?;
+        first.say(&CHANGES)?;
+        return first.ends();
     }
     drop(first);
     let silent = silent_viewer(rt, ends.viewers)?;
