@@ -3,10 +3,14 @@ use Rattle.std.proofs.Common.{◌≡◌, ◌≢◌, ℕ, zero, suc, ◌+◌, ◌
 use mathlib.Core.Option.{some, some-ne-none, some-injective}
 use lib.ListN.{get_elem?}
 use Rattle.std.proofs.lemmas.Bool.Decides.{nat_tests}
-use Rattle.crossbeam_utils.specs.Register.{Turns, Forks, Merges}
+use Rattle.atomic_table.specs.Table.{State, Me, Allows, Splits, Joins, keeps}
 use Rattle.atomic_table.proofs.Lists.{at_set, at_snoc, set_again}
 use Rattle.book_tokens.specs.declared.numbers.Hand.{Hand}
 use Rattle.book_tokens.specs.Numbers.{times, held_times, giver, holder, AreOnce, Learns}
+
+-- the rule of the table
+abbrev pub ruled : State (Unit {0}) Hand → Type 0
+ruled table = AreOnce table.views
 
 pub times-append : (x : ℕ) (xs ys : List ℕ) → times x (xs ++ ys) ≡ times x xs + times x ys
 times-append x [] ys = omega arith
@@ -26,7 +30,7 @@ held_snoc : (x : ℕ) (views : List Hand) (v : Hand) → held_times x (views ++ 
 held_snoc x [] v = omega arith
 held_snoc x (u ∷ views) v = omega (arith, held_snoc x views v)
 
--- what the rule says of the pass that gives
+-- what the rule says of the seat that gives
 abbrev Fits : ℕ → ℕ → ℕ → Hand → Type 0
 Fits seat next by v = v.gives ≡ true → (by ≡ seat) × (v.next ≡ next)
 
@@ -47,15 +51,16 @@ fits_snoc seat now views w all quiet j u e =
 off : false ≡ true → ⊥
 off e = true≢false (sym e)
 
-pub begins : (words : List ℕ) → AreOnce words (giver 0 ∷ [])
-begins words = record { seat = 0; next = 0; giver_is = one; once = λ x. omega arith; not_yet = λ x le. refl }
+pub begins : AreOnce (giver 0 ∷ [])
+begins = record { seat = 0; next = 0; giver_is = one; once = λ x. omega arith; not_yet = λ x le. refl }
   where
     one : (by : ℕ) (v : Hand) → get_elem? (giver 0 ∷ []) by ≡ some v → Fits 0 0 by v
     one zero v e = let same : giver 0 ≡ v = some-injective _ _ e in λ gives. (refl, sym (ap (λ h. h.next) same))
     one (suc by) v e = absurd (some-ne-none v (sym e))
 
-pub gives : (by n : ℕ) → Forks AreOnce by (giver n) (giver (n + 1)) (holder (n ∷ []))
-gives by n words views h at =
+pub gives : (by n : ℕ) → Splits ruled by (giver n) (giver (n + 1)) (holder (n ∷ []))
+gives by n table h at =
+    let views = table.views in
     let mine : (by ≡ h.seat) × (n ≡ h.next) = (h.giver_is by (giver n) at) refl in
     let left = giver (n + 1) in
     let right = holder (n ∷ []) in
@@ -81,8 +86,9 @@ gives by n words views h at =
     above x n before after is le at = grind (arith, nat_tests)
 
 -- a holder gives away a part
-pub parts : (by : ℕ) (ns xs ys : List ℕ) → ((x : ℕ) → times x ns ≡ times x xs + times x ys) → Forks AreOnce by (holder ns) (holder xs) (holder ys)
-parts by ns xs ys cut words views h at =
+pub parts : (by : ℕ) (ns xs ys : List ℕ) → ((x : ℕ) → times x ns ≡ times x xs + times x ys) → Splits ruled by (holder ns) (holder xs) (holder ys)
+parts by ns xs ys cut table h at =
+    let views = table.views in
     let left = holder xs in
     let right = holder ys in
     let after = set views by left in
@@ -96,8 +102,9 @@ parts by ns xs ys cut words views h at =
     }
 
 -- a holder takes in what another holds
-pub takes_in : (by : ℕ) (ns : List ℕ) (other : ℕ) (ms : List ℕ) → Merges AreOnce by (holder ns) other (holder ms) (holder (ns ++ ms)) (holder [])
-takes_in by ns other ms words views h at apart there =
+pub takes_in : (by : ℕ) (ns : List ℕ) (other : ℕ) (ms : List ℕ) → Joins ruled by (holder ns) other (holder ms) (holder (ns ++ ms)) (holder [])
+takes_in by ns other ms table h at apart there =
+    let views = table.views in
     let both = holder (ns ++ ms) in
     let mid = set views by both in
     let after = set mid other (holder []) in
@@ -112,11 +119,11 @@ takes_in by ns other ms words views h at apart there =
       not_yet = λ x le. sum x ∙ h.not_yet x le;
     }
 
--- a pass that looks
-pub looks : (by : ℕ) (v : Hand) → Turns AreOnce by v (λ x. x) Learns
-looks by v words views h at =
-    let same = set_again views by v at in
-    (v, subst (AreOnce words) (sym same) h, (refl, λ x. (let a = at_most x views by v at in omega (arith, a, h.once x))))
+-- a seat that looks
+pub looks : (slots id : ℕ) (me : Me (Unit {0}) Hand) → Allows ruled slots id me 0 (λ n. n) (λ found after. Learns me after)
+looks slots id me table h counted at small =
+    let same = set_again table.views id me.0 at in
+    (me.0, keeps, tt, subst AreOnce (sym same) h, (refl, λ x. (let a = at_most x table.views id me.0 at in omega (arith, a, h.once x))))
   where
     at_most : (x : ℕ) (views : List Hand) (by : ℕ) (v : Hand) → get_elem? views by ≡ some v → times x v.numbers ≤ held_times x views
     at_most x [] by v at = absurd (some-ne-none v (sym at))
@@ -131,11 +138,11 @@ differ a b once same = let o = once a in two a b o same
     two a b o same = grind (arith, nat_tests)
 
 -- the moves, at a view that is known
-pub gives_as : (by n : ℕ) (v left right : Hand) → v ≡ giver n → left ≡ giver (n + 1) → right ≡ holder (n ∷ []) → Forks AreOnce by v left right
+pub gives_as : (by n : ℕ) (v left right : Hand) → v ≡ giver n → left ≡ giver (n + 1) → right ≡ holder (n ∷ []) → Splits ruled by v left right
 gives_as by n v left right is l r = rw (is, l, r) (gives by n)
 
-pub parts_as : (by : ℕ) (ns xs ys : List ℕ) (v left right : Hand) → v ≡ holder ns → left ≡ holder xs → right ≡ holder ys → ((x : ℕ) → times x ns ≡ times x xs + times x ys) → Forks AreOnce by v left right
+pub parts_as : (by : ℕ) (ns xs ys : List ℕ) (v left right : Hand) → v ≡ holder ns → left ≡ holder xs → right ≡ holder ys → ((x : ℕ) → times x ns ≡ times x xs + times x ys) → Splits ruled by v left right
 parts_as by ns xs ys v left right is l r cut = rw (is, l, r) (parts by ns xs ys cut)
 
-pub takes_in_as : (by : ℕ) (ns : List ℕ) (other : ℕ) (ms : List ℕ) (v u both : Hand) → v ≡ holder ns → u ≡ holder ms → both ≡ holder (ns ++ ms) → Merges AreOnce by v other u both (holder [])
+pub takes_in_as : (by : ℕ) (ns : List ℕ) (other : ℕ) (ms : List ℕ) (v u both : Hand) → v ≡ holder ns → u ≡ holder ms → both ≡ holder (ns ++ ms) → Joins ruled by v other u both (holder [])
 takes_in_as by ns other ms v u both is is' b = rw (is, is', b) (takes_in by ns other ms)

@@ -3,6 +3,7 @@ use Rattle.std.specs.Prelude.{◌≡◌, ◌==◌, ◌+◌, ◌≤◌, if◌then
 use mathlib.Core.Option.{some}
 use lib.ListN.{get_elem?}
 use Rattle.atomic_table.specs.Seated.{TableId}
+use Rattle.atomic_table.specs.Table.{Me}
 use Rattle.book_tokens.specs.declared.numbers.Hand.{Hand}
 
 -- the name of no cell
@@ -59,13 +60,13 @@ abbrev pub both_of : Hand → Hand → Hand
 both_of v w = record { gives = v.gives; next = v.next; numbers = v.numbers ++ w.numbers }
 
 -- One hand gives numbers. No number is held twice, and none from the next one on.
-pub record AreOnce (words : List ℕ) (views : List Hand) : Type 0 where
+pub record AreOnce (views : List Hand) : Type 0 where
   pub seat : ℕ
   pub next : ℕ
   pub giver_is : (by : ℕ) (v : Hand) → get_elem? views by ≡ some v → v.gives ≡ true → (by ≡ seat) × (v.next ≡ next)
   pub once : (x : ℕ) → held_times x views ≤ 1
   pub not_yet : (x : ℕ) → next ≤ x → held_times x views ≡ 0
 
--- a hand stays as it is, and holds no number twice
-abbrev pub Learns : Hand → List ℕ → List ℕ → Hand → Type 0
-Learns v before after w = (w ≡ v) × ((x : ℕ) → times x v.numbers ≤ 1)
+-- a seat stays as it is, and its hand holds no number twice
+abbrev pub Learns : Me (Unit {0}) Hand → Me (Unit {0}) Hand → Type 0
+Learns v w = (w ≡ v) × ((x : ℕ) → times x v.0.numbers ≤ 1)

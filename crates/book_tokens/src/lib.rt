@@ -6,6 +6,6 @@ mod history;
 mod mark;
 mod numbers;
 
-pub use history::{Front, Growth, Log};
+pub use history::{Front, Growth, History};
 pub use mark::{Mark, Token};
 pub use numbers::{NumberProof, NumberSource};

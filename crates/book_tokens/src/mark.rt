@@ -3,10 +3,11 @@
 ghost use Rattle.std.specs.Prelude.{◌≡◌, []};
 ghost use Rattle.book_tokens.specs.History.{total};
 
-use crate::history::{Front, Log, Opened};
+use crate::history::{History, Opened};
 use crate::numbers::{Counter, NumberSource};
 use std::alloc::Global;
 use std::marker::{Brand, Model};
+use std::sync::Wait;
 use terms::NoMemory;
 
 /// Marks a desk that threads share, and all that comes from it: a receipt of one mark is known to
@@ -55,7 +56,7 @@ impl Model for Token {
 
     ghost Value = { Names };
 
-    ghost view = { λ t. record { book = t.opened.seen.book; table = t.counter.cell.table.shared.table_id } };
+    ghost view = { λ t. record { book = t.opened.seen.book; table = t.counter.table.shared.table_id } };
 }
 
 impl Token {
@@ -69,13 +70,12 @@ impl Token {
     }
 
     /// The history and the numbers that it names, under a mark that fits it.
-    pub fn named<M: Mark>(self) -> (Log<M>, Front<M>, NumberSource<M>)
+    pub fn named<M: Mark, R: Wait>(self, rt: &R) -> (History<M>, NumberSource<M>)
         requires { self ≡ M.names }
-        ensures front { result.1 ≡ total [] }
-        ensures numbers { result.2 ≡ 0 }
+        ensures history { result.0 ≡ total [] }
+        ensures numbers { result.1 ≡ 0 }
     {
         let Token { opened, counter } = self;
-        let (log, front) = opened.named::<M>();
-        (log, front, counter.named::<M>())
+        (opened.named::<M, R>(rt), counter.named::<M>())
     }
 }

@@ -1,35 +1,31 @@
 //! Numbers that are given once each.
 
-ghost use Rattle.std.specs.Prelude.{◌≡◌, ◌≢◌, ◌+◌, ◌≤◌, ℕ, [], ◌∷◌, IfOk};
-ghost use Rattle.crossbeam_utils.specs.Seq.{cell_view};
+ghost use Rattle.std.specs.Prelude.{◌≡◌, ◌≢◌, ◌+◌, ◌<◌, ◌≤◌, ℕ, [], ◌∷◌};
 ghost use Rattle.book_tokens.specs.Numbers.{giver, holder, times, IsHolder, both_of, first_of, others_of};
 
 use crate::mark::Mark;
-use atomic_table::{Join, Split};
-use crossbeam_utils::atomic::seq_cell::{Pass, RuledSeqCell};
-use crossbeam_utils::rule::{Outcome, Protocol};
+use atomic_table::{Join, Play, Seat, Split, Table, TableRule};
 use std::alloc::{AllocError, Global};
 use std::collections::LinkedList;
 use std::marker::{Model, PhantomData};
-use std::sync::Wait;
 
-/// What a pass knows: whether it gives numbers, the next one, and those that it holds. No value of
-/// it is made.
+/// What a seat knows: whether it gives numbers, the next one, and those that it holds. No value of it
+/// is made.
 pub struct Hand {
     pub gives: bool,
     pub next: u64,
     pub numbers: LinkedList<u64>,
 }
 
-/// The rule of the numbers: each is held once. The cell's own word plays no part.
+/// The rule of the numbers: each is held once. The table's one word plays no part.
 pub struct Once;
 
-impl Protocol<[u64; 1], Hand> for Once {
+impl TableRule<(), Hand, ()> for Once {
     ghost use Rattle.book_tokens.specs.Numbers.{giver, AreOnce};
 
-    ghost holds = { AreOnce };
+    ghost holds = { λ key table. AreOnce table.views };
 
-    ghost first = { giver 0 };
+    ghost first = { λ key. giver 0 };
 }
 
 /// The giver gives its next number.
@@ -77,41 +73,42 @@ impl Split<Hand> for Rest {
 /// The step that only looks.
 pub struct Looks;
 
-impl Outcome<[u64; 1], Hand> for Looks {
+impl Play<(), Hand> for Looks {
     ghost use Rattle.book_tokens.specs.Numbers.{Learns};
 
-    ghost then = { Learns };
+    ghost then = { λ s before found after. Learns before after };
 }
 
-type Cell = RuledSeqCell<[u64; 1], Hand, Once, 1>;
+type NumberTable = Table<(), Hand, (), Once, Global>;
 
-type NumberPass = Pass<[u64; 1], Hand>;
+type NumberSeat = Seat<(), Hand>;
 
 /// A new counter, which has no mark yet.
 #[derive(Drop)]
 pub struct Counter {
-    cell: Cell,
-    pass: NumberPass,
-    pub ghost same: { pass.table_id ≡ cell.table.shared.table_id },
-    pub ghost all: { cell_view pass ≡ giver 0 },
+    table: NumberTable,
+    seat: NumberSeat,
+    pub ghost same: { seat.table_id ≡ table.shared.table_id },
+    pub ghost word: { table.shared.table_id.words ≡ 1 },
+    pub ghost all: { seat.me.0 ≡ giver 0 },
 }
 
 impl Counter {
     /// One that gives 0 first; its one word takes memory.
     pub fn new(alloc: Global) -> Result<Counter, AllocError> {
-        let (cell, pass) = Cell::ruled(alloc, [0])?;
-        Ok(Counter { cell, pass })
+        let (table, seat) = Table::of_words(alloc, &[0], &())?;
+        Ok(Counter { table, seat })
     }
 
     /// The counter under a mark.
     pub fn named<M: Mark>(self) -> NumberSource<M>
-        requires { self.cell.table.shared.table_id ≡ M.names.table }
+        requires { self.table.shared.table_id ≡ M.names.table }
         ensures { result ≡ 0 }
     {
-        let Counter { cell, pass } = self;
+        let Counter { table, seat } = self;
         NumberSource {
-            cell,
-            pass,
+            table,
+            seat,
             of: PhantomData,
         }
     }
@@ -120,40 +117,39 @@ impl Counter {
 /// Gives numbers. Contracts see the next one.
 #[derive(Drop)]
 pub struct NumberSource<M: Mark> {
-    cell: Cell,
-    pass: NumberPass,
+    table: NumberTable,
+    seat: NumberSeat,
     of: PhantomData<M>,
 }
 
 impl<M: Mark> Model for NumberSource<M> {
     ghost use Rattle.std.specs.Prelude.{◌≡◌, ℕ};
-    ghost use Rattle.crossbeam_utils.specs.Seq.{cell_view};
     ghost use Rattle.book_tokens.specs.Numbers.{giver};
 
     ghost Value = { ℕ };
 
-    ghost view = { λ g. (cell_view g.pass).next };
+    ghost view = { λ g. g.seat.me.0.next };
 
-    ghost invariant = { λ g. (g.cell.table.shared.table_id ≡ M.names.table) × (g.pass.table_id ≡ M.names.table) × (cell_view g.pass ≡ giver (cell_view g.pass).next) };
+    ghost invariant = { λ g. (g.table.shared.table_id ≡ M.names.table) × (g.table.shared.table_id.words ≡ 1)
+        × (g.seat.table_id ≡ M.names.table) × (g.seat.me.0 ≡ giver g.seat.me.0.next) };
 }
 
 /// The one holder of a number. Contracts see the number.
 #[derive(Drop)]
 pub struct NumberProof<M: Mark> {
-    pass: NumberPass,
+    seat: NumberSeat,
     of: PhantomData<M>,
 }
 
 impl<M: Mark> Model for NumberProof<M> {
     ghost use Rattle.std.specs.Prelude.{◌≡◌, [], ◌∷◌, ℕ, slice_index};
-    ghost use Rattle.crossbeam_utils.specs.Seq.{cell_view};
     ghost use Rattle.book_tokens.specs.Numbers.{holder};
 
     ghost Value = { ℕ };
 
-    ghost view = { λ s. slice_index (cell_view s.pass).numbers 0 };
+    ghost view = { λ s. slice_index s.seat.me.0.numbers 0 };
 
-    ghost invariant = { λ s. (s.pass.table_id ≡ M.names.table) × (cell_view s.pass ≡ holder (slice_index (cell_view s.pass).numbers 0 ∷ [])) };
+    ghost invariant = { λ s. (s.seat.table_id ≡ M.names.table) × (s.seat.me.0 ≡ holder (slice_index s.seat.me.0.numbers 0 ∷ [])) };
 }
 
 impl<M: Mark> NumberSource<M> {
@@ -162,54 +158,58 @@ impl<M: Mark> NumberSource<M> {
         ensures given { result ≡ self.old }
         ensures next { self.new ≡ self.old + 1 }
     {
-        let pass = self.cell.split_pass::<Gives>(&mut self.pass);
+        let table = &self.table;
+        let seat = table.shared.split_seat::<Gives>(&mut self.seat);
         NumberProof {
-            pass,
+            seat,
             of: PhantomData,
         }
     }
 
     /// Does nothing: its contract is that two holders have different numbers.
-    pub fn apart<R: Wait>(&self, rt: &R, one: &mut NumberProof<M>, other: &mut NumberProof<M>)
+    pub fn apart(&self, one: &mut NumberProof<M>, other: &mut NumberProof<M>)
         ensures apart { one.old ≢ other.old }
         ensures one { one.new ≡ one.old }
         ensures other { other.new ≡ other.old }
     {
-        gather(&self.cell, &mut one.pass, &mut other.pass);
-        look(&self.cell, rt, &mut one.pass);
-        give_back(&self.cell, &mut one.pass, &mut other.pass);
+        gather(&self.table, &mut one.seat, &mut other.seat);
+        look(&self.table, &mut one.seat);
+        give_back(&self.table, &mut one.seat, &mut other.seat);
     }
 }
 
-// Has a pass hold what the other holds, too.
-fn gather(cell: &Cell, one: &mut NumberPass, other: &mut NumberPass)
-    requires table { one.old.table_id ≡ cell.now.table.shared.table_id }
+// Has a seat hold what the other holds, too.
+fn gather(table: &NumberTable, one: &mut NumberSeat, other: &mut NumberSeat)
+    requires word { table.now.shared.table_id.words ≡ 1 }
+    requires table { one.old.table_id ≡ table.now.shared.table_id }
     requires same { other.old.table_id ≡ one.old.table_id }
-    requires held { IsHolder (cell_view one.old) × IsHolder (cell_view other.old) }
+    requires held { IsHolder one.old.me.0 × IsHolder other.old.me.0 }
     ensures table { (one.new.table_id ≡ one.old.table_id) × (other.new.table_id ≡ other.old.table_id) }
-    ensures both { cell_view one.new ≡ both_of (cell_view one.old) (cell_view other.old) }
+    ensures both { one.new.me.0 ≡ both_of one.old.me.0 other.old.me.0 }
 {
-    let taken = cell.split_pass::<All>(other);
-    cell.join_pass::<All>(one, taken);
+    let taken = table.shared.split_seat::<All>(other);
+    table.shared.join_seat::<All>(one, taken);
 }
 
-// Does nothing: its contract is that no number is held twice by one pass.
-fn look<R: Wait>(cell: &Cell, rt: &R, one: &mut NumberPass)
-    requires table { one.old.table_id ≡ cell.now.table.shared.table_id }
+// Does nothing: its contract is that no number is held twice by one seat.
+fn look(table: &NumberTable, one: &mut NumberSeat)
+    requires word { table.now.shared.table_id.words ≡ 1 }
+    requires table { one.old.table_id ≡ table.now.shared.table_id }
     ensures table { one.new.table_id ≡ one.old.table_id }
-    ensures held { cell_view one.new ≡ cell_view one.old }
-    ensures once { (x : ℕ) → times x (cell_view one.old).numbers ≤ 1 }
+    ensures held { one.new.me.0 ≡ one.old.me.0 }
+    ensures once { (x : ℕ) → times x one.old.me.0.numbers ≤ 1 }
 {
-    let _ = cell.load_as::<Looks, R>(rt, one);
+    let _word = table.shared.load::<Looks>(one, 0);
 }
 
-// Has the other hold all but a pass's first number.
-fn give_back(cell: &Cell, one: &mut NumberPass, other: &mut NumberPass)
-    requires table { one.old.table_id ≡ cell.now.table.shared.table_id }
-    requires held { IsHolder (cell_view one.old) }
+// Has the other hold all but a seat's first number.
+fn give_back(table: &NumberTable, one: &mut NumberSeat, other: &mut NumberSeat)
+    requires word { table.now.shared.table_id.words ≡ 1 }
+    requires table { one.old.table_id ≡ table.now.shared.table_id }
+    requires held { IsHolder one.old.me.0 }
     ensures table { (one.new.table_id ≡ one.old.table_id) × (other.new.table_id ≡ one.old.table_id) }
-    ensures first { cell_view one.new ≡ first_of (cell_view one.old) }
-    ensures others { cell_view other.new ≡ others_of (cell_view one.old) }
+    ensures first { one.new.me.0 ≡ first_of one.old.me.0 }
+    ensures others { other.new.me.0 ≡ others_of one.old.me.0 }
 {
-    *other = cell.split_pass::<Rest>(one);
+    *other = table.shared.split_seat::<Rest>(one);
 }

@@ -1,8 +1,12 @@
 //! Answers: HTTP responses with a body that is known before it is written.
 
 use crate::request::Fault;
-use std::io;
+use arrayvec::ArrayString;
 use std::io::Write;
+use std::{fmt, io};
+
+/// No text of a fault of a request is longer, in bytes.
+const LONGEST_WHY: usize = 100;
 
 /// What an answer is, in HTTP's words (RFC 9110, sections 8.3 and 15).
 #[derive(Clone, Copy)]
@@ -59,18 +63,14 @@ pub fn write_failure<W: Write>(out: &mut W, status: &str, why: &str) -> io::Resu
 
 /// Writes why a request is refused.
 pub fn write_fault<W: Write>(out: &mut W, fault: Fault) -> io::Result<()> {
-    let (status, why) = match fault {
-        Fault::BadRequest => ("400 Bad Request", "this isn't an HTTP request\n"),
-        Fault::Forbidden => (
-            "403 Forbidden",
-            "this server answers to addresses and to localhost alone\n",
-        ),
-        Fault::NotFound => ("404 Not Found", "there is no such thing\n"),
-        Fault::MethodNotAllowed => ("405 Method Not Allowed", "only GET is answered\n"),
-        Fault::TooLarge => (
-            "431 Request Header Fields Too Large",
-            "the request's head is too long\n",
-        ),
+    let status = match fault {
+        Fault::BadRequest => "400 Bad Request",
+        Fault::Forbidden => "403 Forbidden",
+        Fault::NotFound => "404 Not Found",
+        Fault::MethodNotAllowed => "405 Method Not Allowed",
+        Fault::TooLarge => "431 Request Header Fields Too Large",
     };
-    write_failure(out, status, why)
+    let mut why = ArrayString::<LONGEST_WHY>::new();
+    let _written = fmt::Write::write_fmt(&mut why, format_args!("{fault}\n"));
+    write_failure(out, status, why.as_str())
 }

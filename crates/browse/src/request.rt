@@ -9,10 +9,11 @@ ghost use Rattle.browse.specs.Requests.{AsksForNothing, IsAskedBy, IsNoGet, IsQu
 ghost use Rattle.terms.specs.Decimal.{number_of};
 
 use file_commands::Moment;
+use httparse::Status;
 use httparse::spans::{EMPTY_HEADER_SPAN, HeaderSpan, RequestSpans, parse_request};
-use httparse::{Error, Status};
 use std::net::{Ipv4Addr, Ipv6Addr};
 use terms::decimal_number;
+use thiserror::Error;
 
 /// No head of a request is longer, in bytes.
 pub const LONGEST_HEAD: usize = 8192;
@@ -36,17 +37,22 @@ pub enum Asked {
 }
 
 /// Why a request is refused, by what HTTP has for it (RFC 9110, section 15.5; 431 is of RFC 6585).
-#[derive(Clone, Copy, Debug, PartialEq, Eq)]
+#[derive(Clone, Copy, Debug, PartialEq, Eq, Error)]
 pub enum Fault {
     /// 400: it isn't HTTP/1.
+    #[error("this isn't an HTTP request")]
     BadRequest,
     /// 403: it was sent to another name than an address or `localhost`.
+    #[error("this server answers to addresses and to localhost alone")]
     Forbidden,
     /// 404: there is no such thing.
+    #[error("there is no such thing")]
     NotFound,
     /// 405: it isn't a GET.
+    #[error("only GET is answered")]
     MethodNotAllowed,
     /// 431: its head is too long, or has too many fields.
+    #[error("the request's head is too long")]
     TooLarge,
 }
 
@@ -181,7 +187,9 @@ pub fn judge(head: &[u8]) -> Judged
     match parse_request(head, &mut fields) {
         Ok(Status::Complete(request)) => judge_whole(head, request, &fields),
         Ok(Status::Partial) if head.len() < LONGEST_HEAD => Judged::Unfinished,
-        Ok(Status::Partial) | Err(Error::TooManyHeaders) => Judged::Refused(Fault::TooLarge),
+        Ok(Status::Partial) | Err(httparse::Error::TooManyHeaders) => Judged::Refused(
+            Fault::TooLarge,
+        ),
         Err(_) => Judged::Refused(Fault::BadRequest),
     }
 }

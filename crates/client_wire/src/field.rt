@@ -9,7 +9,7 @@ ghost use Rattle.client_wire.specs.Grammar.{judged, numbers_of};
 use crate::message::{ClientMessage, Encodings};
 use pixel_format::PixelFormat;
 use std::alloc::{AllocError, Global};
-use terms::WireFault;
+use terms::{WireFault, read_u16, read_u32};
 
 /// The message of the field behind the type of a SetPixelFormat (RFC 6143, section 7.5.1).
 pub fn pixel_format_in(field: &[u8]) -> Result<ClientMessage, WireFault>
@@ -33,8 +33,8 @@ pub fn encodings_in(alloc: Global, field: &[u8]) -> Result<Encodings, AllocError
 {
     let mut numbers = Vec::new(alloc);
     let mut rest = field;
-    while let [a, b, c, d, behind @ ..] = rest {
-        numbers.push(u32::from_be_bytes([*a, *b, *c, *d]).cast_signed())?;
+    while let [_, _, _, _, behind @ ..] = rest {
+        numbers.push(read_u32(rest, 0).cast_signed())?;
         rest = behind;
     }
     Ok(Encodings::from_vec(numbers))
@@ -49,9 +49,9 @@ pub fn request_in(field: &[u8]) -> ClientMessage
 {
     ClientMessage::Request {
         incremental: field[0] != 0,
-        x: u16::from_be_bytes([field[1], field[2]]),
-        y: u16::from_be_bytes([field[3], field[4]]),
-        w: u16::from_be_bytes([field[5], field[6]]),
-        h: u16::from_be_bytes([field[7], field[8]]),
+        x: read_u16(field, 1),
+        y: read_u16(field, 3),
+        w: read_u16(field, 5),
+        h: read_u16(field, 7),
     }
 }

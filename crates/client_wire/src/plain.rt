@@ -6,7 +6,7 @@ ghost use Rattle.client_wire.specs.Plain.{Says};
 use crate::field::{encodings_in, pixel_format_in, request_in};
 use crate::message::ClientMessage;
 use std::alloc::Global;
-use terms::{WireFault, field};
+use terms::{WireFault, field, read_u16, read_u32};
 
 // What the bytes behind the type of a SetPixelFormat begin with.
 fn set_pixel_format(bytes: &[u8]) -> Result<Option<(ClientMessage, &[u8])>, WireFault>
@@ -26,7 +26,7 @@ fn set_encodings(alloc: Global, bytes: &[u8]) -> Result<Option<(ClientMessage, &
     let Some((head, body)) = field(3, bytes) else {
         return Ok(None);
     };
-    let count = u16::from_be_bytes([head[1], head[2]]);
+    let count = read_u16(head, 1);
     let Some((list, rest)) = field(4 * count as usize, body) else {
         return Ok(None);
     };
@@ -61,7 +61,7 @@ fn cut_text(bytes: &[u8]) -> Result<Option<(ClientMessage, &[u8])>, WireFault>
     let Some((head, text)) = field(7, bytes) else {
         return Ok(None);
     };
-    let length = u32::from_be_bytes([head[3], head[4], head[5], head[6]]);
+    let length = read_u32(head, 3);
     input(6, length as usize, text)
 }
 

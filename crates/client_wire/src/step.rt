@@ -10,7 +10,7 @@ use crate::field::{encodings_in, pixel_format_in, request_in};
 use crate::message::{ClientMessage, Encodings};
 use crate::partial_message::{AfterField, Over, Position, Stage};
 use std::alloc::Global;
-use terms::WireFault;
+use terms::{WireFault, read_u16, read_u32};
 
 // Behind the type of a message.
 fn behind_type(kind: u8) -> Result<Position, WireFault>
@@ -42,7 +42,7 @@ fn behind_encodings_head(alloc: Global, field: &[u8]) -> AfterField
         → resume Stage.EncodingsHead (field.now ++ more) ≡ follow result more }
     ensures begins { StepBeginsAt 4 result }
 {
-    let count = u16::from_be_bytes([field[1], field[2]]);
+    let count = read_u16(field, 1);
     if count == 0 {
         let none = Encodings::from_vec(Vec::new(alloc));
         return AfterField::Whole(ClientMessage::SetEncodings(none));
@@ -57,7 +57,7 @@ fn behind_text_head(field: &[u8]) -> AfterField
         → resume Stage.TextHead (field.now ++ more) ≡ follow result more }
     ensures begins { StepBeginsAt 8 result }
 {
-    let length = u32::from_be_bytes([field[3], field[4], field[5], field[6]]);
+    let length = read_u32(field, 3);
     if length == 0 {
         return AfterField::Whole(ClientMessage::Input(6));
     }

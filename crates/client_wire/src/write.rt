@@ -12,7 +12,7 @@ ghost use Rattle.client_wire.specs.Grammar.{message_at};
 ghost use Rattle.client_wire.specs.Written.{set_pixel_format_bytes, set_encodings_bytes, request_bytes, key_event_bytes, pointer_event_bytes, text_bytes, cut_text_bytes, one_rectangle_head};
 
 use pixel_format::PixelFormat;
-use terms::{Area, NoMemory, whole_or_none};
+use terms::{Area, NoMemory, four_bytes, two_bytes, whole_or_none};
 
 /// Appends a SetPixelFormat message (RFC 6143, section 7.5.1).
 pub fn write_set_pixel_format(format: &PixelFormat, out: &mut Vec<u8>) -> Result<(), NoMemory>
@@ -46,10 +46,10 @@ fn append_encodings(encodings: &[i32], out: &mut Vec<u8>) -> Result<(), NoMemory
         ≡ out.old.items ++ set_encodings_bytes encodings.now) }
     ensures part { take (length out.old.items) out.new.items ≡ out.old.items }
 {
-    let count = encodings.len();
-    out.extend_from_slice(&[2, 0, (count / 256) as u8, (count % 256) as u8])?;
+    let [count, count_low] = two_bytes(encodings.len() as u16);
+    out.extend_from_slice(&[2, 0, count, count_low])?;
     for number in encodings {
-        out.extend_from_slice(&number.to_be_bytes())?;
+        out.extend_from_slice(&four_bytes(number.cast_unsigned()))?;
     }
     Ok(())
 }
@@ -69,7 +69,7 @@ pub fn write_key_event(down: bool, key: u32, out: &mut Vec<u8>) -> Result<(), No
     ensures ok { OnOk result (out.new.items ≡ out.old.items ++ key_event_bytes down key) }
     ensures err { OnErr result (out.new.items ≡ out.old.items) }
 {
-    let [first, second, third, fourth] = key.to_be_bytes();
+    let [first, second, third, fourth] = four_bytes(key);
     out.extend_from_slice(&[4, down as u8, 0, 0, first, second, third, fourth])
 }
 
@@ -79,8 +79,8 @@ pub fn write_pointer_event(mask: u8, x: u16, y: u16, out: &mut Vec<u8>) -> Resul
     ensures ok { OnOk result (out.new.items ≡ out.old.items ++ pointer_event_bytes mask x y) }
     ensures err { OnErr result (out.new.items ≡ out.old.items) }
 {
-    let [x_high, x_low] = x.to_be_bytes();
-    let [y_high, y_low] = y.to_be_bytes();
+    let [x_high, x_low] = two_bytes(x);
+    let [y_high, y_low] = two_bytes(y);
     out.extend_from_slice(&[5, mask, x_high, x_low, y_high, y_low])
 }
 
@@ -101,7 +101,7 @@ pub fn write_text(kind: u8, text: &[u8], out: &mut Vec<u8>) -> Result<(), NoMemo
     ensures err { OnErr result (out.new.items ≡ out.old.items) }
 {
     let start = out.len();
-    let [first, second, third, fourth] = (text.len() as u32).to_be_bytes();
+    let [first, second, third, fourth] = four_bytes(text.len() as u32);
     out.extend_from_slice(&[kind, 0, 0, 0, first, second, third, fourth])?;
     let appended = out.extend_from_slice(text);
     whole_or_none(appended, start, out)
@@ -114,7 +114,7 @@ pub fn write_update_head(area: Area, encoding: u32, out: &mut Vec<u8>) -> Result
     ensures err { OnErr result (out.new.items ≡ out.old.items) }
 {
     let [x, x_low, y, y_low, w, w_low, h, h_low] = area.bytes();
-    let [first, second, third, fourth] = encoding.to_be_bytes();
+    let [first, second, third, fourth] = four_bytes(encoding);
     out.extend_from_slice(&[
         0, 0, 0, 1, x, x_low, y, y_low, w, w_low, h, h_low, first, second, third, fourth,
     ])

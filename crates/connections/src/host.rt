@@ -186,6 +186,7 @@ impl Host {
     // The next message; none at the stream's end, or once the recorder was asked to end. The host is
     // asked for more, and read from, only where there is room for it.
     fn next<M: Mark, R: Clock + Wait>(&mut self, rt: &R, room: &Room<M>) -> Option<HostMessage> {
+        let mut is_short = false;
         for _ in 0..u64::MAX {
             if room.is_stopped() {
                 return None;
@@ -199,7 +200,10 @@ impl Host {
             room.intake.wait_for_room(rt);
             match self.tell(rt) {
                 Err(error) if error.kind() == io::ErrorKind::OutOfMemory => {
-                    room.telling.tell(rt, Event::Shortage);
+                    if !is_short {
+                        room.telling.tell(rt, Event::Shortage);
+                    }
+                    is_short = true;
                     thread::sleep(rt, pause());
                 }
                 // Where the host takes no more, reading meets its end, which says how it ended.

@@ -3,6 +3,7 @@
 #![tactic(auto)]
 
 mod clock;
+mod guest;
 mod host;
 mod limits;
 mod plan;
@@ -11,6 +12,7 @@ mod room;
 mod viewer;
 
 pub use clock::{Stopwatch, time_after};
+pub use guest::{Greeting, Guest};
 pub use host::{Host, Messages};
 pub use pixel_format::Format;
 pub use plan::{Audience, Beginning, Origin, Plan, Playing};

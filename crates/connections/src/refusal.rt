@@ -1,60 +1,49 @@
 //! Why `serve` is refused, and which of several reasons is told.
 
 ghost use Rattle.host_session.specs.declared.fault.HostFault.{HostFault};
-ghost use Rattle.shared_book.specs.declared.workers.FlusherEnd.TheVariants.{Take};
-ghost use Rattle.std.specs.Prelude.{◌≡◌, ◌≢◌, ℕ, Err, None, Some, IfErr, OnOk, OnErr, true, false};
+ghost use Rattle.std.specs.Prelude.{◌≡◌, ℕ, None, Some, IfErr, OnOk, OnErr, true, false};
 
 use broadcast::StepRefusal;
-use flusher_core::{HostRefusal, TakeRefusal};
+use flusher_core::HostRefusal;
 use gated_journal::{CreateFault, OpenFault, ReadFault};
 use host_session::HostFault;
 use key_index::{IndexFault, Numbered};
 use shared_book::FlusherEnd;
-use std::fmt;
 use telling::HostEnd;
+use thiserror::Error;
 
 /// Why `serve` is refused. Its text is the part that refused it, and the number there.
-#[derive(Clone, Copy, Debug, PartialEq, Eq)]
+#[derive(Clone, Copy, Debug, PartialEq, Eq, Error)]
 pub enum Refusal {
     /// The recording's file can't be opened or made, another recorder has it, or it isn't there any
     /// more in the end.
+    #[error("file 1")]
     File,
     /// Blocks that go on with the digests stand behind the end of the recording, more than a crash
     /// leaves there, and would be written over.
+    #[error("file 2")]
     Hidden,
     /// The recording isn't opened.
+    #[error("{}", Numbered(*.0))]
     Recording(IndexFault),
     /// The recording isn't made.
+    #[error("journal {}", .0.number())]
     Create(CreateFault),
     /// The device failed while messages were written, or were read for a viewer.
+    #[error("journal 3")]
     Device,
     /// The host sent a fault, or is of another size.
+    #[error("host {}", .0.number())]
     Host(HostFault),
-    /// The recording takes no more messages, or memory ran out.
+    /// The recording takes no more messages, or memory ran out for one.
+    #[error("book {}", StepRefusal::Host(*.0).number())]
     Book(HostRefusal),
     /// A socket failed.
+    #[error("net 1")]
     Net,
     /// A thread can't be made.
+    #[error("thread 1")]
     Thread,
-}
-
-impl fmt::Display for Refusal {
-    fn fmt<W: fmt::Write>(&self, f: &mut fmt::Formatter<W>) -> fmt::Result {
-        match self {
-            Refusal::File => write!(f, "file 1"),
-            Refusal::Hidden => write!(f, "file 2"),
-            Refusal::Device => write!(f, "journal 3"),
-            Refusal::Net => write!(f, "net 1"),
-            Refusal::Thread => write!(f, "thread 1"),
-            Refusal::Recording(fault) => write!(f, "{}", Numbered(*fault)),
-            Refusal::Create(fault) => write!(f, "journal {}", fault.number()),
-            Refusal::Host(fault) => write!(f, "host {}", fault.number()),
-            Refusal::Book(refusal) => {
-                let refusal = StepRefusal::Host(*refusal);
-                write!(f, "book {}", refusal.number())
-            }
-        }
-    }
 }
 
 impl From<ReadFault> for Refusal {
@@ -84,8 +73,7 @@ pub struct Ends {
 /// The one reason that is told: the flusher's, else the worker's, else the host's or its socket's,
 /// else the listener's, else the device's where it was read; none where all went well.
 pub fn first_refusal(ends: Ends) -> Option<Refusal>
-    ensures memory { ends.flusher ≡ Err (Take TakeRefusal.NoMemory) → result ≡ Some (Refusal.Book HostRefusal.NoMemory) }
-    ensures flusher { OnErr ends.flusher (ends.flusher ≢ Err (Take TakeRefusal.NoMemory) → result ≡ Some Refusal.Device) }
+    ensures flusher { OnErr ends.flusher (result ≡ Some Refusal.Device) }
     ensures worker { OnOk ends.flusher (IfErr ends.worker (λ refusal. result ≡ Some (Refusal.Book refusal))) }
     ensures fault { OnOk ends.flusher (OnOk ends.worker ((fault : HostFault)
         → ends.host ≡ HostEnd.Fault fault → result ≡ Some (Refusal.Host fault))) }
@@ -99,12 +87,8 @@ pub fn first_refusal(ends: Ends) -> Option<Refusal>
         → ends.host ≡ HostEnd.Closed unfinished → ends.is_listener_sound ≡ true
         → ends.is_readable ≡ true → result ≡ None)) }
 {
-    match ends.flusher {
-        Err(FlusherEnd::Take(TakeRefusal::NoMemory)) => {
-            return Some(Refusal::Book(HostRefusal::NoMemory));
-        }
-        Err(_) => return Some(Refusal::Device),
-        Ok(()) => {}
+    if ends.flusher.is_err() {
+        return Some(Refusal::Device);
     }
     if let Err(refusal) = ends.worker {
         return Some(Refusal::Book(refusal));

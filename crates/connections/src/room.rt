@@ -2,6 +2,7 @@
 
 ghost use Rattle.std.specs.Prelude.{◌≡◌, ◌<◌, ◌^◌, IsTrue, length};
 
+use crate::guest::Guest;
 use crate::plan::{Beginning, Plan};
 use broadcast::Start;
 use file_disk::LastError;
@@ -10,7 +11,7 @@ use playing::Program;
 use reception::{Arrival, Backlog, Reason, Reception, Term};
 use rfb_wire::HostMessage;
 use shared_book::Mark;
-use sockets::Bell;
+use sockets::{Bell, Connection};
 use std::alloc::Global;
 use std::marker::PhantomData;
 use std::sync::atomic::{AtomicBool, AtomicU64, Ordering};
@@ -245,13 +246,15 @@ pub struct Room<M: Mark> {
 }
 
 impl<M: Mark> Room<M> {
-    /// The room of a recording of this screen and name, of which so much is committed.
+    /// The room of a recording of this screen and name, of which so much is committed, and whose hall
+    /// people may have come to already.
     pub fn new(
         alloc: Global,
         screen: RecordedScreen,
         name: Vec<u8>,
         plan: &Plan<'_>,
         beginning: Beginning,
+        hall: Hall,
         bell: Bell,
         telling: Telling,
         last_error: LastError,
@@ -268,7 +271,7 @@ impl<M: Mark> Room<M> {
             from: beginning.start,
             program: beginning.program,
             is_alone: plan.host.is_none(),
-            hall: Hall::new(plan.term(), screen.format.limits().seats as u32),
+            hall,
             intake: Intake::new(),
             bell,
             telling,
@@ -290,6 +293,13 @@ impl<M: Mark> Room<M> {
         ensures { IsTrue result → (message.now.format ≡ M.head.format) × (message.now.width ≡ M.head.width) × (message.now.height ≡ M.head.height) }
     {
         message.size() == self.screen.size && message.format() == self.screen.format
+    }
+
+    /// Whether a guest was told of the recording's size.
+    pub fn fits<C: Connection>(&self, guest: &Guest<C>) -> bool
+        ensures { IsTrue result → (guest.now.size.width ≡ M.head.width) × (guest.now.size.height ≡ M.head.height) }
+    {
+        guest.size == self.screen.size
     }
 
     /// Asks the recorder to end.

@@ -3,6 +3,7 @@
 ghost use Rattle.std.specs.Prelude.{◌≡◌, ◌<◌, ◌^◌, ◌+◌, length};
 ghost use Rattle.shared_book.specs.Receipts.{IsOfSize};
 
+use crate::guest::Guest;
 use crate::limits::{ANSWER, FAREWELL, HANDSHAKE};
 use crate::room::Hall;
 use disk::Disk;
@@ -16,14 +17,11 @@ use std::marker::PhantomData;
 use std::sync::atomic::{AtomicBool, Ordering};
 use std::sync::{Condvar, Mutex, Wait};
 use std::time::{Clock, Duration, Instant};
-use terms::ScreenSize;
+use terms::four_bytes;
 use viewer_session::Session;
 
 /// How many bytes are read at a time.
 const PIECE: usize = 4096;
-
-/// How many bytes are read at a time while the handshake is under way.
-const GREETING: usize = 64;
 
 /// The version that is spoken, and its newline.
 const VERSION: [u8; 12] = *b"RFB 003.008\n";
@@ -114,19 +112,18 @@ pub struct Viewer<M: Mark, C: Connection> {
 }
 
 impl<M: Mark, C: Connection> Viewer<M, C> {
-    /// A viewer behind this connection, of the recording's size and name.
-    pub fn new(
-        alloc: Global,
-        connection: C,
-        size: ScreenSize,
-        name: &[u8],
-    ) -> io::Result<Viewer<M, C>>
-        requires size { (size.width ≡ M.head.width) × (size.height ≡ M.head.height) }
-        requires name { length name.now < 2 ^ 32 }
+    /// The viewer that a guest becomes, whose handshake is whole, and who was told of the recording's
+    /// size.
+    pub fn of(guest: Guest<C>) -> Viewer<M, C>
+        requires size { (guest.size.width ≡ M.head.width) × (guest.size.height ≡ M.head.height) }
     {
-        connection.watch_over()?;
-        let session = Session::new(alloc, size, name)?;
-        Ok(Viewer {
+        let Guest {
+            alloc,
+            connection,
+            session,
+            ..
+        } = guest;
+        Viewer {
             alloc,
             connection,
             talk: Mutex::new(Talk {
@@ -137,7 +134,7 @@ impl<M: Mark, C: Connection> Viewer<M, C> {
             }),
             changed: Condvar::new(),
             has_left: AtomicBool::new(false),
-        })
+        }
     }
 
     /// Whether the viewer has gone.
@@ -222,33 +219,6 @@ impl<M: Mark, C: Connection> Viewer<M, C> {
         is_answered && goes_on
     }
 
-    /// Hears the viewer's handshake, for 30 seconds at most, or until the bell rings: whether it is
-    /// whole.
-    pub fn greet<R: Clock + Wait>(&self, rt: &R, bell: &Bell) -> io::Result<bool> {
-        let started = Instant::now(rt)?;
-        let mut buffer = [0u8; GREETING];
-        if !self.hear(rt, &[]) {
-            return Ok(false);
-        }
-        for _ in 0..u64::MAX {
-            if self.talk.lock(rt).session.is_greeted() {
-                return Ok(true);
-            }
-            let left = time_left(rt, started, HANDSHAKE)?;
-            match self.connection.wait(bell, left) {
-                Woken::Rung => return Ok(false),
-                Woken::TimedOut => {}
-                Woken::Ready => {
-                    let count = self.connection.read(&mut buffer)?;
-                    if count == 0 || !self.hear(rt, &buffer[..count]) {
-                        return Ok(false);
-                    }
-                }
-            }
-        }
-        Ok(false)
-    }
-
     // Reads what the viewer sends, until it ends, or the socket fails.
     fn hear_all<R: Clock + Wait>(&self, rt: &R) -> io::Result<()> {
         let mut buffer = Vec::new(self.alloc);
@@ -309,6 +279,6 @@ pub fn turn_away<C: Connection, R: Clock>(
         return Ok(());
     }
     connection.write_within(rt, &[0], HANDSHAKE)?;
-    connection.write_within(rt, &count.to_be_bytes(), HANDSHAKE)?;
+    connection.write_within(rt, &four_bytes(count), HANDSHAKE)?;
     connection.write_within(rt, reason.as_bytes(), HANDSHAKE)
 }

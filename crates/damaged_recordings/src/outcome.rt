@@ -45,12 +45,13 @@ fn read_blocks(
     read.update(size.height.to_be_bytes());
     read.update(journal.header().key_interval().to_be_bytes());
     read.update(journal.header().name());
-    let mut buffer = Vec::new(alloc);
+    let mut body = Vec::new(alloc);
     for block in 0..journal.blocks() {
-        let (entries, body) = journal.body(block, &mut buffer)?;
+        body.clear();
+        let entries = journal.body(block, &mut body)?;
         read.update(entries.to_be_bytes());
         read.update((body.len() as u64).to_be_bytes());
-        read.update(body);
+        read.update(body.as_slice());
     }
     read.update(journal.end().to_be_bytes());
     Ok(())

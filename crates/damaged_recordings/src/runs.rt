@@ -51,7 +51,7 @@ impl Runs {
                 print!(rt; " {}-{} {};", run.first, run.last, run.outcome)?;
             }
         }
-        let [a, b, c, d, ..] = digest;
-        println!(rt; " {a:02x}{b:02x}{c:02x}{d:02x}")
+        let text = hex::encode(rt.alloc(), &digest[..4])?;
+        println!(rt; " {text}")
     }
 }

@@ -8,6 +8,7 @@ use crate::fuse::Fuse;
 use broadcast::{Desk, Reply, Start, Step, StepRefusal};
 use disk::FusedDisk;
 use drill_script::DeskLine;
+use pixel_format::Color;
 use rfb_wire::HostMessage;
 use std::alloc::{AllocError, Global};
 
@@ -149,7 +150,10 @@ fn pixel(desk: &mut Desk<FusedDisk>, count: u64, x: u16, y: u16) -> Answer {
         return Answer::Bad;
     }
     match desk.screen_at(count) {
-        Ok(screen) => Answer::Pixel(screen.color(x, y)),
+        Ok(screen) => {
+            let Color { r, g, b } = screen.color(x, y);
+            Answer::Pixel([r as u8, g as u8, b as u8])
+        }
         Err(fault) => Answer::Refused("pixel", fault.number()),
     }
 }

@@ -8,8 +8,8 @@ use Rattle.pixel_format.specs.declared.kind.Format.TheVariants.{Two}
 use Rattle.pixel_format.specs.Canvas.{Picture}
 use Rattle.pixel_format.specs.Format.{host_format}
 use Rattle.pixel_format.specs.Written.{format_bytes}
-use Rattle.terms.specs.Number.{u32_bytes}
-use Rattle.rfb_wire.specs.Written.{two_bytes, raw_update_bytes, raw_rectangle}
+use Rattle.terms.specs.Number.{u16_bytes, u32_bytes}
+use Rattle.rfb_wire.specs.Written.{raw_update_bytes, raw_rectangle}
 use Rattle.gated_journal.specs.Recording.{Head}
 use Rattle.keyed_entries.specs.declared.entry.Stamped.{Stamped}
 use Rattle.painter.specs.Picture.{painted}
@@ -26,7 +26,7 @@ unfoldable pub block_text : ℕ → List ℕ → List ℕ
 block_text time content = u32_bytes (length content) ++ (content ++ (replicate (padding_length (length content)) 0 ++ u32_bytes time))
 
 unfoldable pub opening_text : Head → List ℕ
-opening_text h = version ++ (u32_bytes 1 ++ ((two_bytes h.width ++ two_bytes h.height) ++ (format_bytes host_format
+opening_text h = version ++ (u32_bytes 1 ++ ((u16_bytes h.width ++ u16_bytes h.height) ++ (format_bytes host_format
     ++ (u32_bytes (length h.name) ++ h.name))))
 
 -- a pixel of the host format, its fourth byte 0

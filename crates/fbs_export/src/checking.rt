@@ -17,6 +17,7 @@ use crate::tally::{Counter, Kept, Tally};
 use crate::writing::padding_of;
 use std::alloc::Global;
 use std::io::Read;
+use terms::read_u32;
 
 /// The first bytes of a file: FBS 001., three digits, and a newline.
 const MAGIC: [u8; 8] = *b"FBS 001.";
@@ -132,7 +133,7 @@ fn number_of(bytes: &[u8]) -> u32
     requires { length bytes.now ≡ 4 }
     ensures { u32_bytes result ≡ bytes.now }
 {
-    u32::from_be_bytes([bytes[0], bytes[1], bytes[2], bytes[3]])
+    read_u32(bytes, 0)
 }
 
 // Takes the length that begins a block: none where the file has ended.

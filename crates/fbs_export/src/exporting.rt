@@ -13,16 +13,18 @@ ghost use Rattle.std.specs.List.{slice_get};
 
 use crate::fault::{ExportFault, Stop};
 use crate::judge::{NONE, VERSION};
-use crate::writing::{four_bytes, two_bytes, write_block, write_bytes};
+use crate::writing::{write_block, write_bytes};
+use client_wire::write_update_head;
 use disk::Disk;
 use gated_journal::ReadFault;
 use key_index::{Indexed, Stamped};
 use painter::Screen;
 use pixel_format::PixelFormat;
+use rect_data::Encoding;
 use replay::{ReplayFault, from_block};
 use std::alloc::Global;
 use std::io::Write;
-use terms::NoMemory;
+use terms::{Area, NoMemory, four_bytes, two_bytes};
 
 /// The first bytes of a file.
 const START: [u8; 12] = *b"FBS 001.000\n";
@@ -63,24 +65,13 @@ fn append_screen(screen: &Screen, out: &mut Vec<u8>) -> Result<(), NoMemory>
         ≡ out.old.items ++ screen_text screen.now.width screen.now.height (color_at screen.now)) }
 {
     let size = screen.size();
-    out.extend_from_slice(&[
-        0,
-        0,
-        0,
-        1,
-        0,
-        0,
-        0,
-        0,
-        (size.width / 256) as u8,
-        (size.width % 256) as u8,
-        (size.height / 256) as u8,
-        (size.height % 256) as u8,
-        0,
-        0,
-        0,
-        0,
-    ])?;
+    let whole = Area {
+        x: 0,
+        y: 0,
+        w: size.width,
+        h: size.height,
+    };
+    write_update_head(whole, Encoding::Raw.number(), out)?;
     for y in 0..size.height {
         append_row(screen, y, out)?;
     }

@@ -6,7 +6,7 @@ ghost use Rattle.fbs_export.specs.Opening.{is_host, name_at, format_then, size_t
 
 use crate::fault::FbsFault;
 use pixel_format::Format;
-use terms::ScreenSize;
+use terms::{ScreenSize, read_u16, read_u32};
 
 /// The version of a file's stream.
 pub const VERSION: [u8; 12] = *b"RFB 003.003\n";
@@ -48,7 +48,7 @@ fn judge_name(size: ScreenSize, bytes: &[u8]) -> Option<Announced>
         return None;
     }
     let (count, _) = bytes.split_at(4);
-    let count = u32::from_be_bytes([count[0], count[1], count[2], count[3]]);
+    let count = read_u32(count, 0);
     Some(Announced { size, count })
 }
 
@@ -73,8 +73,8 @@ fn judge_size(bytes: &[u8]) -> Result<Option<Announced>, FbsFault>
     }
     let (sides, rest) = bytes.split_at(4);
     let size = ScreenSize {
-        width: u16::from_be_bytes([sides[0], sides[1]]),
-        height: u16::from_be_bytes([sides[2], sides[3]]),
+        width: read_u16(sides, 0),
+        height: read_u16(sides, 2),
     };
     // A file says nothing of a recording's format, and what format 1 allows, format 2 does too.
     if !Format::Two.limits().allow(size) {
@@ -90,7 +90,7 @@ fn judge_security(bytes: &[u8]) -> Result<Option<Announced>, FbsFault>
         return Ok(None);
     }
     let (security, rest) = bytes.split_at(4);
-    if u32::from_be_bytes([security[0], security[1], security[2], security[3]]) != NONE {
+    if read_u32(security, 0) != NONE {
         return Err(FbsFault::Security);
     }
     judge_size(rest)

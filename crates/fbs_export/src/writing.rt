@@ -6,11 +6,10 @@ ghost use Rattle.fbs_export.specs.Written.{WroteFront};
 ghost use Rattle.fbs_export.specs.declared.fault.Stop.TheVariants.{Write as StopWrite};
 ghost use Rattle.fbs_export.specs.Blocks.{padding_length};
 ghost use Rattle.fbs_export.specs.Export.{block_text};
-ghost use Rattle.terms.specs.Number.{u32_bytes};
-ghost use Rattle.rfb_wire.specs.Written.{two_bytes as u16_bytes};
 
 use crate::fault::Stop;
 use std::io::Write;
+use terms::four_bytes;
 
 /// The writer failed, or took nothing. What it took before is a beginning of what was to be written.
 #[derive(Clone, Copy)]
@@ -34,25 +33,6 @@ pub fn write_bytes<W: Write>(bytes: &[u8], out: &mut W) -> Result<(), WriteFaile
         }
     }
     Ok(())
-}
-
-/// A number in two bytes, the higher first.
-pub fn two_bytes(n: u16) -> [u8; 2]
-    ensures { result ≡ u16_bytes n }
-{
-    [(n / 256) as u8, (n % 256) as u8]
-}
-
-/// A number in four bytes, the highest first.
-pub fn four_bytes(n: u32) -> [u8; 4]
-    ensures { result ≡ u32_bytes n }
-{
-    [
-        (n / 16_777_216) as u8,
-        (n / 65_536 % 256) as u8,
-        (n / 256 % 256) as u8,
-        (n % 256) as u8,
-    ]
 }
 
 const ZEROS: [u8; 3] = [0; 3];

@@ -1,33 +1,8 @@
 //! Why a command doesn't have a file, and the words for it.
 
+use file_disk::SystemError;
 use spelling::Escaped;
 use std::{fmt, io};
-
-/// What the system said of a failure.
-#[derive(Clone, Copy, Debug, PartialEq, Eq)]
-pub struct SystemError {
-    number: Option<i32>,
-    kind: io::ErrorKind,
-}
-
-impl SystemError {
-    /// The same, without what can't be copied.
-    pub fn of(error: &io::Error) -> SystemError {
-        SystemError {
-            number: error.raw_os_error(),
-            kind: error.kind(),
-        }
-    }
-}
-
-impl fmt::Display for SystemError {
-    fn fmt<W: fmt::Write>(&self, f: &mut fmt::Formatter<W>) -> fmt::Result {
-        match self.number {
-            Some(number) => write!(f, "{}", io::Error::from_raw_os_error(number)),
-            None => write!(f, "{}", io::Error::from(self.kind)),
-        }
-    }
-}
 
 /// What the system gave, or that it doesn't open this file.
 pub fn opened<T>(outcome: io::Result<T>, role: Role) -> Result<T, FileFault> {

@@ -1,9 +1,9 @@
 //! A recording that is kept in a new file.
 
-use crate::file_fault::{FileFault, SystemError, name_kept};
+use crate::file_fault::{FileFault, name_kept};
 use crate::refusal::Refusal;
 use disk::Disk;
-use file_disk::{FileDisk, create_exclusively, sync_folder};
+use file_disk::{FileDisk, SystemError, create_exclusively, sync_folder};
 use std::fs::File;
 use std::rt::Files;
 

@@ -24,7 +24,7 @@ mod timing;
 pub use chaining::Chaining;
 pub use command::{FileCommand, run};
 pub use exporting::Extract;
-pub use file_fault::{FaultOf, FileFault, Role, SystemError};
+pub use file_fault::{FaultOf, FileFault, Role};
 pub use framing::Filming;
 pub use keeping::{create_new, keep};
 pub use migrating::Migration;

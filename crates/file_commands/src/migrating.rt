@@ -1,14 +1,11 @@
 //! The command `migrate`.
 
-ghost use Rattle.std.specs.Prelude.{◌≢◌};
-
 use crate::command::Work;
 use crate::file_fault::name_kept;
 use crate::out_file::{demand_no_recording, open_target};
 use crate::recording::open_path;
 use crate::refusal::{Ended, Refusal};
 use file_disk::{FileDisk, Progress, sync_folder};
-use gated_journal::State;
 use key_index::Indexed;
 use migration::{may_be_migrated, migrate};
 use std::alloc::Global;
@@ -30,9 +27,7 @@ fn migrated_to(
     alloc: Global,
     index: &mut Indexed<FileDisk>,
     target: FileDisk,
-) -> Result<u64, Refusal>
-    requires whole { index.old.numbers.state ≢ State.Broken }
-{
+) -> Result<u64, Refusal> {
     match migrate(alloc, index, target) {
         Ok(migrated) => Ok(migrated.committed()),
         Err(refused) => Err(Refusal::Migrate(refused.fault)),

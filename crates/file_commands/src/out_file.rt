@@ -3,9 +3,9 @@
 ghost use Rattle.std.specs.Prelude.{◌↔◌, ◌≤◌, IsTrue, length};
 ghost use Rattle.file_commands.specs.Fronts.{IsFrontOfRecording};
 
-use crate::file_fault::{FileFault, Role, SystemError, opened, written};
+use crate::file_fault::{FileFault, Role, opened, written};
 use crate::source_file::demand_file;
-use file_disk::create_exclusively;
+use file_disk::{SystemError, create_exclusively};
 use std::fs::{File, Metadata, OpenOptions, Permissions};
 use std::os::unix::fs::{FileExt, MetadataExt, PermissionsExt};
 use std::rt::Files;

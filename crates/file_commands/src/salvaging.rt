@@ -7,7 +7,7 @@ use crate::out_file::open_target;
 use crate::recording::open_file;
 use crate::refusal::{DigestFault, Ended, LeftOut, Refusal};
 use block_walk::WholeBlocks;
-use file_disk::{FileDisk, Progress, sync_folder};
+use file_disk::{DiskOfFile, FileDisk, OsFile, Progress, ShownFile, sync_folder};
 use key_index::IndexFault;
 use pixel_format::Format;
 use recording_bytes::OPEN_GATE;
@@ -28,23 +28,32 @@ pub struct Salvaging<'a> {
     pub behind: bool,
 }
 
+// The disk that is read: its file may show a gate open.
+type SourceDisk = DiskOfFile<ShownFile>;
+
 // What is salvaged: the whole blocks of a recording, how many bytes its file has, and the file.
 #[derive(Drop)]
 struct Source {
-    blocks: WholeBlocks<FileDisk>,
+    blocks: WholeBlocks<SourceDisk>,
     length: u64,
     file: File,
 }
 
-// The whole blocks that reads of a disk give.
-fn blocks_on(alloc: Global, disk: FileDisk) -> Result<WholeBlocks<FileDisk>, Refusal> {
+// The whole blocks that reads of a file give.
+fn blocks_of(
+    alloc: Global,
+    file: ShownFile,
+    progress: Progress,
+) -> Result<WholeBlocks<SourceDisk>, Refusal> {
+    let disk = DiskOfFile::over(file).watched(progress);
     match WholeBlocks::open(alloc, disk) {
         Ok(blocks) => Ok(blocks),
         Err(refused) => Err(Refusal::Recording(IndexFault::Journal(refused.fault))),
     }
 }
 
-// What is salvaged of a recording. In format 1 nothing tells which bytes behind its end are blocks.
+// What is salvaged of a recording. In format 1 nothing tells which bytes behind its end are blocks;
+// in format 2 those are that go on with the digests, once the gate at the end is shown open.
 fn open_source<R: Files<File = File> + AllocGlobal>(
     rt: &R,
     what: &Salvaging<'_>,
@@ -53,14 +62,22 @@ fn open_source<R: Files<File = File> + AllocGlobal>(
     let alloc = rt.alloc();
     let file = open_file(rt, what.recording)?;
     let length = file.metadata()?.len();
-    let disk = FileDisk::to_read(rt, file.try_clone()?).watched(progress);
-    let mut blocks = blocks_on(alloc, disk)?;
+    let as_it_is = ShownFile::new(OsFile::to_read(rt, file.try_clone()?));
+    let mut blocks = blocks_of(alloc, as_it_is, progress)?;
     if what.behind && blocks.header().format() == Format::One {
         return Err(Refusal::Digest(DigestFault::NoDigests).into());
     }
-    if what.behind && blocks.fault().is_none() {
-        let gate = blocks.gate();
-        blocks = blocks_on(alloc, blocks.close().seen_with(gate, OPEN_GATE))?;
+    let gate = blocks.gate();
+    if what.behind && blocks.fault().is_none() && gate.saturating_add(1) < length {
+        let opened = OsFile::to_read(rt, file.try_clone()?);
+        let all = blocks_of(
+            alloc,
+            ShownFile::with_byte(opened, gate, OPEN_GATE),
+            progress,
+        )?;
+        if all.blocks() > blocks.blocks() {
+            blocks = all;
+        }
     }
     Ok(Source {
         blocks,

@@ -1,1 +1,3 @@
+pub mod FileView
 pub mod Untold
+pub mod WriteLaws

@@ -1,92 +1,78 @@
-//! A file of the operating system as a disk.
+//! A file as a disk.
 
-ghost use Rattle.std.specs.Prelude.{◌≡◌, ◌+◌, ◌<◌, ◌^◌, length};
+ghost use Rattle.std.specs.Prelude.{◌≡◌, Ok, IsErr, MatchResult};
 ghost use Rattle.disk.specs.Contents.{CountsFailure};
 
 use crate::last_error::LastError;
-use crate::medium::{fits_size_limit, has_nothing_to_sync};
+use crate::os_file::OsFile;
 use crate::progress::Progress;
+use crate::system_file::SystemFile;
 use crate::tally::Tally;
+use crate::whole::{read_whole, sync_whole, write_whole};
 use crate::written::Written;
 use disk::{Disk, DiskFault};
 use std::fs::File;
 use std::io;
 use std::marker::Model;
-use std::os::unix::fs::FileExt;
 use std::rt::Files;
 
-/// An open file as a disk. Reads and writes are at an offset; each goes on if the system took or
-/// gave less than was asked for, and tries again if a signal cut it off. A sync reaches the device,
-/// with the length if that has changed. Each call that fails is counted; a write beyond the process's
-/// limit of a file's size fails, and doesn't reach the system.
+/// An open file as a disk: what each call of the disk is made of are the calls of a [`SystemFile`].
+/// Reads and writes go on if the system took or gave less than was asked for, and are tried again if a
+/// signal cut them off. Each call that fails is counted.
 ///
-/// Nothing is claimed of what a crash leaves, nor of the bytes that reads give: no proof can know
-/// them. Which rule of a disk each call stands for is written in docs/RECORDING.md.
+/// It keeps the rules of a disk wherever the system keeps those of POSIX for files of this type: each
+/// clause of a disk has that as its premise.
 #[derive(Drop)]
-pub struct FileDisk {
-    file: File,
+pub struct DiskOfFile<F: SystemFile> {
+    file: F,
     failures: u64,
-    // Whether a sync has something to do: not on a read-only medium.
-    has_sync: bool,
     progress: Progress,
     last_error: Option<LastError>,
     written: Option<Written>,
     // How many bytes were read, for who asks meanwhile.
     tally: Option<Tally>,
-    // The byte that reads give at this offset, whatever the file has there.
-    seen: Option<(u64, u8)>,
 }
 
-/// Contracts see the number of calls that failed.
-impl Model for FileDisk {
-    ghost use Rattle.std.specs.Prelude.{ℕ};
+/// A disk of a file of the operating system.
+pub type FileDisk = DiskOfFile<OsFile>;
 
-    ghost Value = { ℕ };
+/// Contracts see the file, and the number of calls that failed.
+impl<F: SystemFile> Model for DiskOfFile<F> {
+    ghost use Rattle.file_disk.specs.FileView.{FileView};
 
-    ghost view = { λ d. d.failures };
+    ghost Value = { FileView F };
+
+    ghost view = { λ d. record { file = d.file; failures = d.failures } };
 }
 
-impl FileDisk {
-    /// This file, as it is. It is written only if it is open for writing, and `write_at` called.
-    pub fn new(file: File) -> FileDisk
-        ensures { result ≡ 0 }
+impl<F: SystemFile> DiskOfFile<F> {
+    /// This file, as it is. It is written only if `write_at` is called.
+    pub fn over(file: F) -> DiskOfFile<F>
+        ensures { result ≡ record { file = file; failures = 0 } }
     {
-        FileDisk {
+        DiskOfFile {
             file,
             failures: 0,
-            has_sync: true,
             progress: Progress::silent(),
             last_error: None,
             written: None,
             tally: None,
-            seen: None,
         }
     }
 
-    /// The same of a file that is open for reading alone. On a read-only medium, whose file system
-    /// knows no sync, nothing can be written that a crash could take back: there a sync has nothing
-    /// to do.
-    pub fn to_read<R: Files<File = File> + AllocGlobal>(rt: &R, file: File) -> FileDisk
-        ensures { result ≡ 0 }
-    {
-        let has_sync = !has_nothing_to_sync(rt, &file);
-        let mut disk = FileDisk::new(file);
-        disk.has_sync = has_sync;
-        disk
-    }
-
     /// The same, with what is read told of.
-    pub fn watched(self, progress: Progress) -> FileDisk
-        ensures { result ≡ self }
+    pub fn watched(self, progress: Progress) -> DiskOfFile<F>
+        ensures same { result.failures ≡ self.failures }
+        ensures history { F.is_modelled → F.history result.file ≡ F.history self.file }
     {
-        let length = self.file.metadata().map_or(0, |metadata| metadata.len());
         let mut disk = self;
+        let length = disk.file.length().unwrap_or(0);
         disk.progress = progress.through(length);
         disk
     }
 
     /// The same, with what the system says of a failure noted, and how far it is written.
-    pub fn noting(self, last_error: LastError, written: Written) -> FileDisk
+    pub fn noting(self, last_error: LastError, written: Written) -> DiskOfFile<F>
         ensures { result ≡ self }
     {
         let mut disk = self;
@@ -96,7 +82,7 @@ impl FileDisk {
     }
 
     /// The same, with the bytes counted that are read.
-    pub fn counting(self, tally: Tally) -> FileDisk
+    pub fn counting(self, tally: Tally) -> DiskOfFile<F>
         ensures { result ≡ self }
     {
         let mut disk = self;
@@ -104,29 +90,11 @@ impl FileDisk {
         disk
     }
 
-    /// The same, with this byte at this offset in what reads give. The file stays as it is.
-    pub fn seen_with(self, offset: u64, byte: u8) -> FileDisk
-        ensures { result ≡ self }
-    {
-        let mut disk = self;
-        disk.seen = Some((offset, byte));
-        disk
-    }
-
-    // Puts the byte that is to be seen into these, which begin at this offset.
-    fn show(&self, offset: u64, bytes: &mut [u8]) {
-        let Some((at, byte)) = self.seen else {
-            return;
-        };
-        let place = at.checked_sub(offset);
-        if let Some(shown) = place.and_then(|place| bytes.get_mut(place as usize)) {
-            *shown = byte;
-        }
-    }
-
     // Counts a call if it failed, and has the system's word for it noted.
     fn counted<T>(&mut self, outcome: io::Result<T>) -> Result<T, DiskFault>
-        ensures { CountsFailure self.old self.new result }
+        ensures counts { CountsFailure self.old.failures self.new.failures result }
+        ensures file { self.new.file ≡ self.old.file }
+        ensures outcome { MatchResult outcome (λ t. result ≡ Ok t) (λ _. IsErr result) }
     {
         match outcome {
             Ok(answer) => Ok(answer),
@@ -139,71 +107,60 @@ impl FileDisk {
             }
         }
     }
+}
 
-    // Writes all these bytes, which end at this offset.
-    fn put(&mut self, offset: u64, bytes: &[u8], end: u64) -> io::Result<()>
-        ensures { self.new ≡ self.old }
+impl FileDisk {
+    /// A file of the operating system, as it is.
+    pub fn new(file: File) -> FileDisk
+        ensures { result.failures ≡ 0 }
     {
-        fits_size_limit(end)?;
-        self.file.write_all_at(bytes, offset)?;
-        if let Some(written) = &self.written {
-            written.note(end);
-        }
-        Ok(())
+        DiskOfFile::over(OsFile::new(file))
+    }
+
+    /// The same of a file that is open for reading alone.
+    pub fn to_read<R: Files<File = File> + AllocGlobal>(rt: &R, file: File) -> FileDisk
+        ensures { result.failures ≡ 0 }
+    {
+        DiskOfFile::over(OsFile::to_read(rt, file))
     }
 }
 
-impl Disk for FileDisk {
-    ghost use Rattle.file_disk.specs.Untold.{untold};
+impl<F: SystemFile> Disk for DiskOfFile<F> {
+    ghost is_modelled = { F.is_modelled };
 
-    ghost is_modelled = { ⊥ };
+    ghost history = { λ d. F.history d.file };
 
-    ghost history = { λ _. untold };
-
-    ghost failures = { λ failures. failures };
+    ghost failures = { λ d. d.failures };
 
     ghost after_fault = { λ _ _. Unit {0} };
 
-    fn len(&mut self) -> Result<u64, DiskFault>
-        ensures counts { CountsFailure self.old self.new result }
-    {
-        let outcome = self.file.metadata();
-        let metadata = self.counted(outcome)?;
-        Ok(metadata.len())
+    fn len(&mut self) -> Result<u64, DiskFault> {
+        let outcome = self.file.length();
+        self.counted(outcome)
     }
 
-    fn read_at(&mut self, place: u64, buffer: &mut [u8]) -> Result<(), DiskFault>
-        requires fits { place + length buffer.old < 2 ^ 64 }
-        ensures counts { CountsFailure self.old self.new result }
-    {
+    fn read_at(&mut self, place: u64, buffer: &mut [u8]) -> Result<(), DiskFault> {
         let end = place + buffer.len() as u64;
         self.progress.reach(buffer.len(), end);
         if let Some(tally) = &self.tally {
             tally.add(buffer.len());
         }
-        let outcome = self.file.read_exact_at(buffer, place);
-        self.show(place, buffer);
+        let outcome = read_whole(&mut self.file, place, buffer);
         self.counted(outcome)
     }
 
-    fn write_at(&mut self, place: u64, bytes: &[u8]) -> Result<(), DiskFault>
-        requires fits { place + length bytes.now < 2 ^ 64 }
-        ensures counts { CountsFailure self.old self.new result }
-    {
-        let end = place + bytes.len() as u64;
-        let outcome = self.put(place, bytes, end);
-        self.counted(outcome)
-    }
-
-    fn sync(&mut self) -> Result<(), DiskFault>
-        ensures counts { CountsFailure self.old self.new result }
-    {
-        if !self.has_sync {
-            return Ok(());
+    fn write_at(&mut self, place: u64, bytes: &[u8]) -> Result<(), DiskFault> {
+        let outcome = write_whole(&mut self.file, place, bytes);
+        if let (Ok(()), Some(written)) = (&outcome, &self.written) {
+            written.note(place + bytes.len() as u64);
         }
-        let outcome = self.file.sync_data();
         self.counted(outcome)
     }
 
-    ghost agrees = { λ _ never. absurd never };
+    fn sync(&mut self) -> Result<(), DiskFault> {
+        let outcome = sync_whole(&mut self.file);
+        self.counted(outcome)
+    }
+
+    ghost agrees = { λ d m. F.agrees d.file m };
 }

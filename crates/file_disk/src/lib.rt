@@ -6,13 +6,27 @@ mod disk_of_file;
 mod folder;
 mod last_error;
 mod medium;
+mod os_file;
 mod progress;
+mod scripted_file;
+mod shown_file;
+mod system_error;
+mod system_file;
 mod tally;
+mod whole;
 mod written;
 
-pub use disk_of_file::FileDisk;
+pub use disk_of_file::{DiskOfFile, FileDisk};
 pub use folder::{create_exclusively, sync_folder, sync_name};
 pub use last_error::LastError;
+pub use os_file::OsFile;
 pub use progress::{Progress, Watched};
+pub use scripted_file::{ScriptedFile, Turn};
+pub use shown_file::ShownFile;
+pub use system_error::SystemError;
+pub use system_file::{CallFault, SystemFile};
 pub use tally::Tally;
 pub use written::Written;
+
+#[cfg(test)]
+mod tests;

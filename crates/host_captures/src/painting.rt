@@ -1,9 +1,11 @@
 //! The screens that messages paint.
 
 ghost use Rattle.std.specs.Prelude.{◌≡◌};
+ghost use Rattle.pixel_format.specs.Pixel.{IsScreenColor};
 
 use crate::stream::SIZE;
 use painter::Screen;
+use pixel_format::Color;
 use rfb_wire::HostMessage;
 use sha2::{Digest, Sha256};
 use std::io;
@@ -53,6 +55,13 @@ const SAMPLES: [Sample; 7] = [
     },
 ];
 
+// Red, green and blue.
+fn channels(color: Color) -> [u8; 3]
+    requires { IsScreenColor color }
+{
+    [color.r as u8, color.g as u8, color.b as u8]
+}
+
 // The SHA-256 of a screen: red, green and blue of each place, by rows.
 fn digest_of(screen: &Screen) -> [u8; 32]
     requires width { screen.now.width ≡ 320 }
@@ -61,8 +70,7 @@ fn digest_of(screen: &Screen) -> [u8; 32]
     let mut hasher = Sha256::new();
     for y in 0..SIZE.height {
         for x in 0..SIZE.width {
-            let color = screen.color(x, y);
-            hasher.update([color.r as u8, color.g as u8, color.b as u8]);
+            hasher.update(channels(screen.color(x, y)));
         }
     }
     hasher.finalize()
@@ -76,10 +84,8 @@ fn print_after(rt: &HostRuntime, screen: &Screen, count: usize, last: bool) -> i
     for sample in &SAMPLES {
         if sample.after == count && sample.x < SIZE.width && sample.y < SIZE.height {
             let color = screen.color(sample.x, sample.y);
-            println!(rt;
-                "after {count} at {} {}: {:02x}{:02x}{:02x}",
-                sample.x, sample.y, color.r, color.g, color.b
-            )?;
+            let text = hex::encode(rt.alloc(), channels(color))?;
+            println!(rt; "after {count} at {} {}: {text}", sample.x, sample.y)?;
         }
     }
     if count % 8 == 0 || last {

@@ -3,12 +3,11 @@
 ghost use Rattle.std.specs.Prelude.{◌≡◌, ℕ, ◌+◌, ◌<◌, ◌≤◌, ◌++◌, min, length, IfOk, IfErr, OnOk, OnErr, Option};
 ghost use Rattle.host_session.specs.Handshake.{is_expected, offers_security_none, text_limit};
 ghost use Rattle.host_session.specs.Stage.{wants_of, rank_of, answer_bytes, IsStep, IsFault, IsFurther};
-ghost use Rattle.terms.specs.Number.{u32_at};
 ghost use Rattle.host_session.specs.declared.expected.ExpectedScreen.{ExpectedScreen};
 
 use crate::expected::ExpectedScreen;
 use crate::fault::HostFault;
-use terms::{NoMemory, ScreenSize};
+use terms::{NoMemory, ScreenSize, read_u16, read_u32};
 
 /// A field of the handshake.
 #[derive(Clone, Copy)]
@@ -125,14 +124,6 @@ fn answered(answer: Answer, stage: Stage) -> AfterField
     }
 }
 
-// The number that stands in a field from this byte on.
-fn number_at(field: &[u8], at: usize) -> u32
-    requires { at + 4 ≤ length field.now }
-    ensures { result ≡ u32_at field.now at }
-{
-    u32::from_be_bytes([field[at], field[at + 1], field[at + 2], field[at + 3]])
-}
-
 // Another version than 003.008 is refused (RFC 6143, section 7.1.1).
 fn behind_version(field: &[u8]) -> Result<AfterField, HostFault>
     requires { length field.now ≡ 12 }
@@ -181,7 +172,7 @@ fn behind_outcome(field: &[u8]) -> AfterField
     ensures goes { (expected : ExpectedScreen) → IsStep expected Stage.Outcome field.now result }
     ensures falls { IsFurther 6 result.position }
 {
-    if number_at(field, 0) != 0 {
+    if read_u32(field, 0) != 0 {
         return next(Stage::ReasonLength);
     }
     answered(Answer::One, Stage::Size)
@@ -195,8 +186,8 @@ fn behind_size(expected: ExpectedScreen, field: &[u8]) -> Result<AfterField, Hos
     ensures faults { IfErr result (λ f. IsFault expected Stage.Size field.now f) }
 {
     let size = ScreenSize {
-        width: u16::from_be_bytes([field[0], field[1]]),
-        height: u16::from_be_bytes([field[2], field[3]]),
+        width: read_u16(field, 0),
+        height: read_u16(field, 2),
     };
     if !expected.format.limits().allow(size) {
         return Err(HostFault::TooLarge);
@@ -236,14 +227,14 @@ pub fn behind(expected: ExpectedScreen, stage: Stage, field: &[u8]) -> Result<Af
         Stage::Types { count } => behind_types(count, field),
         Stage::Outcome => Ok(behind_outcome(field)),
         Stage::ReasonLength => Ok(next(Stage::Reason {
-            count: number_at(field, 0),
+            count: read_u32(field, 0),
         })),
         Stage::Reason { .. } => Err(HostFault::Failed),
         Stage::Size => behind_size(expected, field),
         // The host's own format is read over (RFC 6143, section 7.3.2).
         Stage::Head { size } => Ok(next(Stage::Name {
             size,
-            count: number_at(field, 16),
+            count: read_u32(field, 16),
         })),
         Stage::Name { size, count } => Ok(behind_name(size, count, field)),
     }

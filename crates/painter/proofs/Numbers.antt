@@ -1,7 +1,6 @@
 -- The numbers of pixels of the host's format.
 use Rattle.std.proofs.Common.{◌≡◌, ℕ, zero, suc, ◌+◌, ◌*◌, ◌/◌, ◌%◌, ◌<◌, List, [], ◌∷◌, length, take, drop, get_or, ap, ◌∙◌, arith, rules, slice_set}
-use Rattle.std.specs.Prelude.{slice_index}
-use Rattle.std.specs.Int.{sum_through, byte_worth}
+use Rattle.byteorder.specs.Endian.{little_number}
 use Rattle.std.specs.Simd.{first_chunks}
 use Rattle.std.proofs.lemmas.List.{drop-drop, places, length-take, length-drop}
 use borrow.Author.Count.{below_more}
@@ -19,13 +18,6 @@ color_kept n =
     let blue : n % 16777216 / 1 % 256 ≡ n / 1 % 256 = omega arith in
     ap (λ r. made r (n % 16777216 / 256 % 256) (n % 16777216 / 1 % 256)) red ∙ ap (λ g. made (n / 65536 % 256) g (n % 16777216 / 1 % 256)) green ∙ ap (made (n / 65536 % 256) (n / 256 % 256)) blue
 
--- the number of four bytes, the lowest first, as std tells it
-abbrev number_of_four : List ℕ → ℕ
-number_of_four bytes = sum_through (λ i. byte_worth i (slice_index bytes i)) 3
-
-number_is : (a b c d : ℕ) → number_of_four (a ∷ b ∷ c ∷ d ∷ []) ≡ little_endian (a ∷ b ∷ c ∷ d ∷ [])
-number_is a b c d = omega arith
-
 none : (n : ℕ) → 0 ≡ 0 * n
 none n = omega arith
 
@@ -38,7 +30,7 @@ chunk_at n zero k xs d less = absurd (omega arith)
 chunk_at n (suc count) zero xs d less = ap (λ (i : ℕ). take n (drop i xs)) (none n)
 chunk_at n (suc count) (suc k) xs d less = chunk_at n count k (drop n xs) d (omega arith) ∙ ap (take n) (drop-drop (k * n) n xs) ∙ ap (λ (i : ℕ). take n (drop i xs)) (further k n)
 
-pub number_color : (bytes : List ℕ) (n : ℕ) → length bytes ≡ 4 → n ≡ sum_through (λ i. byte_worth i (slice_index bytes i)) 3
+pub number_color : (bytes : List ℕ) (n : ℕ) → length bytes ≡ 4 → n ≡ little_number 4 bytes
     → color_of_number (n % 16777216) ≡ host_color bytes
 unfolding pixel_color
 number_color [] n long is = absurd (omega arith)
@@ -46,7 +38,7 @@ number_color (a ∷ []) n long is = absurd (omega arith)
 number_color (a ∷ b ∷ []) n long is = absurd (omega arith)
 number_color (a ∷ b ∷ c ∷ []) n long is = absurd (omega arith)
 number_color (a ∷ b ∷ c ∷ d ∷ []) n long is =
-    let number : n ≡ little_endian (a ∷ b ∷ c ∷ d ∷ []) = is ∙ number_is a b c d in
+    let number : n ≡ little_endian (a ∷ b ∷ c ∷ d ∷ []) = is in
     color_kept n ∙ ap color_of_number number
 number_color (a ∷ b ∷ c ∷ d ∷ e ∷ bytes) n long is = absurd (omega arith)
 

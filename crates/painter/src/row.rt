@@ -5,6 +5,7 @@ ghost use Rattle.pixel_format.specs.Pixel.{host_color, IsScreenColor};
 ghost use Rattle.painter.specs.Pixels.{color_of, pixel_color_at, pixel_at};
 
 use crate::pixel::Pixel;
+use byteorder::{ByteOrder, LittleEndian};
 use pixel_format::Color;
 use terms::Area;
 
@@ -55,7 +56,7 @@ fn host_pixel_of(bytes: [u8; 4]) -> Pixel
     ensures { color_of result ≡ host_color bytes }
 {
     Pixel {
-        number: u32::from_le_bytes(bytes) & 0xff_ffff,
+        number: LittleEndian::read_u32(&bytes) & 0xff_ffff,
     }
 }
 

@@ -11,7 +11,7 @@ use pixel_format::PixelFormat;
 use rect_codec::{append_copy, append_head, append_numbers};
 use rect_data::Encoding;
 use std::alloc::Global;
-use terms::{Area, NoMemory, whole_or_none};
+use terms::{Area, NoMemory, two_bytes, whole_or_none};
 
 /// What one rectangle of an update of a screen says (RFC 6143, section 7.7).
 #[derive(Clone, Copy)]
@@ -101,7 +101,7 @@ impl Screen {
         ensures err { OnErr result (out.new.items ≡ out.old.items) }
     {
         let start = out.len();
-        let [count, count_low] = (parts.len() as u16).to_be_bytes();
+        let [count, count_low] = two_bytes(parts.len() as u16);
         out.extend_from_slice(&[0, 0, count, count_low])?;
         for part in parts {
             if let Err(fault) = self.append_part(alloc, format, *part, out) {

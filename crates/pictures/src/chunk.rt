@@ -3,27 +3,15 @@
 ghost use Rattle.std.specs.Prelude.{◌≡◌, ◌^◌, ◌<◌, ◌≤◌, ◌++◌, length, OnOk};
 ghost use Rattle.std.specs.Io.KnownBytes.{Appends};
 ghost use Rattle.pictures.specs.Checksums.{crc32};
-ghost use Rattle.pictures.specs.Chunks.{big_endian, chunk, stored, stored_block};
+ghost use Rattle.pictures.specs.Chunks.{chunk, stored, stored_block};
 
 use crate::checksum::CrcTable;
 use std::io;
 use std::io::Write;
-use terms::NoMemory;
+use terms::{NoMemory, four_bytes};
 
 /// How many bytes a stored block has at most.
 const LONGEST_BLOCK: usize = 65_535;
-
-/// A number in four bytes, the highest first.
-pub fn big_endian(n: u32) -> [u8; 4]
-    ensures { result ≡ big_endian n }
-{
-    [
-        (n / 16_777_216) as u8,
-        (n / 65_536 % 256) as u8,
-        (n / 256 % 256) as u8,
-        (n % 256) as u8,
-    ]
-}
 
 /// Writes a chunk of a PNG file.
 pub fn write_chunk<W: Write>(
@@ -36,10 +24,10 @@ pub fn write_chunk<W: Write>(
     ensures { OnOk result (Appends (W.contents out.old) (W.contents out.new) (chunk kind.now content.now)) }
 {
     let checksum = table.behind(table.behind(u32::MAX, kind), content) ^ u32::MAX;
-    out.write_all(&big_endian(content.len() as u32))?;
+    out.write_all(&four_bytes(content.len() as u32))?;
     out.write_all(kind)?;
     out.write_all(content)?;
-    out.write_all(&big_endian(checksum))
+    out.write_all(&four_bytes(checksum))
 }
 
 // Appends a stored block that isn't the last one.

@@ -5,6 +5,7 @@ ghost use Rattle.std.specs.Io.KnownBytes.{Appends};
 ghost use Rattle.painter.specs.Framebuffer.{color_at};
 ghost use Rattle.pictures.specs.Plain.{bmp_head, four_bytes, head_text, pixel_text, plain_text, ppm_head, row_at, row_text, two_bytes};
 
+use byteorder::{ByteOrder, LittleEndian};
 use painter::Screen;
 use pixel_format::Color;
 use std::alloc::Global;
@@ -28,19 +29,18 @@ const BMP_HEAD: u64 = 54;
 fn two_bytes(n: u16) -> [u8; 2]
     ensures { result ≡ two_bytes n }
 {
-    [(n % 256) as u8, (n / 256) as u8]
+    let mut bytes = [0; 2];
+    LittleEndian::write_u16(&mut bytes, n);
+    bytes
 }
 
 // A number in four bytes, the lowest first.
 fn four_bytes(n: u32) -> [u8; 4]
     ensures { result ≡ four_bytes n }
 {
-    [
-        (n % 256) as u8,
-        (n / 256 % 256) as u8,
-        (n / 65_536 % 256) as u8,
-        (n / 16_777_216) as u8,
-    ]
+    let mut bytes = [0; 4];
+    LittleEndian::write_u32(&mut bytes, n);
+    bytes
 }
 
 // Appends what stands before the pixels of a PPM file.

@@ -8,20 +8,20 @@ ghost use Rattle.pictures.specs.Checksums.{adler32, first_sum, second_sum};
 ghost use Rattle.pictures.specs.Png.{image_header, png_text, row_chunks, scanline, scanlines, zlib_end};
 
 use crate::checksum::{Adler, CrcTable};
-use crate::chunk::{append_stored, big_endian, write_chunk};
+use crate::chunk::{append_stored, write_chunk};
 use crate::plain::{PlainFormat, append_row};
 use painter::Screen;
 use std::alloc::Global;
 use std::io;
 use std::io::Write;
-use terms::{NoMemory, ScreenSize};
+use terms::{NoMemory, ScreenSize, four_bytes};
 
 // The data of the first chunk.
 fn image_header(size: ScreenSize) -> [u8; 13]
     ensures { result ≡ image_header size.width size.height }
 {
-    let w = big_endian(u32::from(size.width));
-    let h = big_endian(u32::from(size.height));
+    let w = four_bytes(u32::from(size.width));
+    let h = four_bytes(u32::from(size.height));
     [
         w[0], w[1], w[2], w[3], h[0], h[1], h[2], h[3], 8, 2, 0, 0, 0,
     ]
@@ -31,7 +31,7 @@ fn image_header(size: ScreenSize) -> [u8; 13]
 fn zlib_end(checksum: u32) -> [u8; 9]
     ensures { (rows : List ℕ) → checksum ≡ adler32 rows → result ≡ zlib_end rows }
 {
-    let sum = big_endian(checksum);
+    let sum = four_bytes(checksum);
     [1, 0, 0, 255, 255, sum[0], sum[1], sum[2], sum[3]]
 }
 

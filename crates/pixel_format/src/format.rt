@@ -9,9 +9,10 @@ ghost use Rattle.pixel_format.specs.Pixel.{pixel_number, channel_value, pixel_co
 mod numbers;
 
 use crate::Color;
+use byteorder::{BigEndian, ByteOrder, LittleEndian};
 use std::marker::Model;
 use std::simd::prelude::*;
-use terms::FormatFault;
+use terms::{FormatFault, read_u16, two_bytes};
 
 // How many colours are converted together.
 const TOGETHER: usize = 8;
@@ -124,9 +125,9 @@ impl PixelFormat {
         ensures bytes { result ≡ format_bytes self.now }
         ensures read { format_at result ≡ Ok self.now }
     {
-        let [red_high, red_low] = self.red.max.to_be_bytes();
-        let [green_high, green_low] = self.green.max.to_be_bytes();
-        let [blue_high, blue_low] = self.blue.max.to_be_bytes();
+        let [red_high, red_low] = two_bytes(self.red.max);
+        let [green_high, green_low] = two_bytes(self.green.max);
+        let [blue_high, blue_low] = two_bytes(self.blue.max);
         [
             self.bits,
             self.depth,
@@ -339,10 +340,10 @@ impl PixelFormat {
         ensures { result ≡ pixel_number self.now bytes.now }
     {
         match (self.big_endian, bytes) {
-            (true, [a, b, c, d]) => u32::from_be_bytes([*a, *b, *c, *d]),
-            (false, [a, b, c, d]) => u32::from_le_bytes([*a, *b, *c, *d]),
-            (true, [a, b]) => u16::from_be_bytes([*a, *b]) as u32,
-            (false, [a, b]) => u16::from_le_bytes([*a, *b]) as u32,
+            (true, [_, _, _, _]) => BigEndian::read_u32(bytes),
+            (false, [_, _, _, _]) => LittleEndian::read_u32(bytes),
+            (true, [_, _]) => BigEndian::read_u16(bytes) as u32,
+            (false, [_, _]) => LittleEndian::read_u16(bytes) as u32,
             (_, [a]) => *a as u32,
             _ => unreachable!(),
         }
@@ -407,7 +408,7 @@ impl Channel {
         ensures shift { result.shift ≡ (channel_at bytes.now max shift).shift }
     {
         Channel {
-            max: u16::from_be_bytes([bytes[max], bytes[max + 1]]),
+            max: read_u16(bytes, max),
             shift: bytes[shift],
         }
     }

@@ -19,6 +19,7 @@ pub use kind::{Format, Limits, RecordedScreen};
 pub use laws::{valid_formats, written_as_read};
 pub use pixels::Pixels;
 pub use runs::end_of_number;
+pub use terms::FormatFault;
 pub use votes::most_voted;
 
 /// A colour: how much of red, green and blue, each from 0 to its channel's maximum. A colour of a

@@ -13,6 +13,7 @@ use std::io::Read;
 use std::os::unix::fs::MetadataExt;
 use std::rt::Files;
 use std::{fs, io};
+use thiserror::Error;
 
 /// What a draft's name has behind that of its recording.
 const ENDING: &str = ".new";
@@ -97,20 +98,17 @@ fn is_at<R: Files<File = File>>(rt: &R, file: &Metadata, path: &str) -> bool {
 }
 
 /// Why there is no draft.
-#[derive(Drop)]
+#[derive(Debug, Drop, Error)]
 pub enum DraftFault {
     /// Something else lies at the draft's path, and stays as it is.
+    #[error("something else lies at its path")]
     InTheWay,
     /// A recording came to the recording's path meanwhile, or the draft is another recorder's.
+    #[error("another recorder has it")]
     Taken,
     /// The system's word.
-    System(io::Error),
-}
-
-impl From<io::Error> for DraftFault {
-    fn from(error: io::Error) -> DraftFault {
-        DraftFault::System(error)
-    }
+    #[error("{0}")]
+    System(#[from] io::Error),
 }
 
 // The bytes of a file, where they are few enough to be left by a creation.

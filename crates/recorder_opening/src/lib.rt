@@ -8,7 +8,7 @@ mod reading;
 mod recording;
 mod stopped;
 
-pub use opening::{Opened, Opening, Source};
+pub use opening::{Begun, Opened, Opening, Source};
 pub use reading::Reading;
 pub use recording::Identity;
 pub use stopped::Stopped;

@@ -39,15 +39,31 @@ pub struct Source {
     pub stream: Option<TcpStream>,
 }
 
-/// A recorder that may begin: its recording with seats for viewers, which file that is, the host, and
-/// where viewers come.
+/// What a recorder has before its recording is read or made: what stands at the recording's path, and
+/// the host.
+#[derive(Drop)]
+pub struct Begun {
+    found: Found,
+    host: Option<Box<Host>>,
+}
+
+impl Begun {
+    /// The header of a recording that is to be read; none where it is made.
+    pub fn header(&self) -> Option<&Header> {
+        match &self.found {
+            Found::Recording(unread) => Some(&unread.header),
+            _ => None,
+        }
+    }
+}
+
+/// A recorder that may begin: its recording with seats for viewers, which file that is, and the host.
 #[derive(Drop)]
 pub struct Opened {
     pub desk: Box<Desk<FileDisk>>,
     pub beginning: Beginning,
     pub identity: Identity,
     pub source: Source,
-    pub listener: TcpListener,
 }
 
 // A desk over a book. It is boxed, since its seats are many.
@@ -151,18 +167,33 @@ impl<
         })
     }
 
-    /// Finds the recording, connects to the host, listens, and reads the recording, which may take
-    /// long, or makes it where there is none.
-    pub fn open<L: FnOnce() -> io::Result<TcpListener> + Drop>(
+    /// Finds the recording, connects to the host, and listens.
+    pub fn begin<L: FnOnce() -> io::Result<TcpListener> + Drop>(
         &self,
         listen: L,
-    ) -> Result<Opened, Stopped>
+    ) -> Result<(Begun, TcpListener), Stopped>
         requires { L.IsAlwaysCallable listen }
     {
         let found = self.find()?;
         let host = self.host(&found)?;
         let listener = self.listener(listen)?;
+        Ok((Begun { found, host }, listener))
+    }
+
+    // Tells where a host goes on with a recording: the file has no mark there.
+    fn tell_where(&self, book: &Book<FileDisk>) {
+        let messages = book.committed();
+        if self.plan.host.is_some() && messages > 0 {
+            let time = book.last_time();
+            self.telling.tell(self.rt, Event::GoesOn { messages, time });
+        }
+    }
+
+    /// Reads the recording, which may take long, or makes it where there is none.
+    pub fn finish(&self, begun: Begun) -> Result<Opened, Stopped> {
+        let Begun { found, host } = begun;
         let (mut book, identity) = self.recording(found, host.as_deref())?;
+        self.tell_where(&book);
         let source = self.source(host, book.last_time())?;
         let beginning = beginning_of(&mut book, self.plan).map_err(Refusal::from)?;
         Ok(Opened {
@@ -170,7 +201,6 @@ impl<
             beginning,
             identity,
             source,
-            listener,
         })
     }
 }

@@ -12,4 +12,5 @@ pub use encoding::pick;
 pub use laws::{written_parts_are_read, written_update_is_read};
 pub use numbers::append_numbers;
 pub use parts::{Part, append_copy, write_parts};
+pub use rect_data::Encoding;
 pub use update::{append_head, write_update};

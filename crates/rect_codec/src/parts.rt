@@ -11,7 +11,7 @@ use crate::update::append_head;
 use pixel_format::{Color, PixelFormat};
 use rect_data::Encoding;
 use std::alloc::Global;
-use terms::{Area, NoMemory, whole_or_none};
+use terms::{Area, NoMemory, two_bytes, whole_or_none};
 
 /// What one rectangle of an update says (RFC 6143, section 7.7).
 #[derive(Clone, Copy)]
@@ -20,8 +20,8 @@ pub enum Part<'a> {
     /// column and row, as the rectangles before it have left them (section 7.7.2).
     Copy {
         area: Area,
-        source_x: u16,
-        source_y: u16,
+        sx: u16,
+        sy: u16,
     },
     /// The places of the area get these colours, by rows from the top and each from the left. The
     /// rectangle is written in this encoding where that makes it shorter than Raw, and else in Raw.
@@ -40,8 +40,8 @@ pub fn append_copy(area: Area, x: u16, y: u16, out: &mut Vec<u8>) -> Result<(), 
 {
     let start = out.len();
     append_head(area, Encoding::CopyRect, out)?;
-    let [x, x_low] = x.to_be_bytes();
-    let [y, y_low] = y.to_be_bytes();
+    let [x, x_low] = two_bytes(x);
+    let [y, y_low] = two_bytes(y);
     let appended = out.extend_from_slice(&[x, x_low, y, y_low]);
     whole_or_none(appended, start, out)
 }
@@ -58,11 +58,7 @@ fn append_part(
     ensures err { OnErr result (out.new.items ≡ out.old.items) }
 {
     match *part {
-        Part::Copy {
-            area,
-            source_x,
-            source_y,
-        } => append_copy(area, source_x, source_y, out),
+        Part::Copy { area, sx, sy } => append_copy(area, sx, sy, out),
         Part::Colors {
             area,
             colors,
@@ -110,7 +106,7 @@ pub fn write_parts(
     ensures err { OnErr result (out.new.items ≡ out.old.items) }
 {
     let start = out.len();
-    let [count, count_low] = (parts.len() as u16).to_be_bytes();
+    let [count, count_low] = two_bytes(parts.len() as u16);
     out.extend_from_slice(&[0, 0, count, count_low])?;
     let appended = append_parts(alloc, format, parts, out);
     whole_or_none(appended, start, out)

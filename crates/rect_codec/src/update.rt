@@ -11,7 +11,7 @@ use crate::parts::{Part, write_parts};
 use pixel_format::{Color, PixelFormat};
 use rect_data::Encoding;
 use std::alloc::Global;
-use terms::{Area, NoMemory};
+use terms::{Area, NoMemory, four_bytes};
 
 /// Appends the header of a rectangle: its area, and the number of its encoding (RFC 6143, section
 /// 7.6.1). Running out of memory leaves `out` as it was.
@@ -20,7 +20,7 @@ pub fn append_head(area: Area, encoding: Encoding, out: &mut Vec<u8>) -> Result<
     ensures err { OnErr result (out.new.items ≡ out.old.items) }
 {
     let [x, x_low, y, y_low, w, w_low, h, h_low] = area.bytes();
-    let [first, second, third, fourth] = encoding.number().to_be_bytes();
+    let [first, second, third, fourth] = four_bytes(encoding.number());
     out.extend_from_slice(&[
         x, x_low, y, y_low, w, w_low, h, h_low, first, second, third, fourth,
     ])

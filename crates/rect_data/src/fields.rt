@@ -3,7 +3,7 @@
 ghost use Rattle.std.specs.Prelude.{◌≡◌, length};
 ghost use Rattle.rect_data.specs.Grammar.{source_of, is_inside};
 
-use terms::{Area, ScreenSize};
+use terms::{Area, ScreenSize, read_u16};
 
 /// Whether the area lies within a screen of this size.
 #[tactic(auto, unfolding(crate::specs::Grammar::is_inside))]
@@ -22,8 +22,8 @@ pub fn source_at(area: Area, place: &[u8]) -> Area
     ensures { result ≡ source_of area place.now }
 {
     Area {
-        x: u16::from_be_bytes([place[0], place[1]]),
-        y: u16::from_be_bytes([place[2], place[3]]),
+        x: read_u16(place, 0),
+        y: read_u16(place, 2),
         w: area.w,
         h: area.h,
     }

@@ -1,15 +1,12 @@
 -- A host's messages as they are written. Padding is 0.
-use Rattle.std.specs.Prelude.{ℕ, ◌+◌, ◌*◌, ◌/◌, ◌%◌, List, [], ◌∷◌, ◌++◌, length}
+use Rattle.std.specs.Prelude.{ℕ, ◌+◌, ◌*◌, List, [], ◌∷◌, ◌++◌, length}
 use Rattle.std.specs.List.{flat_map}
 use Rattle.pixel_format.specs.declared.Color.{Color}
 use Rattle.terms.specs.declared.area.Area.{Area}
+use Rattle.terms.specs.Number.{u16_bytes}
 use Rattle.client_wire.specs.Written.{text_bytes, one_rectangle_head}
 use Rattle.rfb_wire.specs.declared.message.Rectangle.{Rectangle}
 use Rattle.rect_data.specs.declared.encoding.Encoding.TheVariants as encodings
-
--- a number below 65,536, the higher byte first
-abbrev pub two_bytes : ℕ → List ℕ
-two_bytes n = n / 256 ∷ n % 256 ∷ []
 
 -- FramebufferUpdate of one rectangle in the encoding Raw, whose number is 0 (RFC 6143, sections 7.6.1
 -- and 7.7.1)
@@ -27,10 +24,10 @@ raw_rectangle a = record { area = a; encoding = encodings.Raw; start = 16; end =
 -- SetColorMapEntries: type 1, a byte of padding, the number of the first colour, how many there
 -- are, and red, green and blue of each (section 7.6.2)
 abbrev pub color_map_head : ℕ → ℕ → List ℕ
-color_map_head first count = 1 ∷ 0 ∷ two_bytes first ++ two_bytes count
+color_map_head first count = 1 ∷ 0 ∷ u16_bytes first ++ u16_bytes count
 
 abbrev pub color_bytes : Color → List ℕ
-color_bytes c = two_bytes c.r ++ two_bytes c.g ++ two_bytes c.b
+color_bytes c = u16_bytes c.r ++ u16_bytes c.g ++ u16_bytes c.b
 
 abbrev pub color_map_bytes : ℕ → List Color → List ℕ
 color_map_bytes first colors = color_map_head first (length colors) ++ flat_map color_bytes colors

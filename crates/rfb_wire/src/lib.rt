@@ -24,6 +24,7 @@ pub use message::{HostMessage, Rectangle};
 pub use plain::{Front, read_message};
 pub use reader::ServerReader;
 pub use rect_data::Encoding;
+pub use terms::{Area, WireFault};
 pub use write::{
     write_bell, write_color_map, write_cut_text, write_raw_update, written_bell_is_read,
     written_color_map_is_read, written_text_is_read, written_update_is_read,

@@ -11,7 +11,7 @@ use crate::step::{TEXT_LIMIT, judge_header};
 use pixel_format::{PixelFormat, RecordedScreen};
 use rect_data::measure;
 use std::alloc::Global;
-use terms::{ScreenSize, WireFault, field};
+use terms::{ScreenSize, WireFault, field, read_u16, read_u32};
 
 /// The message that bytes begin with.
 #[derive(Drop)]
@@ -93,7 +93,7 @@ fn update(
     let Some((numbers, body)) = field(3, head) else {
         return Ok(None);
     };
-    let count = u16::from_be_bytes([numbers[1], numbers[2]]);
+    let count = read_u16(numbers, 1);
     rectangles(alloc, size, count, body)
 }
 
@@ -103,7 +103,7 @@ fn color_map(bytes: &[u8]) -> Option<&[u8]>
         (λ rest. color_map_at bytes.now ≡ Got ReadOver rest.now) }
 {
     let (head, colors) = field(5, bytes)?;
-    let count = u16::from_be_bytes([head[3], head[4]]);
+    let count = read_u16(head, 3);
     let (_, rest) = field(6 * count as usize, colors)?;
     Some(rest)
 }
@@ -114,7 +114,7 @@ fn text(bytes: &[u8]) -> Option<(bool, &[u8])>
         (λ x. text_at bytes.now ≡ Got (kind_of x.0) x.1.now) }
 {
     let (head, body) = field(7, bytes)?;
-    let count = u32::from_be_bytes([head[3], head[4], head[5], head[6]]);
+    let count = read_u32(head, 3);
     let (_, rest) = field(count as usize, body)?;
     Some((count <= TEXT_LIMIT, rest))
 }

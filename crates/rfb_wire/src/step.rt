@@ -15,7 +15,7 @@ use crate::message::Rectangle;
 use crate::partial_message::{AfterField, Begun, Next, Stage};
 use pixel_format::PixelFormat;
 use rect_data::{Encoding, Judging, lies_inside};
-use terms::{Area, ScreenSize, WireFault};
+use terms::{Area, ScreenSize, WireFault, read_u16, read_u32};
 
 /// The greatest number of bytes of a text that is recorded.
 pub const TEXT_LIMIT: u32 = 65_536;
@@ -28,10 +28,10 @@ fn area_at(header: &[u8]) -> Area
     ensures { result ≡ area_of header.now }
 {
     Area {
-        x: u16::from_be_bytes([header[0], header[1]]),
-        y: u16::from_be_bytes([header[2], header[3]]),
-        w: u16::from_be_bytes([header[4], header[5]]),
-        h: u16::from_be_bytes([header[6], header[7]]),
+        x: read_u16(header, 0),
+        y: read_u16(header, 2),
+        w: read_u16(header, 4),
+        h: read_u16(header, 6),
     }
 }
 
@@ -41,7 +41,7 @@ fn encoding_at(header: &[u8]) -> u32
     requires { length header.now ≡ 12 }
     ensures { result ≡ encoding_number header.now }
 {
-    u32::from_be_bytes([header[8], header[9], header[10], header[11]])
+    read_u32(header, 8)
 }
 
 /// The area and the encoding that the header of a rectangle names. An area that leaves the screen is
@@ -127,7 +127,7 @@ fn behind_color_map_head(field: &[u8]) -> AfterField
     ensures begins { NextBegins 6 result.next }
     ensures kind { (bytes : List ℕ) → NextIsOfKind result.next bytes }
 {
-    let count = u16::from_be_bytes([field[3], field[4]]);
+    let count = read_u16(field, 3);
     AfterField {
         rectangle: None,
         next: Next::ReadOver(6 * count as u64),
@@ -157,7 +157,7 @@ fn behind_text_head(field: &[u8]) -> AfterField
     ensures begins { NextBegins 8 result.next }
     ensures kind { (bytes : List ℕ) → NextIsOfKind result.next bytes }
 {
-    let count = u32::from_be_bytes([field[3], field[4], field[5], field[6]]);
+    let count = read_u32(field, 3);
     AfterField {
         rectangle: None,
         next: next_text(count),
@@ -187,7 +187,7 @@ fn behind_update_head(field: &[u8]) -> AfterField
 {
     AfterField {
         rectangle: None,
-        next: next_header(4, u16::from_be_bytes([field[1], field[2]])),
+        next: next_header(4, read_u16(field, 1)),
     }
 }
 

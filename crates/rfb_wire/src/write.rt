@@ -10,7 +10,7 @@ ghost use Rattle.rfb_wire.specs.Written.{raw_update_bytes, raw_rectangle, color_
 
 use client_wire::{write_text, write_update_head};
 use pixel_format::Color;
-use terms::{Area, NoMemory, whole_or_none};
+use terms::{Area, NoMemory, two_bytes, whole_or_none};
 
 /// Appends a host's FramebufferUpdate of one Raw rectangle (RFC 6143, sections 7.6.1 and 7.7.1):
 /// its area, and the pixels of the area by rows, in the viewer's format.
@@ -42,8 +42,8 @@ fn append_color_map(first: u16, colors: &[Color], out: &mut Vec<u8>) -> Result<(
     ensures ok { OnOk result (out.new.items ≡ out.old.items ++ color_map_bytes first colors.now) }
     ensures part { take (length out.old.items) out.new.items ≡ out.old.items }
 {
-    let [number, number_low] = first.to_be_bytes();
-    let [count, count_low] = (colors.len() as u16).to_be_bytes();
+    let [number, number_low] = two_bytes(first);
+    let [count, count_low] = two_bytes(colors.len() as u16);
     out.extend_from_slice(&[1, 0, number, number_low, count, count_low])?;
     for color in colors {
         out.extend_from_slice(&map_entry(*color))?;
@@ -55,9 +55,9 @@ fn append_color_map(first: u16, colors: &[Color], out: &mut Vec<u8>) -> Result<(
 fn map_entry(color: Color) -> [u8; 6]
     ensures { result ≡ color_bytes color }
 {
-    let [red, red_low] = color.r.to_be_bytes();
-    let [green, green_low] = color.g.to_be_bytes();
-    let [blue, blue_low] = color.b.to_be_bytes();
+    let [red, red_low] = two_bytes(color.r);
+    let [green, green_low] = two_bytes(color.g);
+    let [blue, blue_low] = two_bytes(color.b);
     [red, red_low, green, green_low, blue, blue_low]
 }
 

@@ -12,17 +12,17 @@ ghost use Rattle.rre.specs.Encoded.{IsAreaOf, AreBytesOfAll, IsWritten, area_byt
 
 use crate::data::Subrectangle;
 use pixel_format::{Color, PixelFormat};
-use terms::NoMemory;
+use terms::{NoMemory, four_bytes, two_bytes};
 
 // The x, y, width and height of a subrectangle, in two bytes each.
 fn area_of(part: Subrectangle) -> [u8; 8]
     ensures numbers { IsAreaOf part result }
     ensures bytes { result ≡ area_bytes part }
 {
-    let [x, x_low] = part.x.to_be_bytes();
-    let [y, y_low] = part.y.to_be_bytes();
-    let [w, w_low] = part.w.to_be_bytes();
-    let [h, h_low] = part.h.to_be_bytes();
+    let [x, x_low] = two_bytes(part.x);
+    let [y, y_low] = two_bytes(part.y);
+    let [w, w_low] = two_bytes(part.w);
+    let [h, h_low] = two_bytes(part.h);
     [x, x_low, y, y_low, w, w_low, h, h_low]
 }
 
@@ -58,13 +58,14 @@ fn append_parts(
     Ok(())
 }
 
-// A number in four bytes, the higher ones first.
-fn four_bytes(number: u32) -> [u8; 4]
+// How many subrectangles there are, in four bytes.
+fn count_of(parts: &[Subrectangle]) -> [u8; 4]
+    requires { length parts.now < 2 ^ 32 }
     ensures size { length result ≡ 4 }
-    ensures value { u32_at result 0 ≡ number }
-    ensures bytes { result ≡ bytes_high_first 4 number }
+    ensures value { u32_at result 0 ≡ length parts.now }
+    ensures bytes { result ≡ bytes_high_first 4 (length parts.now) }
 {
-    number.to_be_bytes()
+    four_bytes(parts.len() as u32)
 }
 
 /// Appends the data of a background and subrectangles. Running out of memory may leave some of the
@@ -83,7 +84,7 @@ pub(crate) fn append_data(
         ++ data_bytes format.now (record { background = background; subrectangles = parts.now })) }
     ensures grows { Grows bytes.old.items bytes.new.items }
 {
-    bytes.extend_from_slice(&four_bytes(parts.len() as u32))?;
+    bytes.extend_from_slice(&count_of(parts))?;
     format.append_pixel(background, bytes)?;
     append_parts(format, parts, bytes)?;
     Ok(())

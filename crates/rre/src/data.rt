@@ -6,6 +6,7 @@ ghost use Rattle.terms.specs.Number.{u16_at, u32_at};
 ghost use Rattle.rre.specs.Grammar.{subrectangle_of, subrectangle_bytes, is_inside, head_bytes};
 
 use pixel_format::{Color, PixelFormat};
+use terms::{read_u16, read_u32};
 
 /// A part of a rectangle that has one colour. Its corner (x, y) counts from the rectangle's upper
 /// left corner.
@@ -26,10 +27,10 @@ pub(crate) fn read_subrectangle(format: &PixelFormat, field: &[u8]) -> Subrectan
 {
     let (pixel, area) = field.split_at(format.bytes());
     Subrectangle {
-        x: u16::from_be_bytes([area[0], area[1]]),
-        y: u16::from_be_bytes([area[2], area[3]]),
-        w: u16::from_be_bytes([area[4], area[5]]),
-        h: u16::from_be_bytes([area[6], area[7]]),
+        x: read_u16(area, 0),
+        y: read_u16(area, 2),
+        w: read_u16(area, 4),
+        h: read_u16(area, 6),
         color: format.pixel(pixel),
     }
 }
@@ -42,10 +43,8 @@ pub(crate) fn is_part_inside(format: &PixelFormat, field: &[u8], w: u16, h: u16)
     ensures { result ≡ is_inside w h (subrectangle_of format.now field.now) }
 {
     let (_, area) = field.split_at(format.bytes());
-    let right = u16::from_be_bytes([area[0], area[1]]) as u32
-        + u16::from_be_bytes([area[4], area[5]]) as u32;
-    let bottom = u16::from_be_bytes([area[2], area[3]]) as u32
-        + u16::from_be_bytes([area[6], area[7]]) as u32;
+    let right = read_u16(area, 0) as u32 + read_u16(area, 4) as u32;
+    let bottom = read_u16(area, 2) as u32 + read_u16(area, 6) as u32;
     right <= w as u32 && bottom <= h as u32
 }
 
@@ -54,5 +53,5 @@ pub(crate) fn read_count(head: &[u8]) -> u32
     requires { 4 ≤ length head.now }
     ensures { result ≡ u32_at head.now 0 }
 {
-    u32::from_be_bytes([head[0], head[1], head[2], head[3]])
+    read_u32(head, 0)
 }

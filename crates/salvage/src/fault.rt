@@ -22,7 +22,7 @@ pub enum SalvageFault {
     /// Out of memory.
     #[error("out of memory")]
     NoMemory,
-    /// The source's blocks end behind the longest recording; nothing is written.
+    /// The blocks that are right end beyond 2^40 bytes, where no recording does.
     #[error("the recording would be too long")]
     Full,
 }

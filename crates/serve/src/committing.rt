@@ -60,7 +60,6 @@ impl<'a, M: Mark, R: Clock + Wait> ReceiptSink<Receipt<M>> for Committing<'a, M,
         self.room.set_committed(slice.first.saturating_add(count));
         self.room.intake.commit(self.rt, bytes);
         self.room.note_recorded(count, bytes);
-        self.is_short = false;
         self.tell();
     }
 
@@ -69,5 +68,10 @@ impl<'a, M: Mark, R: Clock + Wait> ReceiptSink<Receipt<M>> for Committing<'a, M,
             self.room.telling.tell(self.rt, Event::Shortage);
         }
         self.is_short = true;
+    }
+
+    fn relief(&mut self) {
+        self.room.telling.tell(self.rt, Event::Relief);
+        self.is_short = false;
     }
 }

@@ -1,13 +1,15 @@
 //! Where viewers come in: one thread accepts, and each connection has a thread of its own.
 
+use crate::accepting::accept_until_rung;
+use crate::greeter::Comer;
 use crate::no_turnstile::NoTurnstile;
 use crate::service::Service;
 use broadcast::{NextRefusal, Start};
-use connections::{Viewer, turn_away};
+use connections::{Greeting, Guest, Viewer, turn_away};
 use disk::Disk;
 use reception::{Arrival, Reason};
 use shared_book::{Mark, ViewerEnd, run_viewer};
-use sockets::{Accepted, Connection, accept};
+use sockets::Connection;
 use std::net::{SocketAddr, TcpStream};
 use std::sync::Wait;
 use std::thread;
@@ -43,19 +45,10 @@ impl<'a, D: Disk, M: Mark, R: Clock + Wait> Service<'a, D, M, R> {
         ended
     }
 
-    // The viewer behind a connection, once its handshake is whole; none where it doesn't get so far.
-    fn greeted(&self, stream: TcpStream) -> Option<Viewer<M, TcpStream>> {
-        let room = self.room;
-        let viewer = Viewer::<M, TcpStream>::new(
-            room.alloc,
-            stream,
-            room.screen.size,
-            &room.name,
-        ).ok()?;
-        match viewer.greet(self.rt, &room.bell) {
-            Ok(true) => Some(viewer),
-            _ => None,
-        }
+    // Ends a handshake without a viewer.
+    fn give_up_on(&self, from: SocketAddr) {
+        self.room.hall.give_up(self.rt);
+        self.room.telling.tell(self.rt, Event::Unheard(from));
     }
 
     // Tells a connection why it is turned away.
@@ -88,22 +81,31 @@ impl<'a, D: Disk + Send, M: Mark + Send + Sync, R: Threads + Clock + Wait + Sync
         })
     }
 
-    // Hears a connection's handshake, and serves the viewer behind it, if it gets a seat.
-    fn receive(&self, stream: TcpStream, from: SocketAddr) {
+    // Hears a guest's handshake to its end, and serves the viewer that it becomes, if it gets a seat.
+    fn receive(&self, mut guest: Guest<TcpStream>, from: SocketAddr) {
         let (rt, room) = (self.rt, self.room);
-        let Some(viewer) = self.greeted(stream) else {
-            room.hall.give_up(rt);
-            room.telling.tell(rt, Event::Unheard(from));
-            return;
-        };
+        match guest.greet(rt, &room.bell) {
+            Ok(Greeting::Whole) if room.fits(&guest) => {}
+            _ => return self.give_up_on(from),
+        }
         if let Err(reason) = room.hall.seat(rt) {
             room.telling.tell(rt, Event::TurnedAway(from, reason));
             return;
         }
         room.telling.tell(rt, Event::Came(from));
+        let viewer = Viewer::<M, TcpStream>::of(guest);
         let ended = self.serve_viewer(&viewer, from);
         room.hall.leave(rt);
         room.telling.tell(rt, ended);
+    }
+
+    // Makes a guest of a connection.
+    fn welcome(&self, stream: TcpStream, from: SocketAddr) {
+        let room = self.room;
+        match Guest::new(room.alloc, stream, room.screen.size, &room.name) {
+            Ok(guest) => self.receive(guest, from),
+            Err(_) => self.give_up_on(from),
+        }
     }
 
     // Attends to a connection until it has ended.
@@ -121,7 +123,7 @@ impl<'a, D: Disk + Send, M: Mark + Send + Sync, R: Threads + Clock + Wait + Sync
                 let text = "the recording has fewer messages";
                 self.refuse(&stream, Event::TooFar(from), text);
             }
-            _ => self.receive(stream, from),
+            _ => self.welcome(stream, from),
         }
     }
 
@@ -140,38 +142,37 @@ impl<'a, D: Disk + Send, M: Mark + Send + Sync, R: Threads + Clock + Wait + Sync
         }
     }
 
-    // Accepts connections until the bell rings: whether it did. A shortage of the system is told of
-    // once while it lasts.
-    fn accept_in<'s, E>(&'s self, scope: &'s Scope<'s, E>) -> bool {
-        let telling = &self.room.telling;
-        let mut is_short = false;
-        for _ in self.rt.forever() {
-            match accept(self.listener, &self.room.bell) {
-                Accepted::Rung => return true,
-                Accepted::Nothing => {}
-                Accepted::Connection(stream, from) => {
-                    is_short = false;
-                    self.take(scope, stream, from);
-                }
-                Accepted::Shortage(error) => {
-                    if !is_short {
-                        telling.tell_failure(self.rt, "accept", "viewers", &error);
-                    }
-                    is_short = true;
-                }
-                Accepted::Broken(error) => {
-                    telling.tell_failure(self.rt, "accept", "viewers", &error);
-                    return false;
-                }
-            }
+    // Has one who came while the recording was read attended to, on a thread of its own.
+    fn go_on<'s, E>(&'s self, scope: &'s Scope<'s, E>, comer: Comer) {
+        let Comer { guest, from } = comer;
+        if scope.spawn(move || self.receive(guest, from)).is_err() {
+            self.room.hall.give_up(self.rt);
+            self.room.telling.tell(self.rt, Event::NoThread(from));
         }
-        unreachable!()
     }
 
-    /// Accepts connections until the bell rings, and waits until each has ended: whether nothing was
-    /// wrong with the listener.
-    pub fn accept_all(&self) -> bool {
-        let is_sound = thread::scope(thread::scope_env(), self.rt, |scope| self.accept_in(scope));
+    // Has those attended to who have come, and who come until the bell rings: whether it did.
+    fn accept_in<'s, E>(&'s self, scope: &'s Scope<'s, E>, comers: Vec<Comer>) -> bool {
+        for comer in comers {
+            self.go_on(scope, comer);
+        }
+        accept_until_rung(
+            self.rt,
+            self.listener,
+            &self.room.bell,
+            &self.room.telling,
+            |stream, from| self.take(scope, stream, from),
+        )
+    }
+
+    /// Attends to those who have come, and accepts connections until the bell rings; waits until each
+    /// has ended: whether nothing was wrong with the listener.
+    pub fn accept_all(&self, comers: Vec<Comer>) -> bool {
+        let is_sound = thread::scope(
+            thread::scope_env(),
+            self.rt,
+            |scope| self.accept_in(scope, comers),
+        );
         if !is_sound {
             // Nobody comes any more, so that nobody is waited for.
             self.room.hall.stop(self.rt);

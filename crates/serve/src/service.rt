@@ -1,11 +1,12 @@
 //! The threads that record, beside those of viewers.
 
 use crate::committing::Committing;
+use crate::greeter::Comer;
 use crate::no_turnstile::NoTurnstile;
 use crate::refusing::refuse;
 use connections::{Ends, Host, Messages, Refusal, Room, Stopwatch, first_refusal};
 use disk::Disk;
-use flusher_core::{HostRefusal, TakeRefusal};
+use flusher_core::HostRefusal;
 use recorder_opening::Stopped;
 use shared_book::{FlusherEnd, Mark, Shared, run_flusher, run_host};
 use sockets::{Stop, Woken, wait_for_stop};
@@ -78,11 +79,7 @@ impl<'a, D: Disk, M: Mark, R: Clock + Wait> Service<'a, D, M, R> {
     }
 
     // Tells why nothing more is recorded.
-    fn tell_why(&self, why: FlusherEnd) {
-        if let FlusherEnd::Take(TakeRefusal::NoMemory) = why {
-            self.room.telling.tell(self.rt, Event::OutOfMemory);
-            return;
-        }
+    fn tell_why(&self) {
         let error = self.room.last_error.get();
         self.room
             .telling
@@ -95,8 +92,8 @@ impl<'a, D: Disk, M: Mark, R: Clock + Wait> Service<'a, D, M, R> {
         let end = run_flusher(self.rt, self.shared, committing, &NoTurnstile);
         self.room.device.end();
         self.room.tell_recorded(self.rt);
-        if let Err(why) = end {
-            self.tell_why(why);
+        if end.is_err() {
+            self.tell_why();
             self.shut(Shutdown::Both);
         }
         self.room.intake.end(self.rt);
@@ -143,14 +140,15 @@ impl<'a, D: Disk, M: Mark, R: Clock + Wait> Service<'a, D, M, R> {
         }
     }
 
-    // Ends what was started, where a thread couldn't be made.
+    // Ends what was started, where a thread couldn't be made. What was accepted is committed, so that
+    // a host's worker that waits for room has some, and ends.
     fn give_up(&self) {
+        self.room.stop(self.rt);
         self.shut(Shutdown::Both);
         self.room.intake.end(self.rt);
         self.shared.end_host(self.rt);
-        self.shared.end_flusher(self.rt);
+        let _flushed = self.flush();
         self.room.hall.end(self.rt);
-        self.room.stop(self.rt);
         self.room.bell.ring();
     }
 }
@@ -207,6 +205,7 @@ impl<'a, D: Disk + Send, M: Mark + Send + Sync, R: Threads + Clock + Wait + Sync
         &'a self,
         scope: &'a Scope<'a, E>,
         host: Option<(Box<Host>, Stopwatch)>,
+        comers: Vec<Comer>,
         stop: Stop,
     ) -> Option<Crew> {
         let host = match host {
@@ -224,7 +223,7 @@ impl<'a, D: Disk + Send, M: Mark + Send + Sync, R: Threads + Clock + Wait + Sync
         if host.is_some() && self.room.telling.tells_all() {
             scope.spawn(move || self.watch_device()).ok()?;
         }
-        let viewers = scope.spawn(move || self.accept_all()).ok()?;
+        let viewers = scope.spawn(move || self.accept_all(comers)).ok()?;
         Some(Crew { host, viewers })
     }
 
@@ -233,10 +232,11 @@ impl<'a, D: Disk + Send, M: Mark + Send + Sync, R: Threads + Clock + Wait + Sync
         &'a self,
         scope: &'a Scope<'a, E>,
         host: Option<(Box<Host>, Stopwatch)>,
+        comers: Vec<Comer>,
         stop: Stop,
         err: &mut W,
     ) -> Outcome {
-        match self.start(scope, host, stop) {
+        match self.start(scope, host, comers, stop) {
             Some(crew) => self.conduct(crew, err),
             None => {
                 self.give_up();
@@ -246,7 +246,8 @@ impl<'a, D: Disk + Send, M: Mark + Send + Sync, R: Threads + Clock + Wait + Sync
     }
 }
 
-/// Records a host, if there is one, and serves viewers, until all have ended: how it ended.
+/// Records a host, if there is one, and serves those who came already and viewers, until all have
+/// ended: how it ended.
 pub fn run_threads<
     'a,
     D: Disk + Send,
@@ -256,12 +257,13 @@ pub fn run_threads<
 >(
     service: &'a Service<'a, D, M, R>,
     host: Option<(Box<Host>, Stopwatch)>,
+    comers: Vec<Comer>,
     stop: Stop,
     err: &'a mut W,
 ) -> Outcome {
     thread::scope(
         thread::scope_env(),
         service.rt,
-        |scope| service.run(scope, host, stop, err),
+        |scope| service.run(scope, host, comers, stop, err),
     )
 }

@@ -3,12 +3,13 @@
 ghost use Rattle.std.specs.Prelude.{◌≡◌};
 ghost use Rattle.flusher_core.specs.State.{accepted_count};
 
+use crate::greeter::{Comer, Greeter};
 use crate::refusing::refuse;
 use crate::service::{Service, run_threads};
-use connections::{Device, Plan, Refusal, Room};
+use connections::{Device, Hall, Origin, Plan, Refusal, Room};
 use file_disk::{LastError, Written};
 use libc::STDERR_FILENO;
-use recorder_opening::{Opened, Opening, Reading, Source, Stopped};
+use recorder_opening::{Begun, Opened, Opening, Reading, Source, Stopped};
 use shared_book::{Mark, Shared, Token};
 use sockets::Bell;
 use std::fmt::Display;
@@ -29,6 +30,7 @@ fn room_of<M: Mark, R: AllocGlobal + Clock>(
     rt: &R,
     plan: &Plan<'_>,
     opened: &Opened,
+    hall: Hall,
     bell: Bell,
     telling: &Telling,
     last_error: LastError,
@@ -43,6 +45,7 @@ fn room_of<M: Mark, R: AllocGlobal + Clock>(
         desk.header().name().to_vec(alloc)?,
         plan,
         opened.beginning,
+        hall,
         bell,
         telling.share()?,
         last_error,
@@ -59,6 +62,7 @@ fn serve_opened<M: Mark + Send + Sync, R: Threads + Clock + Wait + Sync + AllocG
     plan: &Plan<'_>,
     token: Token,
     opened: Box<Opened>,
+    arrivals: Arrivals,
     bell: Bell,
     telling: &Telling,
     last_error: LastError,
@@ -69,11 +73,15 @@ fn serve_opened<M: Mark + Send + Sync, R: Threads + Clock + Wait + Sync + AllocG
     requires first { accepted_count opened.value.desk.value.state.book ≡ M.first }
     requires names { token ≡ M.names }
 {
-    let room = room_of::<M, R>(rt, plan, &opened, bell, telling, last_error)?;
+    let Arrivals {
+        listener,
+        hall,
+        comers,
+    } = arrivals;
+    let room = room_of::<M, R>(rt, plan, &opened, hall, bell, telling, last_error)?;
     let Opened {
         desk,
         source: Source { host, stream },
-        listener,
         ..
     } = Box::into_inner(opened);
     let shared = Shared::<_, M>::new(rt, token, desk);
@@ -84,7 +92,7 @@ fn serve_opened<M: Mark + Send + Sync, R: Threads + Clock + Wait + Sync + AllocG
         listener: &listener,
         stream: &stream,
     };
-    let outcome = run_threads(&service, host, plan.stop, err);
+    let outcome = run_threads(&service, host, comers, plan.stop, err);
     drop(service);
     outcome.result(shared.finish().committed())
 }
@@ -111,6 +119,73 @@ impl WatchedReading<'_> {
             watcher.join(rt);
         }
     }
+}
+
+// Where viewers come, who watches, and who came already.
+#[derive(Drop)]
+struct Arrivals {
+    listener: TcpListener,
+    hall: Hall,
+    comers: Vec<Comer>,
+}
+
+// Whether viewers are greeted while the recording is read. Who begins behind a count of messages is
+// told in the handshake if there are fewer, and so waits until that is known.
+fn greets_early(origin: Origin) -> bool {
+    !matches!(origin, Origin::Count(_))
+}
+
+// Reads or makes the recording. Meanwhile those who come are greeted, if it is read: who came.
+fn finish<R>(
+    opening: &Opening<'_, R>,
+    begun: Begun,
+    listener: &TcpListener,
+    hall: &Hall,
+) -> Result<(Opened, Vec<Comer>), Stopped>
+where
+    R: AllocGlobal + Clock + Eprint + Files<File = File> + Sync + Threads + Wait,
+    R: Net<Stream = TcpStream, Listener = TcpListener>,
+{
+    let (rt, alloc) = (opening.rt, opening.rt.alloc());
+    let (size, name) = match begun.header() {
+        Some(header) if greets_early(opening.plan.from) => {
+            (header.size(), header.name().to_vec(alloc)?)
+        }
+        _ => return Ok((opening.finish(begun)?, Vec::new(alloc))),
+    };
+    let bell = Bell::new(rt)?;
+    let greeter = Greeter::new(rt, alloc, listener, hall, opening.telling, bell, size, name);
+    let opened = thread::scope(thread::scope_env(), rt, |scope| {
+        // Without a thread for it they are greeted once it is read.
+        let _greeting = scope.spawn(|| greeter.greet_all());
+        let opened = opening.finish(begun);
+        greeter.end();
+        opened
+    });
+    Ok((opened?, greeter.into_comers()))
+}
+
+// Finds the recording, the host and where viewers come, and reads or makes the recording.
+fn open<R, L>(opening: &Opening<'_, R>, listen: L) -> Result<(Opened, Arrivals), Stopped>
+where
+    R: AllocGlobal + Clock + Eprint + Files<File = File> + Sync + Threads + Wait,
+    R: Net<Stream = TcpStream, Listener = TcpListener>,
+    L: FnOnce() -> io::Result<TcpListener> + Drop,
+    requires { L.IsAlwaysCallable listen }
+{
+    let (begun, listener) = opening.begin(listen)?;
+    let format = match begun.header() {
+        Some(header) => header.format(),
+        None => opening.plan.format,
+    };
+    let hall = Hall::new(opening.plan.term(), format.limits().seats as u32);
+    let (opened, comers) = finish(opening, begun, &listener, &hall)?;
+    let arrivals = Arrivals {
+        listener,
+        hall,
+        comers,
+    };
+    Ok((opened, arrivals))
 }
 
 fn run<'a, R, L, O, W>(
@@ -143,13 +218,14 @@ where
     // These come first, so that no file is made where they can't be had.
     let bell = opening.given(Bell::new(rt), "make a bell for", plan.listen, Refusal::Net)?;
     let token = Token::new(rt.alloc())?;
-    let opened = opening.open(listen);
+    let opened = open(&opening, listen);
     watched.end(rt);
-    let opened = Box::new(rt.alloc(), opened?)?;
+    let (opened, arrivals) = opened?;
+    let opened = Box::new(rt.alloc(), opened)?;
     let identity = opened.identity;
     say(out, "serving")?;
     let committed = serve_opened::<Brand, R, W>(
-        rt, plan, token, opened, bell, telling, last_error, err,
+        rt, plan, token, opened, arrivals, bell, telling, last_error, err,
     )?;
     if !identity.is_at(rt, plan.file, written.end()) {
         telling.tell(rt, Event::Replaced(plan.file));

@@ -13,6 +13,6 @@ pub use book_tokens::{Mark, Token};
 pub use closed::Closed;
 pub use held::Held;
 pub use parties::{HostSource, Point, ReceiptSink, Turnstile, ViewerSink, ViewerWish};
-pub use receipt::{Ending, Receipt, Ticket};
+pub use receipt::{Ending, Part, Receipt, Ticket};
 pub use shared::Shared;
 pub use workers::{FlusherEnd, ViewerEnd, run_flusher, run_host, run_viewer};

@@ -52,8 +52,11 @@ pub trait ReceiptSink<T>: Drop {
     fn receipt(&mut self, receipt: T);
 
     /// Takes word that memory ran out, so that nothing was taken; it is tried again a little
-    /// later.
+    /// later. It is told so at each try that fails.
     fn shortage(&mut self) {}
+
+    /// Takes word that there is memory again, behind one such try or more.
+    fn relief(&mut self) {}
 }
 
 /// What a viewer wants next.

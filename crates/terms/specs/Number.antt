@@ -12,7 +12,10 @@ u32_at f i = 65536 * u16_at f i + u16_at f (i + 2)
 abbrev pub signed : ℕ → ℤ
 signed n = if nat_lt n (2 ^ 31) then pos n else negsuc (2 ^ 32 - suc n)
 
--- the bytes of a number
+-- the bytes of a number that two bytes hold, and of one that four hold
+abbrev pub u16_bytes : ℕ → List ℕ
+u16_bytes n = n / 256 ∷ n % 256 ∷ []
+
 abbrev pub u32_bytes : ℕ → List ℕ
 u32_bytes n = n / 16777216 ∷ n / 65536 % 256 ∷ n / 256 % 256 ∷ n % 256 ∷ []
 

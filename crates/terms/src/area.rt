@@ -3,6 +3,7 @@
 ghost use Rattle.std.specs.Prelude.{◌≡◌, ◌+◌, ◌<◌, ◌≤◌, ◌&&◌, ◌||◌, nat_lt, min, max, MatchOption};
 ghost use Rattle.terms.specs.Area.{area_bytes, is_in, HasPlaces, HasJustOf, IsSmallest};
 
+use crate::number::two_bytes;
 use crate::screen_size::ScreenSize;
 
 /// A rectangle of places: its upper left corner, its width and its height.
@@ -64,10 +65,10 @@ impl Area {
     pub fn bytes(self) -> [u8; 8]
         ensures { result ≡ area_bytes self }
     {
-        let [x, x_low] = self.x.to_be_bytes();
-        let [y, y_low] = self.y.to_be_bytes();
-        let [w, w_low] = self.w.to_be_bytes();
-        let [h, h_low] = self.h.to_be_bytes();
+        let [x, x_low] = two_bytes(self.x);
+        let [y, y_low] = two_bytes(self.y);
+        let [w, w_low] = two_bytes(self.w);
+        let [h, h_low] = two_bytes(self.h);
         [x, x_low, y, y_low, w, w_low, h, h_low]
     }
 

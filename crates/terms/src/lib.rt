@@ -8,6 +8,7 @@ mod area;
 mod decimal;
 mod format_fault;
 mod front;
+mod number;
 mod screen_size;
 mod wire_fault;
 
@@ -16,6 +17,7 @@ pub use area::Area;
 pub use decimal::decimal_number;
 pub use format_fault::FormatFault;
 pub use front::field;
+pub use number::{four_bytes, read_u16, read_u32, two_bytes};
 pub use screen_size::ScreenSize;
 pub use wire_fault::WireFault;
 

@@ -9,7 +9,7 @@ use crate::handshake::{LENGTH, Stage, greeting, is_whole, stage_of};
 use arrayvec::ArrayVec;
 use pixel_format::PixelFormat;
 use std::alloc::Global;
-use terms::{NoMemory, ScreenSize};
+use terms::{NoMemory, ScreenSize, four_bytes, two_bytes};
 
 /// What a viewer is told of the screen, how far its handshake goes, and how much it was answered.
 #[derive(Drop)]
@@ -29,8 +29,8 @@ fn write_size(size: ScreenSize, out: &mut Vec<u8>) -> Result<(), NoMemory>
     ensures { OnOk result (out.new.items ≡ out.old.items
         ++ (size.width / 256 ∷ size.width % 256 ∷ size.height / 256 ∷ size.height % 256 ∷ [])) }
 {
-    let [wide, width_low] = size.width.to_be_bytes();
-    let [high, height_low] = size.height.to_be_bytes();
+    let [wide, width_low] = two_bytes(size.width);
+    let [high, height_low] = two_bytes(size.height);
     out.extend_from_slice(&[wide, width_low, high, height_low])?;
     Ok(())
 }
@@ -39,8 +39,7 @@ fn write_size(size: ScreenSize, out: &mut Vec<u8>) -> Result<(), NoMemory>
 fn write_length(count: u32, out: &mut Vec<u8>) -> Result<(), NoMemory>
     ensures { OnOk result (out.new.items ≡ out.old.items ++ u32_bytes count) }
 {
-    let [first, second, third, fourth] = count.to_be_bytes();
-    out.extend_from_slice(&[first, second, third, fourth])?;
+    out.extend_from_slice(&four_bytes(count))?;
     Ok(())
 }
 

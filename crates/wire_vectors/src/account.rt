@@ -70,8 +70,23 @@ impl Account {
         self.text.push_str(more)
     }
 
-    /// Adds a number, or bytes as they are spelled, behind a space.
+    /// Adds a number behind a space.
     pub(crate) fn add_number<N: Display + Drop>(&mut self, number: N) -> Result<(), NoMemory> {
         write!(self.text, " {number}")
+    }
+
+    /// Adds bytes in words of hexadecimal digits, 20 bytes each, or one byte and a count where all
+    /// are the same.
+    pub(crate) fn add_bytes(&mut self, bytes: &[u8]) -> Result<(), NoMemory> {
+        if let Some(first) = bytes.first() {
+            if bytes.len() > 16 && bytes.iter().all(|byte| byte == first) {
+                let digits = hex::encode(self.alloc, [*first])?;
+                return write!(self.text, " {digits}*{}", bytes.len());
+            }
+        }
+        for word in bytes.chunks(20) {
+            self.add_number(hex::encode(self.alloc, word)?)?;
+        }
+        Ok(())
     }
 }

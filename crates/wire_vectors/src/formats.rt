@@ -3,7 +3,6 @@
 ghost use Rattle.std.specs.Prelude.{◌≡◌, ◌<◌, length};
 
 use crate::account::{Account, Untold};
-use crate::words::Spelled;
 use pixel_format::{Color, PixelFormat};
 use terms::NoMemory;
 
@@ -41,7 +40,7 @@ fn tell_format(account: &mut Account, format: &PixelFormat, pixel: &[u8]) -> Res
         account.add_number(channel)?;
     }
     account.tell("orange")?;
-    account.add_number(Spelled(put))
+    account.add_bytes(put)
 }
 
 /// Tells what a format of 16 bytes makes of the pixel behind it, or the number of its fault.

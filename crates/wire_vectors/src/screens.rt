@@ -1,8 +1,10 @@
 //! Screens that updates paint.
 
+ghost use Rattle.std.specs.Prelude.{◌≡◌, IfOk};
+
 use crate::account::{Account, Untold};
 use crate::picture::{Places, write_rows};
-use crate::words::{Spelled, bytes};
+use crate::words::bytes;
 use painter::Screen;
 use pixel_format::{Color, Format};
 use rfb_wire::HostMessage;
@@ -21,7 +23,10 @@ impl Places for Screen {
 }
 
 // Paints an update on a screen, if there is one.
-fn paint(alloc: Global, screen: &mut Screen, bytes: &[u8]) -> Result<(), Untold> {
+fn paint(alloc: Global, screen: &mut Screen, bytes: &[u8]) -> Result<(), Untold>
+    ensures width { screen.new.width ≡ screen.old.width }
+    ensures height { screen.new.height ≡ screen.old.height }
+{
     if bytes.is_empty() {
         return Ok(());
     }
@@ -51,8 +56,11 @@ pub(crate) fn run(account: &mut Account, size: ScreenSize, text: &str) -> Result
     Ok(())
 }
 
-// A black screen of this size that an update painted.
-fn painted(alloc: Global, size: ScreenSize, bytes: &[u8]) -> Result<Screen, Untold> {
+/// A black screen of this size that an update painted.
+pub(crate) fn painted(alloc: Global, size: ScreenSize, bytes: &[u8]) -> Result<Screen, Untold>
+    ensures width { IfOk result (λ screen. screen.width ≡ size.width) }
+    ensures height { IfOk result (λ screen. screen.height ≡ size.height) }
+{
     let mut screen = Screen::black(alloc, size)?;
     paint(alloc, &mut screen, bytes)?;
     Ok(screen)
@@ -66,7 +74,7 @@ fn tell_key(account: &mut Account, screen: &Screen) -> Result<(), Untold> {
     }
     let key = screen.key(account.alloc, Format::One)?;
     if painted(account.alloc, size, key.bytes())?.same(screen) {
-        account.add_number(Spelled(key.bytes()))?;
+        account.add_bytes(key.bytes())?;
     } else {
         account.tell("another screen")?;
     }

@@ -2,7 +2,6 @@
 
 use crate::account::Account;
 use crate::readings::Message;
-use crate::words::Spelled;
 use host_session::{HostFault, HostSession};
 use pixel_format::Format;
 use rfb_wire::HostMessage;
@@ -74,11 +73,11 @@ impl Talk {
             account.add_number(size.width)?;
             account.add_number(size.height)?;
             account.tell("name")?;
-            account.add_number(Spelled(self.session.name()))?;
+            account.add_bytes(self.session.name())?;
         }
         if !self.session.reason().is_empty() {
             account.tell("reason")?;
-            account.add_number(Spelled(self.session.reason()))?;
+            account.add_bytes(self.session.reason())?;
         }
         if self.went_on {
             account.tell("and it goes on")?;
@@ -98,7 +97,7 @@ impl Talk {
         let said = self.said.get(length..).unwrap_or_default();
         if !said.is_empty() {
             account.tell_at(number, "says")?;
-            account.add_number(Spelled(said))?;
+            account.add_bytes(said)?;
         }
         if self.messages.len() > count {
             account.tell_at(number, "message")?;

@@ -4,7 +4,7 @@ use crate::account::{Account, Untold};
 use crate::hosts::HostReader;
 use crate::sessions::Awaited;
 use crate::words::{bytes, numbers};
-use crate::{formats, hosts, readings, rectangles, screens, sessions};
+use crate::{formats, hosts, readings, rectangles, screens, served, sessions, updates};
 use client_wire::ClientReader;
 use pixel_format::{Format, RecordedScreen};
 use terms::{Area, NoMemory, ScreenSize};
@@ -21,6 +21,7 @@ pub(crate) fn run(account: &mut Account, vector: &str) -> Result<(), Untold> {
 fn run_text(account: &mut Account, kind: &str, numbers: &[u16], text: &str) -> Result<(), Untold> {
     match (kind, numbers) {
         ("screen", [w, h]) => screens::run(account, size_of(*w, *h), text),
+        ("served", [w, h]) => served::run(account, size_of(*w, *h), text),
         _ => run_bytes(account, kind, numbers, &bytes(account.alloc, text)?),
     }
 }
@@ -38,6 +39,9 @@ fn run_bytes(
     match *numbers {
         [] => run_alone(account, kind, bytes),
         [w, h] => run_of_size(account, kind, size_of(w, h), bytes),
+        [number, w, h] if kind == "written" => {
+            updates::run(account, number, size_of(w, h), bytes)
+        }
         [bits, w, h] => rectangles::run_painted(account, kind, bits, (w, h), bytes),
         [number, width, height, x, y, w, h] => {
             let area = Area { x, y, w, h };

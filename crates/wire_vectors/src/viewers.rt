@@ -2,7 +2,6 @@
 
 use crate::account::Account;
 use crate::readings::{Message, Reader};
-use crate::words::Spelled;
 use client_wire::{ClientMessage, ClientReader, read_client_message};
 use std::alloc::Global;
 use terms::{NoMemory, WireFault};
@@ -67,7 +66,7 @@ impl Message for ClientMessage {
         match self {
             ClientMessage::SetPixelFormat(format) => {
                 account.add("format")?;
-                account.add_number(Spelled(&format.write()))
+                account.add_bytes(&format.write())
             }
             ClientMessage::SetEncodings(encodings) => {
                 describe_encodings(account, encodings.as_slice())

@@ -2,7 +2,6 @@
 
 use crate::account::Untold;
 use std::alloc::Global;
-use std::fmt;
 use terms::NoMemory;
 
 /// The lines of a part of a file that aren't comments, one behind the other.
@@ -67,27 +66,4 @@ pub(crate) fn bytes(alloc: Global, text: &str) -> Result<Vec<u8>, Untold> {
         append_word(alloc, word, &mut bytes)?;
     }
     Ok(bytes)
-}
-
-/// Bytes as they are told: in words of hexadecimal digits, 20 bytes each, or one byte and a count
-/// where all are the same.
-#[derive(Drop)]
-pub(crate) struct Spelled<'a>(pub &'a [u8]);
-
-impl fmt::Display for Spelled<'_> {
-    fn fmt<W: fmt::Write>(&self, f: &mut fmt::Formatter<W>) -> fmt::Result {
-        let Spelled(bytes) = self;
-        if let Some(first) = bytes.first() {
-            if bytes.len() > 16 && bytes.iter().all(|byte| byte == first) {
-                return write!(f, "{first:02x}*{}", bytes.len());
-            }
-        }
-        for (place, byte) in bytes.iter().enumerate() {
-            if place > 0 && place % 20 == 0 {
-                write!(f, " ")?;
-            }
-            write!(f, "{byte:02x}")?;
-        }
-        Ok(())
-    }
 }

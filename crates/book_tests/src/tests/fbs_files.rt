@@ -15,9 +15,10 @@ use std::test::Fail;
 const FILE: [u8; 104] =
     *b"FBS 001.000\n\0\0\0\x29RFB 003.003\n\0\0\0\x01\0\x01\0\x01\x20\x18\0\x01\0\xff\0\xff\0\xff\x10\x08\0\0\0\0\0\0\0\x01x\0\0\0\0\0\0\0\0\0\0\x07\0\0\0\x01\0\0\0\xff\0\0\0\x05\0\0\0\x0d\0\0\x01\0\x01\0\0\0\0\0\0\xff\0\xff\xff\xff\0\0\0\x09";
 
-/// A recording of one place with one message, an update of a red pixel.
-const RECORDING: [u8; 54] =
-    *b"ORFBREC1\0\x01\0\x01\0\x04\0\x01xO\0\0\0\x1d\0\x01\0\0\0\0\0\0\0\0\x14\0\0\0\x01\0\0\0\0\0\x01\0\x01\0\0\0\0\0\0\xff\0C";
+// A recording of six messages, of the four encodings and a Bell, in three blocks, the second and the
+// third with a key screen.
+const RECORDING: [u8; 288] =
+    *b"ORFBREC1\0\x02\0\x01\0\x01\0\x01xO\0\0\0>\0\x02\0\0\0\0\0\0\0\0\x18\0\0\0\x01\0\0\0\0\0\x02\0\x01\0\0\0\0\0\0\xff\0\0\xff\0\0\0\0\0\0\x01\0\0\0\x14\0\0\0\x01\0\x01\0\0\0\x01\0\x01\0\0\0\x01\0\0\0\0O\0\0\0s\0\x03\x01\0\0\0\x01\0\0\0\x18\0\0\0\x01\0\0\0\0\0\x02\0\x01\0\0\0\0\0\0\xff\0\0\0\xff\0\0\0\0\0\x02\0\0\0$\0\0\0\x01\0\0\0\0\0\x02\0\x01\0\0\0\x02\0\0\0\x01\xff\0\0\0\xff\xff\xff\0\0\x01\0\0\0\x01\0\x01\0\0\0\0\x03\0\0\0\x1c\0\0\0\x01\0\0\0\0\0\x02\0\x01\0\0\0\x05\x0e\0\xff\0\0\x80\x80\0\0\x01\x10\0O\0\0\0H\0\x03\x01\0\0\0\x03\0\0\0\x18\0\0\0\x01\0\0\0\0\0\x02\0\x01\0\0\0\0\0\xff\0\0\x80\x80\0\0\0\0\0\0\x04\0\0\0\x01\x02\0\0\0\0\x05\0\0\0\x14\0\0\0\x01\0\0\0\0\0\x01\0\x01\0\0\0\0\xff\xff\xff\0C";
 
 // Gives or takes one byte a call. The call after so many fails, and the next one doesn't.
 #[derive(Drop)]
@@ -99,7 +100,7 @@ fn exported_after(
         given: 0,
         calls,
     };
-    let fault = export(alloc, index, 0, 1, &mut writer).err();
+    let fault = export(alloc, index, 0, 6, &mut writer).err();
     (fault, writer.bytes)
 }
 
@@ -112,9 +113,9 @@ fn each_write_fails_once(rt: HostRuntime) -> Result<(), Fail> {
         Ok(index) => index,
         Err(refused) => Err(refused.fault)?,
     };
-    let (fault, whole) = exported_after(alloc, &mut index, 120);
-    assert!(rt; fault.is_none() && whole.len() == 120);
-    for calls in 0..120 {
+    let (fault, whole) = exported_after(alloc, &mut index, 276);
+    assert!(rt; fault.is_none() && whole.len() == 276);
+    for calls in 0..276 {
         let (fault, written) = exported_after(alloc, &mut index, calls);
         assert!(rt; fault == Some(ExportFault::Write), "after {calls} calls");
         assert!(rt; written.len() == calls && whole.starts_with(&written));

@@ -8,7 +8,6 @@ use disk::Disk;
 use gated_journal::ReadFault;
 use shared_book::{Closed, Mark, Receipt, Ticket};
 use std::process::Abort;
-use std::sync::Wait;
 
 /// An update that paints the one place red.
 const UPDATE: [u8; 20] = [
@@ -16,15 +15,15 @@ const UPDATE: [u8; 20] = [
 ];
 
 // Each receipt is confirmed; a reading that meets a fault is made again. How many messages they have.
-fn confirm<D: Disk, M: Mark, R: Wait + Abort>(
+fn confirm<D: Disk, M: Mark, R: Abort>(
     rt: &R,
     closed: &mut Closed<D, M>,
     receipts: &[Receipt<M>],
 ) -> Result<u64, ReadFault> {
     let mut handed = 0u64;
     for receipt in receipts {
-        let stands = match closed.confirm(rt, receipt) {
-            Err(_) => closed.confirm(rt, receipt)?,
+        let stands = match closed.confirm(receipt) {
+            Err(_) => closed.confirm(receipt)?,
             Ok(stands) => stands,
         };
         assert!(rt; stands);
@@ -34,14 +33,14 @@ fn confirm<D: Disk, M: Mark, R: Wait + Abort>(
 }
 
 // Each ticket is found that is below the closed count, and no other.
-fn find<D: Disk, M: Mark, R: Wait + Abort>(
+fn find<D: Disk, M: Mark, R: Abort>(
     rt: &R,
     closed: &mut Closed<D, M>,
     tickets: &[Ticket<M>],
 ) -> Result<(), ReadFault> {
     for ticket in tickets {
-        let found = match closed.find(rt, ticket) {
-            Err(_) => closed.find(rt, ticket)?,
+        let found = match closed.find(ticket) {
+            Err(_) => closed.find(ticket)?,
             Ok(found) => found,
         };
         assert!(rt; found.is_some() == (ticket.number() < closed.committed()));

@@ -133,8 +133,8 @@ fn a_copy_and_nothing(rt: HostRuntime) -> Result<(), Fail> {
     let host = PixelFormat::host();
     let copy = Part::Copy {
         area: area(1, 0, 2, 1),
-        source_x: 0,
-        source_y: 0,
+        sx: 0,
+        sy: 0,
     };
     let mut out = Vec::new(rt.alloc());
     write_parts(rt.alloc(), &host, &[copy], &mut out)?;

@@ -35,6 +35,8 @@ enum Order {
     Meeting,
     /// The flusher begins once the host has ended and a viewer waits.
     HostFirst,
+    /// The flusher begins once as many messages are accepted as may wait.
+    Backlogged,
     /// The flusher has ended before the host begins.
     NoFlusher,
     /// The device fails once, after so many calls.
@@ -273,8 +275,7 @@ impl<'a, D: Disk, M: Mark, R: Wait + Clock> Workers<'a, D, M, R> {
             (Err(HostRefusal::Broken), Order::FailsAfter(_)) => {
                 gates.failed.fetch_add(4, Ordering::SeqCst);
             }
-            (Err(HostRefusal::Backlog), Order::NoFlusher) => {}
-            (Ok(()), order) if order != Order::NoFlusher => {}
+            (Ok(()), _) => {}
             _ => gates.misses(),
         }
         tickets
@@ -282,6 +283,7 @@ impl<'a, D: Disk, M: Mark, R: Wait + Clock> Workers<'a, D, M, R> {
 
     fn flush(&self) -> Vec<Receipt<M>> {
         let gates = self.gates;
+        gates.hold_until(Order::Backlogged, &gates.accepted, 1_024);
         let mut receipts = Vec::new(self.alloc);
         let kept = Kept {
             gates: &*gates,
@@ -355,7 +357,7 @@ impl<'a, D: Disk + Send, M: Mark + Send + Sync, R: Threads + Wait + Clock + Sync
         requires { IsOfOnePlace M.head }
     {
         match self.gates.order {
-            Order::Free | Order::Meeting | Order::FailsAfter(_) => {
+            Order::Free | Order::Meeting | Order::Backlogged | Order::FailsAfter(_) => {
                 let (committed, tickets) = join(
                     self.rt,
                     move || self.flush(),
@@ -411,7 +413,7 @@ impl<'a, D: Disk + Send, M: Mark + Send + Sync, R: Threads + Wait + Clock + Sync
 
 // All receipts are confirmed, all tickets found, and the recording ended where viewers were told the
 // end. Where memory was ample, so many messages are committed, and handed to each viewer.
-fn settle<D: Disk + Drop, M: Mark, R: Wait + Abort>(
+fn settle<D: Disk + Drop, M: Mark, R: Abort>(
     rt: &R,
     closed: &mut Closed<D, M>,
     told: &mut Told<M>,
@@ -425,14 +427,14 @@ fn settle<D: Disk + Drop, M: Mark, R: Wait + Abort>(
         assert!(rt; due.unwrap_or(handed) == handed);
         match &seen.ending {
             Some(ending) => {
-                closed.ended(rt, ending);
+                closed.ended(ending);
                 assert!(rt; ending.count() == closed.committed());
             }
             None => assert!(rt; due.is_none()),
         }
     }
     if let [.., one, other] = told.tickets.as_mut_slice() {
-        closed.apart(rt, one, other);
+        closed.apart(one, other);
         assert!(rt; one.number() != other.number());
     }
     Ok(())
@@ -445,7 +447,7 @@ fn due_in<R: Clock>(gates: &Gates<R>, count: u64) -> Option<u64> {
         Order::NoFlusher => Some(0),
         // A block is committed by four calls.
         Order::FailsAfter(calls) => (calls < 4).then_some(0),
-        Order::Free | Order::Meeting | Order::HostFirst => Some(count),
+        Order::Free | Order::Meeting | Order::HostFirst | Order::Backlogged => Some(count),
     }
 }
 
@@ -526,14 +528,15 @@ fn shared_by_workers<R: Threads + Wait + Clock + Abort + Sync>(
     Ok(Some(gates.accepted.load(Ordering::SeqCst)))
 }
 
-// The host goes on while a viewer is served; a viewer is told the end behind the last commit; a
-// backlog that stays ends the host.
+// The host goes on while a viewer is served; a viewer is told the end behind the last commit; a host
+// waits at a backlog; viewers are told the end where nothing is committed.
 #[test]
 fn workers_come_in_each_order(rt: HostRuntime) -> Result<(), Fail> {
     for (order, count, viewers, due) in [
         (Order::Meeting, 2, 1, 2),
         (Order::HostFirst, 300, 2, 300),
-        (Order::NoFlusher, 1_030, 1, 1_024),
+        (Order::Backlogged, 1_030, 1, 1_030),
+        (Order::NoFlusher, 3, 1, 3),
     ] {
         let accepted = shared_by_workers(&rt, rt.alloc(), order, count, viewers)?;
         assert!(rt; accepted.unwrap_or(due) == due);

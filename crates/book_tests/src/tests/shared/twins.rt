@@ -6,7 +6,7 @@ ghost use Rattle.book_tests.specs.OnePlace.{IsOfOnePlace};
 
 use super::{UPDATE, confirm, find};
 use crate::{ONE_PLACE, desk_of_one_place};
-use Line::{At, Bell, Body, Gate, Key, Leave, Live, Newest, Next, Seek, Take, Update};
+use Line::{At, Bell, Body, Foreign, Gate, Key, Leave, Live, Newest, Next, Seek, Take, Update};
 use broadcast::{Desk, Seat, Start};
 use disk::{Disk, FailingDisk, MemoryDisk, Switch};
 use gated_journal::ReadFault;
@@ -33,6 +33,9 @@ enum Line {
     Gate,
     Live,
     At(u64),
+    /// A seat of another desk, which stands before all messages there.
+    Foreign,
+    /// Of eight messages at most.
     Next,
     Seek(u64),
     /// At the desk `Seek` to the committed messages' end, and `Next` of none.
@@ -42,9 +45,9 @@ enum Line {
     Key(u64),
 }
 
-/// Seats that read before, between and behind the steps of a commit, and are moved. No slice is of
-/// two blocks: the lock would hand out the first one's messages alone.
-const READING: [&[Line]; 4] = [
+/// Seats that read before, between and behind the steps of a commit, and are moved, one that isn't
+/// held before anything is read back. The last two lines have slices of two blocks.
+const READING: [&[Line]; 5] = [
     &[
         Live,
         Update,
@@ -53,6 +56,10 @@ const READING: [&[Line]; 4] = [
         Body,
         Next,
         Gate,
+        Foreign,
+        Next,
+        Seek(0),
+        Leave,
         Live,
         Next,
         At(1),
@@ -70,9 +77,27 @@ const READING: [&[Line]; 4] = [
         Key(3),
         Leave,
     ],
-    &[At(0), Next, Next, Seek(2), Next, Seek(3), Next, Seek(4)],
+    &[At(0), Seek(3), Next, Next, Seek(4)],
     &[At(4), Live, Next],
+    &[At(0), Next, Next, Seek(1), Next],
 ];
+
+/// A seat that is taken while a block is written, and another behind its commit.
+const SEATS: [&[Line]; 1] = [&[
+    Update,
+    Take,
+    Body,
+    Live,
+    Next,
+    Gate,
+    Next,
+    Leave,
+    At(0),
+    Next,
+    Seek(1),
+    Next,
+    Seek(2),
+]];
 
 /// Behind 300 bells: the second block begins with a key screen.
 const KEYS: [&[Line]; 1] = [&[Take, Body, Gate, Take, Body, Gate, Key(255), Key(1_000)]];
@@ -135,6 +160,12 @@ fn join<D: Disk, M: Mark, R: Wait>(
     }
 }
 
+// A seat of another desk of this kind.
+fn foreign(alloc: Global) -> Option<Seat> {
+    let mut desk = desk_of_one_place(alloc, MemoryDisk::new(alloc))?;
+    desk.join(Start::Live).ok()
+}
+
 // Whether both hand out the same, or refuse it for the same.
 fn hand_out<M: Mark, E: PartialEq + Drop>(
     receipts: &mut Vec<Receipt<M>>,
@@ -172,10 +203,14 @@ fn both<D: Disk, M: Mark, R: Wait>(
         Gate => hand_out(&mut kept.receipts, desk.gate(), shared.gate(rt)),
         Live => join(rt, desk, shared, &mut kept.seats, Start::Live),
         At(n) => join(rt, desk, shared, &mut kept.seats, Start::At(n)),
+        Foreign => {
+            kept.seats.push((foreign(alloc)?, foreign(alloc)?)).ok()?;
+            Some(true)
+        }
         Next => {
             let (seat, twin) = kept.seats.last_mut()?;
-            let answer = desk.next(seat, 2);
-            hand_out(&mut kept.receipts, answer, shared.next(rt, twin, 2))
+            let answer = desk.next(seat, 8);
+            hand_out(&mut kept.receipts, answer, shared.next(rt, twin, 8))
         }
         Seek(n) => {
             let (seat, twin) = kept.seats.last_mut()?;
@@ -218,7 +253,7 @@ fn run_lines<D: Disk, M: Mark, R: Wait + Abort>(
 }
 
 // All receipts are confirmed, and all tickets found that are below the closed count.
-fn confirm_all<D: Disk, M: Mark, R: Wait + Abort>(
+fn confirm_all<D: Disk, M: Mark, R: Abort>(
     rt: &R,
     closed: &mut Closed<D, M>,
     kept: &Kept<M>,
@@ -287,6 +322,7 @@ fn a_call_through_the_lock_answers_as_the_desk(rt: HostRuntime) -> Result<(), Fa
     let alloc = rt.alloc();
     for (count, line, then) in [
         (0, Bell, &READING[..]),
+        (0, Bell, &SEATS),
         (300, Bell, &KEYS),
         (1_025, Bell, &ROOM),
         (65, Live, &[]),

@@ -8,5 +8,5 @@ returns-in_default c = text_short c.args.bytes.now c.in_default.ensures.reads
 
 pub returns : goal.returns
 returns c =
-    let count : u32_at c.in-Some.head.now 3 ≡ c.from_be_bytes-length.result = search rules in
-    rw (text_read c.args.bytes.now c.in-Some.head.now c.in-Some.text.now c.from_be_bytes-length.result c.in-Some.ensures.reads count) c.input.ensures
+    let count : u32_at c.in-Some.head.now 3 ≡ c.read_u32-length.result = search rules in
+    rw (text_read c.args.bytes.now c.in-Some.head.now c.in-Some.text.now c.read_u32-length.result c.in-Some.ensures.reads count) c.input.ensures

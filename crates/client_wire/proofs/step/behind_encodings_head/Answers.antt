@@ -8,7 +8,7 @@ use Rattle.client_wire.proofs.step.behind_encodings_head.Goals as goal
 
 pub returns-then-count-eq0-clause-goes : goal.returns-then-count-eq0-clause-goes
 returns-then-count-eq0-clause-goes c = λ more.
-    let count : u16_at c.args.field.now 1 ≡ c.from_be_bytes-count.result = search rules in
+    let count : u16_at c.args.field.now 1 ≡ c.read_u16-count.result = search rules in
     let none : c.from_vec-none.result ≡ [] = c.from_vec-none.ensures ∙ c.new.ensures.items in
     head_goes c.args.field.now more 0 c.requires (count ∙ c.if-count-eq0.true) ∙ no_encodings more
     ∙ ap (λ n. Got (messages.SetEncodings n) more) (sym none)
@@ -16,5 +16,5 @@ returns-then-count-eq0-clause-goes c = λ more.
 pub returns-clause-goes : goal.returns-clause-goes
 unfolding resume
 returns-clause-goes c = λ more.
-    let count : u16_at c.args.field.now 1 ≡ c.from_be_bytes-count.result = search rules in
-    head_goes c.args.field.now more c.from_be_bytes-count.result c.requires count
+    let count : u16_at c.args.field.now 1 ≡ c.read_u16-count.result = search rules in
+    head_goes c.args.field.now more c.read_u16-count.result c.requires count

@@ -5,10 +5,10 @@ use Rattle.client_wire.proofs.step.behind_text_head.Goals as goal
 
 pub returns-then-length-eq0-clause-goes : goal.returns-then-length-eq0-clause-goes
 returns-then-length-eq0-clause-goes c = λ more.
-    let count : u32_at c.args.field.now 3 ≡ c.from_be_bytes-length.result = search rules in
+    let count : u32_at c.args.field.now 3 ≡ c.read_u32-length.result = search rules in
     text_goes c.args.field.now more 0 c.requires (count ∙ c.if-length-eq0.true) ∙ no_text more
 
 pub returns-clause-goes : goal.returns-clause-goes
 returns-clause-goes c = λ more.
-    let count : u32_at c.args.field.now 3 ≡ c.from_be_bytes-length.result = search rules in
-    rw c.new.ensures (text_goes c.args.field.now more c.from_be_bytes-length.result c.requires count)
+    let count : u32_at c.args.field.now 3 ≡ c.read_u32-length.result = search rules in
+    rw c.new.ensures (text_goes c.args.field.now more c.read_u32-length.result c.requires count)

@@ -1,8 +1,7 @@
 use Rattle.std.proofs.Common.{◌≡◌, ap, ◌∙◌, length}
 use Rattle.pixel_format.specs.Format.{host_format}
 use Rattle.pixel_format.specs.Written.{format_bytes}
-use Rattle.terms.specs.Number.{u32_bytes}
-use Rattle.rfb_wire.specs.Written.{two_bytes}
+use Rattle.terms.specs.Number.{u16_bytes, u32_bytes}
 use Rattle.fbs_export.specs.Opening.{version}
 use Rattle.fbs_export.specs.Export.{opening_text}
 use Rattle.fbs_export.proofs.Texts.{seven_parts}
@@ -24,15 +23,15 @@ returns g c =
       c.in_ok-extend_from_slice-3.ensures.items,
       c.in_ok-extend_from_slice-2.ensures.items,
       c.in_ok-extend_from_slice.ensures.items,
-      c.four_bytes.ensures,
-      c.two_bytes.ensures,
-      c.two_bytes-2.ensures,
+      c.four_bytes.ensures.value,
+      c.two_bytes.ensures.value,
+      c.two_bytes-2.ensures.value,
       c.write.ensures.bytes,
       c.host.ensures,
-      c.four_bytes-2.ensures,
+      c.four_bytes-2.ensures.value,
       wide,
       high,
       name,
       c.header.ensures,
     )
-    (seven_parts c.args.out.now.items version (u32_bytes 1) (two_bytes h.width) (two_bytes h.height) (format_bytes host_format) (u32_bytes (length h.name)) h.name)
+    (seven_parts c.args.out.now.items version (u32_bytes 1) (u16_bytes h.width) (u16_bytes h.height) (format_bytes host_format) (u32_bytes (length h.name)) h.name)

@@ -13,7 +13,7 @@ loop-y-init c =
     let wide = ap (λ (s : ScreenSize). s.width) c.size-size.ensures in
     let high = ap (λ (s : ScreenSize). s.height) c.size-size.ensures in
     let head : List ℕ = raw_head (record { x = 0; y = 0; w = s.width; h = s.height }) in
-    let mid : c.extend_from_slice.new.self.items ≡ c.args.out.now.items ++ head = c.in_ok-extend_from_slice.ensures.items ∙ rw (wide, high) refl in
+    let mid : c.write_update_head.new.out.items ≡ c.args.out.now.items ++ head = c.in_ok-write_update_head.ensures.ok ∙ rw (c.number.ensures, wide, high) refl in
     let all : s.height - 0 ≡ s.height = omega arith in
     rw (mid, all) (append_assoc c.args.out.now.items head (rows_text (color_at s) s.width 0 s.height))
 

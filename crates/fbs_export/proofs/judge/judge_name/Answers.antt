@@ -14,5 +14,5 @@ pub returns : goal.returns
 unfolding name_at
 returns c =
     let bytes = c.args.bytes.now in
-    let count : u32_at (take 4 bytes) 0 ≡ c.from_be_bytes-count.result = rw (← c.split_at.ensures.front) (omega (arith, c.from_be_bytes-count.ensures)) in
+    let count : u32_at (take 4 bytes) 0 ≡ c.read_u32-count.result = rw (← c.split_at.ensures.front) (omega (arith, c.read_u32-count.ensures)) in
     (c.if-bytes-lt4.false, λ more. part_whole 4 bytes more (λ count rest. named c.args.size.width c.args.size.height (u32_at count 0) rest) c.if-bytes-lt4.false ∙ rw count refl)

@@ -17,17 +17,17 @@ returns-then-bytes-lt4 c =
     let short = c.if-bytes-lt4.true in
     (part_short 4 c.args.bytes.now next short, omega (arith, short))
 
-pub returns-then-from_be_bytes-ne-NONE : goal.returns-then-from_be_bytes-ne-NONE
+pub returns-then-read_u32-ne-NONE : goal.returns-then-read_u32-ne-NONE
 unfolding security_then next
-returns-then-from_be_bytes-ne-NONE c = λ more.
-    let not : nat_eq (u32_at (take 4 c.args.bytes.now) 0) 1 ≡ false = rw (← c.split_at.ensures.front) (ne_eqb _ _ (λ e. c.if-from_be_bytes-ne-NONE.true (omega (arith, e, c.from_be_bytes.ensures)))) in
+returns-then-read_u32-ne-NONE c = λ more.
+    let not : nat_eq (u32_at (take 4 c.args.bytes.now) 0) 1 ≡ false = rw (← c.split_at.ensures.front) (ne_eqb _ _ (λ e. c.if-read_u32-ne-NONE.true (omega (arith, e, c.read_u32.ensures)))) in
     part_whole 4 c.args.bytes.now more next c.if-bytes-lt4.false ∙ rw not refl
 
 pub returns : goal.returns
 unfolding security_then next
 returns c =
     let bytes = c.args.bytes.now in
-    let is : u32_at (take 4 bytes) 0 ≡ 1 = rw (← c.split_at.ensures.front) (omega (arith, c.from_be_bytes.ensures, c.if-from_be_bytes-ne-NONE.false)) in
+    let is : u32_at (take 4 bytes) 0 ≡ 1 = rw (← c.split_at.ensures.front) (omega (arith, c.read_u32.ensures, c.if-read_u32-ne-NONE.false)) in
     let enough = c.if-bytes-lt4.false in
     judged_behind security_then size_then 4 24 28 bytes c.judge_size.result
     (λ more. part_whole 4 bytes more next enough ∙ rw is refl)

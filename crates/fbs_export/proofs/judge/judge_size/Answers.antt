@@ -21,19 +21,19 @@ returns-then-bytes-lt4 c =
 pub returns-then-not-allow : goal.returns-then-not-allow
 unfolding size_then next
 returns-then-not-allow c = λ more.
-    let wide : u16_at (take 4 c.args.bytes.now) 0 ≡ c.from_be_bytes.result = rw (← c.split_at.ensures.front) (omega (arith, c.from_be_bytes.ensures)) in
-    let high : u16_at (take 4 c.args.bytes.now) 2 ≡ c.from_be_bytes-2.result = rw (← c.split_at.ensures.front) (omega (arith, c.from_be_bytes-2.ensures)) in
-    let not : is_size (limits Two) c.from_be_bytes.result c.from_be_bytes-2.result ≡ false = search rules in
+    let wide : u16_at (take 4 c.args.bytes.now) 0 ≡ c.read_u16.result = rw (← c.split_at.ensures.front) (omega (arith, c.read_u16.ensures)) in
+    let high : u16_at (take 4 c.args.bytes.now) 2 ≡ c.read_u16-2.result = rw (← c.split_at.ensures.front) (omega (arith, c.read_u16-2.ensures)) in
+    let not : is_size (limits Two) c.read_u16.result c.read_u16-2.result ≡ false = search rules in
     part_whole 4 c.args.bytes.now more next c.if-bytes-lt4.false ∙ rw (wide, high, not) refl
 
 pub returns : goal.returns
 unfolding size_then next
 returns c =
     let bytes = c.args.bytes.now in
-    let wide : u16_at (take 4 c.args.bytes.now) 0 ≡ c.from_be_bytes.result = rw (← c.split_at.ensures.front) (omega (arith, c.from_be_bytes.ensures)) in
-    let high : u16_at (take 4 c.args.bytes.now) 2 ≡ c.from_be_bytes-2.result = rw (← c.split_at.ensures.front) (omega (arith, c.from_be_bytes-2.ensures)) in
-    let is : is_size (limits Two) c.from_be_bytes.result c.from_be_bytes-2.result ≡ true = search rules in
+    let wide : u16_at (take 4 c.args.bytes.now) 0 ≡ c.read_u16.result = rw (← c.split_at.ensures.front) (omega (arith, c.read_u16.ensures)) in
+    let high : u16_at (take 4 c.args.bytes.now) 2 ≡ c.read_u16-2.result = rw (← c.split_at.ensures.front) (omega (arith, c.read_u16-2.ensures)) in
+    let is : is_size (limits Two) c.read_u16.result c.read_u16-2.result ≡ true = search rules in
     let enough = c.if-bytes-lt4.false in
-    judged_behind size_then (format_then c.from_be_bytes.result c.from_be_bytes-2.result) 4 20 24 bytes c.judge_format.result
+    judged_behind size_then (format_then c.read_u16.result c.read_u16-2.result) 4 20 24 bytes c.judge_format.result
     (λ more. part_whole 4 bytes more next enough ∙ rw (wide, high, is) refl)
     enough refl (rw (← c.split_at.ensures.back) c.judge_format.ensures)

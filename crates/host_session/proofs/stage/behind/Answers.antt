@@ -15,12 +15,12 @@ pub returns-in-ReasonLength-clause-goes : goal.returns-in-ReasonLength-clause-go
 returns-in-ReasonLength-clause-goes c = λ more.
     let f : List ℕ = c.args.field.now in
     let whole : length f ≡ 4 = c.requires ∙ ap wants_of c.in-ReasonLength.is in
-    let there = length_goes c.args.expected f more c.number_at.result whole (sym c.number_at.ensures) in
+    let there = length_goes c.args.expected f more c.read_u32.result whole (sym c.read_u32.ensures) in
     ap (λ s. resume c.args.expected s (f ++ more)) c.in-ReasonLength.is ∙ rw c.next.ensures there
 
 pub returns-in-Head-clause-goes : goal.returns-in-Head-clause-goes
 returns-in-Head-clause-goes c = λ more.
     let f : List ℕ = c.args.field.now in
     let whole : length f ≡ 20 = c.requires ∙ ap wants_of c.in-Head.is in
-    let there = head_goes c.args.expected f more c.in-Head.size c.number_at-in-Head.result whole (sym c.number_at-in-Head.ensures) in
+    let there = head_goes c.args.expected f more c.in-Head.size c.read_u32-in-Head.result whole (sym c.read_u32-in-Head.ensures) in
     ap (λ s. resume c.args.expected s (f ++ more)) c.in-Head.is ∙ rw c.next-in-Head.ensures there

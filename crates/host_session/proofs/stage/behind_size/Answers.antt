@@ -7,8 +7,8 @@ use Rattle.host_session.proofs.stage.behind_size.Goals as goal
 
 pub returns-then-not-allow-clause-faults : goal.returns-then-not-allow-clause-faults
 returns-then-not-allow-clause-faults c = λ more.
-    let w : ℕ = c.from_be_bytes.result in
-    let h : ℕ = c.from_be_bytes-2.result in
+    let w : ℕ = c.read_u16.result in
+    let h : ℕ = c.read_u16-2.result in
     let w-is : u16_at c.args.field.now 0 ≡ w = search rules in
     let h-is : u16_at c.args.field.now 2 ≡ h = search rules in
     let no : is_size (limits c.args.expected.format) w h ≡ false = search rules in
@@ -16,8 +16,8 @@ returns-then-not-allow-clause-faults c = λ more.
 
 pub returns-then-not-expects-clause-faults : goal.returns-then-not-expects-clause-faults
 returns-then-not-expects-clause-faults c = λ more.
-    let w : ℕ = c.from_be_bytes.result in
-    let h : ℕ = c.from_be_bytes-2.result in
+    let w : ℕ = c.read_u16.result in
+    let h : ℕ = c.read_u16-2.result in
     let w-is : u16_at c.args.field.now 0 ≡ w = search rules in
     let h-is : u16_at c.args.field.now 2 ≡ h = search rules in
     let yes : is_size (limits c.args.expected.format) w h ≡ true = search rules in
@@ -26,8 +26,8 @@ returns-then-not-expects-clause-faults c = λ more.
 
 pub returns-clause-goes : goal.returns-clause-goes
 returns-clause-goes c = λ more.
-    let w : ℕ = c.from_be_bytes.result in
-    let h : ℕ = c.from_be_bytes-2.result in
+    let w : ℕ = c.read_u16.result in
+    let h : ℕ = c.read_u16-2.result in
     let w-is : u16_at c.args.field.now 0 ≡ w = search rules in
     let h-is : u16_at c.args.field.now 2 ≡ h = search rules in
     let yes : is_size (limits c.args.expected.format) w h ≡ true = search rules in

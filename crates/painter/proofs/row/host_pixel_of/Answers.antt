@@ -6,4 +6,4 @@ use Rattle.painter.proofs.row.host_pixel_of.Goals as goal
 
 pub returns : goal.returns
 returns c =
-    ap color_of_number (and_mask c.from_le_bytes.result 24) ∙ number_color c.args.bytes c.from_le_bytes.result c.requires c.from_le_bytes.ensures
+    ap color_of_number (and_mask c.read_u32.result 24) ∙ number_color c.args.bytes c.read_u32.result c.requires c.read_u32.ensures

@@ -10,15 +10,15 @@ returns-in_err-head c =
 
 pub returns-in_err-rest : goal.returns-in_err-rest
 returns-in_err-rest c =
-    let count : u16_at c.in_ok-head.head.now 3 ≡ c.from_be_bytes-count.result = search rules in
+    let count : u16_at c.in_ok-head.head.now 3 ≡ c.read_u16-count.result = search rules in
     let head = c.in_ok-head.ensures in
     let short = c.in_err-rest.ensures in
     rw c.from_residual-in_err-rest.ensures
-    (map_short c.from_be_bytes-count.result c.args.bytes.now c.in_ok-head.head.now c.in_ok-head.colors.now head.reads count short.reads)
+    (map_short c.read_u16-count.result c.args.bytes.now c.in_ok-head.head.now c.in_ok-head.colors.now head.reads count short.reads)
 
 pub returns : goal.returns
 returns c =
-    let count : u16_at c.in_ok-head.head.now 3 ≡ c.from_be_bytes-count.result = search rules in
+    let count : u16_at c.in_ok-head.head.now 3 ≡ c.read_u16-count.result = search rules in
     let head = c.in_ok-head.ensures in
     let whole = c.in_ok-rest.ensures in
-    map_whole c.from_be_bytes-count.result c.args.bytes.now c.in_ok-head.head.now c.in_ok-head.colors.now c.in_ok-rest.field-0-0.now c.in_ok-rest.rest.now head.reads count whole.reads
+    map_whole c.read_u16-count.result c.args.bytes.now c.in_ok-head.head.now c.in_ok-head.colors.now c.in_ok-rest.field-0-0.now c.in_ok-rest.rest.now head.reads count whole.reads

@@ -12,15 +12,15 @@ returns-in_err-head c =
 
 pub returns-in_err-rest : goal.returns-in_err-rest
 returns-in_err-rest c =
-    let count : u32_at c.in_ok-head.head.now 3 ≡ c.from_be_bytes-count.result = search rules in
+    let count : u32_at c.in_ok-head.head.now 3 ≡ c.read_u32-count.result = search rules in
     let head = c.in_ok-head.ensures in
     let short = c.in_err-rest.ensures in
     rw c.from_residual-in_err-rest.ensures
-    (text_short c.from_be_bytes-count.result c.args.bytes.now c.in_ok-head.head.now c.in_ok-head.body.now head.reads count short.reads)
+    (text_short c.read_u32-count.result c.args.bytes.now c.in_ok-head.head.now c.in_ok-head.body.now head.reads count short.reads)
 
 pub returns : goal.returns
 returns c =
-    let n = c.from_be_bytes-count.result in
+    let n = c.read_u32-count.result in
     let count : u32_at c.in_ok-head.head.now 3 ≡ n = search rules in
     let head = c.in_ok-head.ensures in
     let whole = c.in_ok-rest.ensures in

@@ -12,7 +12,7 @@ returns-in_default-field c = head_short c.args.size.width c.args.size.height c.a
 
 pub returns : goal.returns
 returns c =
-    let count : u16_at c.in-Some-field.numbers.now 1 ≡ c.from_be_bytes-count.result = search rules in
-    rw (head_read c.args.size.width c.args.size.height c.from_be_bytes-count.result c.args.bytes.now _ c.in-Some.head.now c.in-Some-field.numbers.now c.in-Some-field.body.now
+    let count : u16_at c.in-Some-field.numbers.now 1 ≡ c.read_u16-count.result = search rules in
+    rw (head_read c.args.size.width c.args.size.height c.read_u16-count.result c.args.bytes.now _ c.in-Some.head.now c.in-Some-field.numbers.now c.in-Some-field.body.now
     c.in-Some.ensures.reads c.in-Some-field.ensures.reads count)
-    (says_recorded (λ x. x.0.items) (λ x. x.1.now) c.rectangles.result (rectangles_at c.args.size.width c.args.size.height c.from_be_bytes-count.result 4 c.in-Some-field.body.now) c.rectangles.ensures)
+    (says_recorded (λ x. x.0.items) (λ x. x.1.now) c.rectangles.result (rectangles_at c.args.size.width c.args.size.height c.read_u16-count.result 4 c.in-Some-field.body.now) c.rectangles.ensures)

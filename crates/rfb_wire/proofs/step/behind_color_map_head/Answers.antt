@@ -8,7 +8,7 @@ use Rattle.rfb_wire.proofs.step.behind_color_map_head.Goals as goal
 pub returns-clause-goes : goal.returns-clause-goes
 unfolding go_on
 returns-clause-goes c = λ width height more.
-    let count : u16_at c.args.field.now 3 ≡ c.from_be_bytes-count.result = search rules in
+    let count : u16_at c.args.field.now 3 ≡ c.read_u16-count.result = search rules in
     head_of_color_map width height c.args.field.now more c.requires
     ∙ ap (λ n. read_over (6 * n) more) count
-    ∙ sym (behind_nil (read_over (6 * c.from_be_bytes-count.result) more))
+    ∙ sym (behind_nil (read_over (6 * c.read_u16-count.result) more))

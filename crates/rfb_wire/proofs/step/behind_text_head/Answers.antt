@@ -8,7 +8,7 @@ use Rattle.rfb_wire.proofs.step.behind_text_head.Goals as goal
 
 pub returns-clause-goes : goal.returns-clause-goes
 returns-clause-goes c = λ width height more.
-    let count : u32_at c.args.field.now 3 ≡ c.from_be_bytes-count.result = search rules in
+    let count : u32_at c.args.field.now 3 ≡ c.read_u32-count.result = search rules in
     head_of_text width height c.args.field.now more c.requires
     ∙ ap (λ n. if nat_lt text_limit n then read_over n more else text_data_at n more) count
     ∙ sym (c.next_text.ensures.goes width height more)

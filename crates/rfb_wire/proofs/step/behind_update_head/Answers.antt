@@ -6,7 +6,7 @@ use Rattle.rfb_wire.proofs.step.behind_update_head.Goals as goal
 
 pub returns-clause-goes : goal.returns-clause-goes
 returns-clause-goes c = λ width height more.
-    let count : u16_at c.args.field.now 1 ≡ c.from_be_bytes.result = search rules in
+    let count : u16_at c.args.field.now 1 ≡ c.read_u16.result = search rules in
     head_of_update width height c.args.field.now more c.requires
     ∙ ap (λ n. others_at width height n 4 more) count
     ∙ sym (c.next_header.ensures.goes width height more)

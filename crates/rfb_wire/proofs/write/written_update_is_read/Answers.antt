@@ -5,13 +5,14 @@ use Rattle.rect_data.specs.Grammar.{is_inside}
 use Rattle.rect_data.proofs.Content.{inside_within}
 use Rattle.rfb_wire.specs.Grammar.{area_of, encoding_number}
 use Rattle.rfb_wire.specs.Message.{IsUpdate, IsRectangle}
-use Rattle.rfb_wire.specs.Written.{two_bytes, raw_update_bytes, raw_rectangle}
+use Rattle.rfb_wire.specs.Written.{raw_update_bytes, raw_rectangle}
+use Rattle.terms.specs.Number.{u16_bytes}
 use Rattle.rfb_wire.proofs.Messages.{message_is_read}
 use Rattle.rfb_wire.proofs.write.written_update_is_read.Goals as goal
 
 -- the header of the rectangle
 abbrev header_of : Area → List ℕ
-header_of a = two_bytes a.x ++ two_bytes a.y ++ two_bytes a.w ++ two_bytes a.h ++ 0 ∷ 0 ∷ 0 ∷ 0 ∷ []
+header_of a = u16_bytes a.x ++ u16_bytes a.y ++ u16_bytes a.w ++ u16_bytes a.h ++ 0 ∷ 0 ∷ 0 ∷ 0 ∷ []
 
 number : (n : ℕ) → n ≡ 256 * (n / 256) + n % 256
 number n = omega arith

@@ -72,12 +72,17 @@ fn each_message_is_shown(rt: HostRuntime) -> Result<(), Fail> {
     Ok(())
 }
 
-// The file is cut off before a viewer has a seat: it is closed.
-fn sees_nothing(rt: &HostRuntime, place: Place, file: &str) -> Result<(), Fail> {
+// The file is cut off before a viewer has a seat: it is shown where it begins, and closed once a
+// message is to be read for it.
+fn sees_the_beginning(rt: &HostRuntime, place: Place, file: &str) -> Result<(), Fail> {
+    let alloc = rt.alloc();
     let first = silent_viewer(rt, place)?;
-    first.hear(rt.alloc(), b"RFB 003.008\n")?; // the recording is open
+    first.hear(alloc, b"RFB 003.008\n")?; // the recording is open
     OpenOptions::new().write(true).open(rt, file)?.set_len(0)?;
-    viewer(rt, place)?.ends()
+    let viewer = viewer(rt, place)?;
+    viewer.talk(alloc, &ALL, &BLACK)?;
+    viewer.say(&CHANGES)?;
+    viewer.ends()
 }
 
 #[test]
@@ -87,7 +92,7 @@ fn a_viewer_is_closed_where_a_read_fails(rt: HostRuntime) -> Result<(), Fail> {
     fs::write(rt, file, RECORDING.as_slice())?;
     let plan = plan_of(file, None, Audience::Count(1), Origin::Count(0));
     let (viewers, place) = listener(rt)?;
-    let said = serve_while!(rt, &plan, viewers, move || sees_nothing(rt, place, file))?;
+    let said = serve_while!(rt, &plan, viewers, move || sees_the_beginning(rt, place, file))?;
     let refused = "false serving\nrecorderd: serve refused journal 3\n";
     assert!(rt; said.as_str() == refused, "{said}");
     fs::remove_file(rt, file)?;

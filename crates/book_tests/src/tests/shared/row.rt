@@ -1,0 +1,107 @@
+//! Where seats begin, and with which screen, with the values worked by hand.
+
+ghost use Rattle.std.specs.Prelude.{◌≡◌};
+ghost use Rattle.flusher_core.specs.State.{accepted_count};
+ghost use Rattle.book_tests.specs.OnePlace.{IsOfOnePlace};
+
+use super::UPDATE;
+use crate::{ONE_PLACE, desk_of_one_place};
+use broadcast::{Desk, Start};
+use disk::{Disk, MemoryDisk};
+use pixel_format::Color;
+use rfb_wire::HostMessage;
+use shared_book::{Mark, Shared, Token};
+use std::alloc::Global;
+use std::marker::Brand;
+use std::process::Abort;
+use std::sync::Wait;
+use std::test::Fail;
+
+const BLACK: Color = Color { r: 0, g: 0, b: 0 };
+
+const RED: Color = Color { r: 255, g: 0, b: 0 };
+
+/// What a new seat is handed: where it stands, the colour of the screen there, and how many messages,
+/// each the update.
+#[derive(Clone, Copy, PartialEq, Eq)]
+struct Begun {
+    position: u64,
+    start: Color,
+    updates: usize,
+}
+
+// Records the update; none where that is refused.
+fn record<D: Disk, M: Mark, R: Wait>(rt: &R, alloc: Global, shared: &Shared<D, M>) -> Option<()>
+    requires { IsOfOnePlace M.head }
+{
+    let message = HostMessage::from_bytes(alloc, ONE_PLACE, &UPDATE).ok()?;
+    shared.host(rt, 0, message).ok()?;
+    shared.take(rt).ok()?;
+    shared.body(rt).ok()?;
+    shared.gate(rt).ok()?;
+    Some(())
+}
+
+// Takes a seat, and what it is handed first; none where that is refused, has no screen, or has
+// another message than the update.
+fn begin<D: Disk, M: Mark, R: Wait>(rt: &R, shared: &Shared<D, M>, start: Start) -> Option<Begun>
+    requires { IsOfOnePlace M.head }
+{
+    let mut seat = shared.join(rt, start).ok()?;
+    let position = seat.position();
+    let receipt = shared.next(rt, &mut seat, 8).ok()?;
+    let slice = receipt.slice();
+    for stamped in &slice.messages {
+        if stamped.message.bytes() != UPDATE.as_slice() {
+            return None;
+        }
+    }
+    Some(Begun {
+        position,
+        start: slice.start.as_ref()?.color(0, 0),
+        updates: slice.messages.len(),
+    })
+}
+
+fn begin_all<D: Disk + Drop, M: Mark, R: Wait + Abort>(
+    rt: &R,
+    alloc: Global,
+    token: Token,
+    desk: Box<Desk<D>>,
+)
+    requires head { desk.value.head ≡ M.head }
+    requires modelled { (D.is_modelled → M.is_modelled) × (M.is_modelled → D.is_modelled) }
+    requires first { accepted_count desk.value.state.book ≡ M.first }
+    requires names { token ≡ M.names }
+    requires sized { IsOfOnePlace M.head }
+{
+    let shared = Shared::<D, M>::new(rt, token, desk);
+    assert!(rt; record(rt, alloc, &shared).is_some());
+    for (start, position, color, updates) in [
+        (Start::Live, 1, RED, 0),
+        (Start::At(0), 0, BLACK, 1),
+    ] {
+        let due = Begun {
+            position,
+            start: color,
+            updates,
+        };
+        assert!(rt; begin(rt, &shared, start) == Some(due));
+    }
+    assert!(rt; record(rt, alloc, &shared).is_some());
+    let due = Begun {
+        position: 2,
+        start: RED,
+        updates: 0,
+    };
+    assert!(rt; begin(rt, &shared, Start::Live) == Some(due));
+}
+
+#[test]
+fn a_seat_begins_with_the_screen_there(rt: HostRuntime) -> Result<(), Fail> {
+    let alloc = rt.alloc();
+    let desk = desk_of_one_place(alloc, MemoryDisk::new(alloc)).ok_or("no desk")?;
+    let token = Token::new(alloc)?;
+    begin_all::<MemoryDisk, Brand, _>(&rt, alloc, token, desk);
+    Ok(())
+}

@@ -1,0 +1,116 @@
+//! What a viewer is served.
+
+ghost use Rattle.std.specs.Prelude.{◌≡◌, IfOk};
+
+use crate::account::{Account, Untold};
+use crate::screens::painted;
+use crate::words::bytes;
+use key_index::Stamped;
+use painter::Screen;
+use replay::Slice;
+use rfb_wire::HostMessage;
+use std::alloc::Global;
+use terms::{NoMemory, ScreenSize};
+use viewer_session::Session;
+
+// A session that begins with a screen. It is boxed, so that a function that ends early doesn't take
+// it apart.
+fn started(alloc: Global, size: ScreenSize, start: Screen) -> Result<Box<Session>, NoMemory>
+    requires width { start.width ≡ size.width }
+    requires height { start.height ≡ size.height }
+    ensures width { IfOk result (λ s. s.value.view.screen.width ≡ size.width) }
+    ensures height { IfOk result (λ s. s.value.view.screen.height ≡ size.height) }
+{
+    let mut session = Box::new(alloc, Session::new(alloc, size, b"r")?)?;
+    session.advance(&Slice {
+        first: 1,
+        start: Some(start),
+        messages: Vec::new(alloc),
+    });
+    Ok(session)
+}
+
+// Goes on by an update of the recording.
+fn go_on(
+    alloc: Global,
+    session: &mut Session,
+    size: ScreenSize,
+    update: &[u8],
+) -> Result<(), Untold>
+    requires width { session.old.view.screen.width ≡ size.width }
+    requires height { session.old.view.screen.height ≡ size.height }
+    ensures width { session.new.view.screen.width ≡ size.width }
+    ensures height { session.new.view.screen.height ≡ size.height }
+{
+    let first = session.position();
+    let Ok(message) = HostMessage::from_bytes(alloc, size, update) else {
+        return Err(Untold::NoVector);
+    };
+    if first > 1_000_000 {
+        return Err(Untold::NoVector);
+    }
+    let messages = Vec::from_array(alloc, [Stamped { time: 0, message }])?;
+    session.advance(&Slice {
+        first,
+        start: None,
+        messages,
+    });
+    Ok(())
+}
+
+// Takes a part of a vector, an update behind a plus or a piece of the viewer's stream, and tells what
+// is put out then.
+fn take_part(
+    account: &mut Account,
+    session: &mut Session,
+    size: ScreenSize,
+    number: usize,
+    part: &str,
+) -> Result<(), Untold>
+    requires width { session.old.view.screen.width ≡ size.width }
+    requires height { session.old.view.screen.height ≡ size.height }
+    ensures width { session.new.view.screen.width ≡ size.width }
+    ensures height { session.new.view.screen.height ≡ size.height }
+{
+    let update = part.trim().strip_prefix("+");
+    let told = bytes(account.alloc, update.unwrap_or(part))?;
+    if update.is_some() {
+        go_on(account.alloc, session, size, &told)?;
+    } else if let Err(fault) = session.feed(&told) {
+        account.tell_at(number, "fault")?;
+        account.add_number(fault.number())?;
+    }
+    let mut out = Vec::new(account.alloc);
+    session.answer(&mut out)?;
+    if !out.is_empty() {
+        account.tell_at(number, "says")?;
+        account.add_bytes(&out)?;
+    }
+    Ok(())
+}
+
+fn take_parts(
+    account: &mut Account,
+    session: &mut Session,
+    size: ScreenSize,
+    parts: &str,
+) -> Result<(), Untold>
+    requires width { session.old.view.screen.width ≡ size.width }
+    requires height { session.old.view.screen.height ≡ size.height }
+{
+    for (number, part) in (1usize..).zip(parts.split(",")) {
+        take_part(account, session, size, number, part)?;
+    }
+    Ok(())
+}
+
+/// Tells what a viewer is served that begins with a screen of this size, which an update paints:
+/// what is put out, and the faults, behind the number of the part. Commas part the update, the
+/// pieces of the viewer's stream, and updates by which the recording goes on, each behind a plus.
+pub(crate) fn run(account: &mut Account, size: ScreenSize, text: &str) -> Result<(), Untold> {
+    let (update, parts) = text.split_once(",").unwrap_or((text, ""));
+    let update = bytes(account.alloc, update)?;
+    let start = painted(account.alloc, size, &update)?;
+    let mut session = started(account.alloc, size, start)?;
+    take_parts(account, &mut session, size, parts)
+}
