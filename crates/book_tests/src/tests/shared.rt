@@ -2,6 +2,7 @@
 //! answers what a desk's call answers. Updates and colours are worked by hand.
 
 mod parallel;
+mod row;
 mod twins;
 
 use disk::Disk;

@@ -92,7 +92,12 @@ fn a_viewer_is_closed_where_a_read_fails(rt: HostRuntime) -> Result<(), Fail> {
     fs::write(rt, file, RECORDING.as_slice())?;
     let plan = plan_of(file, None, Audience::Count(1), Origin::Count(0));
     let (viewers, place) = listener(rt)?;
-    let said = serve_while!(rt, &plan, viewers, move || sees_the_beginning(rt, place, file))?;
+    let said = serve_while!(
+        rt,
+        &plan,
+        viewers,
+        move || sees_the_beginning(rt, place, file)
+    )?;
     let refused = "false serving\nrecorderd: serve refused journal 3\n";
     assert!(rt; said.as_str() == refused, "{said}");
     fs::remove_file(rt, file)?;
