@@ -4,17 +4,14 @@ ghost use Rattle.std.specs.Prelude.{◌≡◌, Ok, IsErr, MatchResult};
 ghost use Rattle.disk.specs.Contents.{CountsFailure};
 
 use crate::last_error::LastError;
-use crate::os_file::OsFile;
 use crate::progress::Progress;
 use crate::system_file::SystemFile;
 use crate::tally::Tally;
 use crate::whole::{read_whole, sync_whole, write_whole};
 use crate::written::Written;
 use disk::{Disk, DiskFault};
-use std::fs::File;
 use std::io;
 use std::marker::Model;
-use std::rt::Files;
 
 /// An open file as a disk: what each call of the disk is made of are the calls of a [`SystemFile`].
 /// Reads and writes go on if the system took or gave less than was asked for, and are tried again if a
@@ -32,9 +29,6 @@ pub struct DiskOfFile<F: SystemFile> {
     // How many bytes were read, for who asks meanwhile.
     tally: Option<Tally>,
 }
-
-/// A disk of a file of the operating system.
-pub type FileDisk = DiskOfFile<OsFile>;
 
 /// Contracts see the file, and the number of calls that failed.
 impl<F: SystemFile> Model for DiskOfFile<F> {
@@ -106,22 +100,6 @@ impl<F: SystemFile> DiskOfFile<F> {
                 Err(DiskFault)
             }
         }
-    }
-}
-
-impl FileDisk {
-    /// A file of the operating system, as it is.
-    pub fn new(file: File) -> FileDisk
-        ensures { result.failures ≡ 0 }
-    {
-        DiskOfFile::over(OsFile::new(file))
-    }
-
-    /// The same of a file that is open for reading alone.
-    pub fn to_read<R: Files<File = File> + AllocGlobal>(rt: &R, file: File) -> FileDisk
-        ensures { result.failures ≡ 0 }
-    {
-        DiskOfFile::over(OsFile::to_read(rt, file))
     }
 }
 
