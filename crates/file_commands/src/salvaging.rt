@@ -1,5 +1,8 @@
 //! The command `salvage`.
 
+ghost use Rattle.std.specs.Prelude.{◌≤◌};
+ghost use Rattle.recording_bytes.specs.declared.format.TheConstants.{LONGEST_FILE};
+
 use crate::behind::{Behind, behind_gate};
 use crate::command::Work;
 use crate::file_fault::name_kept;
@@ -34,7 +37,7 @@ type SourceDisk = DiskOfFile<ShownFile>;
 // What is salvaged: the whole blocks of a recording, how many bytes its file has, and the file.
 #[derive(Drop)]
 struct Source {
-    blocks: WholeBlocks<SourceDisk>,
+    blocks: Box<WholeBlocks<SourceDisk>>,
     length: u64,
     file: File,
 }
@@ -44,10 +47,12 @@ fn blocks_of(
     alloc: Global,
     file: ShownFile,
     progress: Progress,
-) -> Result<WholeBlocks<SourceDisk>, Refusal> {
+) -> Result<Box<WholeBlocks<SourceDisk>>, Refusal> {
     let disk = DiskOfFile::over(file).watched(progress);
     match WholeBlocks::open(alloc, disk) {
-        Ok(blocks) => Ok(blocks),
+        Ok(blocks) => {
+            Box::new(alloc, blocks).map_err(|_| Refusal::Recording(IndexFault::NoMemory))
+        }
         Err(refused) => Err(Refusal::Recording(IndexFault::Journal(refused.fault))),
     }
 }
@@ -94,6 +99,40 @@ struct Outcome {
     behind: Option<Behind>,
 }
 
+// What came of a source of this length and with this fault, of whose file it is: what is left out, or
+// what stands behind the end.
+fn outcome_of<R: Files<File = File> + AllocGlobal>(
+    rt: &R,
+    salvaged: Salvaged<FileDisk>,
+    length: u64,
+    fault: Option<IndexFault>,
+    file: File,
+) -> Result<Outcome, Refusal>
+    requires { salvaged.journal.end ≤ LONGEST_FILE }
+{
+    let Salvaged {
+        journal,
+        messages,
+        last_time,
+        wrong,
+    } = salvaged;
+    let gate = journal.end().saturating_sub(1);
+    let left_out = wrong.or(fault).map(|fault| LeftOut {
+        bytes: length.saturating_sub(gate),
+        after: last_time,
+        fault,
+    });
+    let behind = match left_out {
+        Some(_) => Ok(None),
+        None => behind_gate(rt, file, journal.header(), &journal.last_digest(), gate),
+    };
+    Ok(Outcome {
+        messages,
+        left_out,
+        behind: behind?,
+    })
+}
+
 // Writes what is right of a source.
 fn salvaged<R: Files<File = File> + AllocGlobal>(
     rt: &R,
@@ -106,30 +145,12 @@ fn salvaged<R: Files<File = File> + AllocGlobal>(
         file,
     } = source;
     let fault = blocks.fault().map(IndexFault::Journal);
-    let Salvaged {
-        journal,
-        messages,
-        last_time,
-        wrong,
-    } = match salvage(rt.alloc(), &mut blocks, target) {
-        Ok(salvaged) => salvaged,
-        Err(refused) => return Err(Refusal::Salvage(refused.fault)),
-    };
-    let gate = journal.end().saturating_sub(1);
-    let left_out = wrong.or(fault).map(|fault| LeftOut {
-        bytes: length.saturating_sub(gate),
-        after: last_time,
-        fault,
-    });
-    let behind = match left_out {
-        Some(_) => None,
-        None => behind_gate(rt, file, journal.header(), &journal.last_digest(), gate)?,
-    };
-    Ok(Outcome {
-        messages,
-        left_out,
-        behind,
-    })
+    let salvaged = salvage(rt.alloc(), &mut blocks, target);
+    drop(blocks);
+    match salvaged {
+        Ok(salvaged) => outcome_of(rt, salvaged, length, fault, file),
+        Err(refused) => Err(Refusal::Salvage(refused.fault)),
+    }
 }
 
 impl<R: Files<File = File> + AllocGlobal, O: Write> Work<'_, R, O> {
