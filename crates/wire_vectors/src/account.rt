@@ -65,6 +65,17 @@ impl Account {
         write!(self.text, "{count} {told}")
     }
 
+    /// Tells what happened once so many bytes had come, with a number.
+    pub(crate) fn tell_number_at<N: Display + Drop>(
+        &mut self,
+        count: usize,
+        told: &str,
+        number: N,
+    ) -> Result<(), NoMemory> {
+        self.tell_at(count, told)?;
+        self.add_number(number)
+    }
+
     /// Goes on with what was told last.
     pub(crate) fn add(&mut self, more: &str) -> Result<(), NoMemory> {
         self.text.push_str(more)
@@ -73,6 +84,17 @@ impl Account {
     /// Adds a number behind a space.
     pub(crate) fn add_number<N: Display + Drop>(&mut self, number: N) -> Result<(), NoMemory> {
         write!(self.text, " {number}")
+    }
+
+    /// Adds numbers, each behind a space.
+    pub(crate) fn add_numbers<N: Copy + Display + Drop>(
+        &mut self,
+        numbers: &[N],
+    ) -> Result<(), NoMemory> {
+        for number in numbers {
+            self.add_number(*number)?;
+        }
+        Ok(())
     }
 
     /// Adds bytes in words of hexadecimal digits, 20 bytes each, or one byte and a count where all

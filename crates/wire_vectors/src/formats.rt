@@ -36,9 +36,7 @@ fn tell_format(account: &mut Account, format: &PixelFormat, pixel: &[u8]) -> Res
     let put = &mut put[..size];
     format.put(orange, put);
     account.tell("")?;
-    for channel in [r, g, b] {
-        account.add_number(channel)?;
-    }
+    account.add_numbers(&[r, g, b])?;
     account.tell("orange")?;
     account.add_bytes(put)
 }

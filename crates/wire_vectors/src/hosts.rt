@@ -7,6 +7,9 @@ use rfb_wire::{Front, HostMessage, Rectangle, ServerReader, read_message};
 use std::alloc::Global;
 use terms::{Area, NoMemory, WireFault};
 
+// The values that take the place of a byte.
+const VALUES: [u8; 5] = [0, 1, 5, 0x80, 0xff];
+
 /// What reads a host's stream, for a screen.
 #[derive(Drop)]
 pub(crate) struct HostReader {
@@ -83,9 +86,7 @@ fn kind_of(bytes: &[u8]) -> &'static str {
 fn describe_rectangle(account: &mut Account, rectangle: &Rectangle) -> Result<(), NoMemory> {
     let Area { x, y, w, h } = rectangle.area;
     account.add(",")?;
-    for number in [x, y, w, h] {
-        account.add_number(number)?;
-    }
+    account.add_numbers(&[x, y, w, h])?;
     account.add(" in")?;
     account.add_number(rectangle.encoding.number())?;
     account.add(" at")?;
@@ -104,13 +105,12 @@ fn tell_changed(
 ) -> Result<(), NoMemory> {
     let mut alike = 0usize;
     for (place, byte) in bytes.iter().enumerate() {
-        for value in [0, 1, 5, 0x80, 0xff] {
+        for value in &VALUES {
             if let Some(changed) = stream.get_mut(place) {
-                *changed = value;
+                *changed = *value;
             }
             if !is_alike(account.alloc, reader, stream)? {
-                account.tell_at(place, "is otherwise with")?;
-                return account.add_number(value);
+                return account.tell_number_at(place, "is otherwise with", *value);
             }
             alike = alike.saturating_add(1);
         }

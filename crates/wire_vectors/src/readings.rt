@@ -133,8 +133,7 @@ impl<M: Message + Drop> Given<M> {
             message.describe(account, bytes.get(..*end).unwrap_or(bytes))?;
         }
         if let Some(fault) = &self.fault {
-            account.tell_at(self.fault_end, "fault")?;
-            account.add_number(fault.number())?;
+            account.tell_number_at(self.fault_end, "fault", fault.number())?;
             add_cause(account, fault)?;
         }
         if self.went_on {
@@ -166,8 +165,10 @@ fn is_cut_alike<M: Message + Drop, R: Reader<M>>(
 {
     let mut again = Given::new(alloc);
     reader.begin(alloc);
-    again.read(reader, bytes, cut, length)?;
-    Ok(given.is_same(&again))
+    match again.read(reader, bytes, cut, length) {
+        Ok(()) => Ok(given.is_same(&again)),
+        Err(fault) => Err(fault),
+    }
 }
 
 // Whether bytes that are read by the plain function give the same.
@@ -182,17 +183,20 @@ fn is_plainly_alike<M: Message + Drop, R: Reader<M>>(
     given.is_same(&again)
 }
 
-// Tells what is given, and what is otherwise if the bytes come in longer pieces, or are read by the
-// plain function. The last byte comes alone.
+// Tells what is given, and what is otherwise if the bytes come in longer pieces, of up to 100 bytes
+// where they aren't very many, or are read by the plain function. The last byte comes alone.
 fn tell_all<M: Message + Drop, R: Reader<M>>(
     account: &mut Account,
     reader: &mut R,
     bytes: &[u8],
-    given: &Given<M>,
+    given: &mut Given<M>,
 ) -> Result<(), NoMemory> {
-    given.tell(account, bytes)?;
     let front = bytes.len().saturating_sub(1);
-    for length in 1..=longest(bytes) {
+    let finest = finest(bytes);
+    given.read(reader, bytes, front, finest)?;
+    given.tell(account, bytes)?;
+    let longest = if finest > 1 { 0 } else { bytes.len().min(100) };
+    for length in 1..=longest {
         if !is_cut_alike(account.alloc, reader, bytes, given, front, length)? {
             account.tell("otherwise in pieces of")?;
             return account.add_number(length);
@@ -206,15 +210,13 @@ fn tell_all<M: Message + Drop, R: Reader<M>>(
 
 /// Tells what comes of a stream: each message and the fault, behind the number of bytes that had
 /// come by then.
-pub(crate) fn run<M: Message + Drop, R: Reader<M>>(
+pub(crate) fn run<M: Message + Drop, R: Reader<M> + Drop>(
     account: &mut Account,
-    reader: &mut R,
+    mut reader: R,
     bytes: &[u8],
 ) -> Result<(), NoMemory> {
     let mut given = Given::new(account.alloc);
-    let front = bytes.len().saturating_sub(1);
-    given.read(reader, bytes, front, finest(bytes))?;
-    tell_all(account, reader, bytes, &given)
+    tell_all(account, &mut reader, bytes, &mut given)
 }
 
 /// Whether a stream gives the same however it is cut in two.
@@ -240,13 +242,4 @@ fn finest(bytes: &[u8]) -> usize
     ensures { 0 < result }
 {
     if bytes.len() > 100_000 { 65_536 } else { 1 }
-}
-
-// The longest of the pieces that bytes are cut into once more; 0 for bytes that are very many.
-fn longest(bytes: &[u8]) -> usize {
-    if bytes.len() > 100_000 {
-        0
-    } else {
-        bytes.len().min(100)
-    }
 }

@@ -53,19 +53,13 @@ impl Drawn<'_> {
                 Err(Short::NeedMore) => {}
                 Err(Short::Bad) => return Ok(account.tell_at(count, "bad")?),
                 Ok(length) => {
-                    tell_whole(account, count, length)?;
+                    account.tell_number_at(count, "whole", length)?;
                     return self.write(account, data);
                 }
             }
         }
         Ok(account.tell("needs more")?)
     }
-}
-
-// Tells at which byte data are whole, and how many they are.
-fn tell_whole(account: &mut Account, count: usize, length: usize) -> Result<(), NoMemory> {
-    account.tell_at(count, "whole")?;
-    account.add_number(length)
 }
 
 /// Tells at which byte data are whole, with one column and one row more than they paint, or refused.
@@ -131,11 +125,8 @@ pub(crate) fn run_measured(
         }
         match answer {
             Ok(None) => {}
-            Ok(Some(length)) => return tell_whole(account, count, length),
-            Err(fault) => {
-                account.tell_at(count, "fault")?;
-                return account.add_number(fault.number());
-            }
+            Ok(Some(length)) => return account.tell_number_at(count, "whole", length),
+            Err(fault) => return account.tell_number_at(count, "fault", fault.number()),
         }
     }
     account.tell("needs more")

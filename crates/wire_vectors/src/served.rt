@@ -1,6 +1,8 @@
 //! What a viewer is served.
 
-ghost use Rattle.std.specs.Prelude.{◌≡◌, IfOk};
+ghost use Rattle.std.specs.Prelude.{◌≡◌, ◌<◌, ◌^◌, IfOk};
+ghost use Rattle.viewer_session.specs.declared.view.View.{View};
+ghost use Rattle.viewer_session.specs.View.{IsNext};
 
 use crate::account::{Account, Untold};
 use crate::screens::painted;
@@ -16,18 +18,36 @@ use viewer_session::Session;
 // A session that begins with a screen. It is boxed, so that a function that ends early doesn't take
 // it apart.
 fn started(alloc: Global, size: ScreenSize, start: Screen) -> Result<Box<Session>, NoMemory>
-    requires width { start.width ≡ size.width }
-    requires height { start.height ≡ size.height }
+    requires { (start.width ≡ size.width) × (start.height ≡ size.height) }
     ensures width { IfOk result (λ s. s.value.view.screen.width ≡ size.width) }
     ensures height { IfOk result (λ s. s.value.view.screen.height ≡ size.height) }
 {
-    let mut session = Box::new(alloc, Session::new(alloc, size, b"r")?)?;
-    session.advance(&Slice {
+    let slice = Slice {
         first: 1,
         start: Some(start),
         messages: Vec::new(alloc),
-    });
+    };
+    let mut session = Box::new(alloc, Session::new(alloc, size, b"r")?)?;
+    session.advance(&slice);
     Ok(session)
+}
+
+// An update of the recording, behind so many messages.
+fn slice_of(alloc: Global, first: u64, size: ScreenSize, update: &[u8]) -> Result<Slice, Untold>
+    requires { first < 2 ^ 32 }
+    ensures next { (view : View) → view.screen.width ≡ size.width
+        → view.screen.height ≡ size.height → view.position ≡ first
+        → IfOk result (IsNext view) }
+{
+    let Ok(message) = HostMessage::from_bytes(alloc, size, update) else {
+        return Err(Untold::NoVector);
+    };
+    let messages = Vec::from_array(alloc, [Stamped { time: 0, message }])?;
+    Ok(Slice {
+        first,
+        start: None,
+        messages,
+    })
 }
 
 // Goes on by an update of the recording.
@@ -43,19 +63,41 @@ fn go_on(
     ensures height { session.new.view.screen.height ≡ size.height }
 {
     let first = session.position();
-    let Ok(message) = HostMessage::from_bytes(alloc, size, update) else {
-        return Err(Untold::NoVector);
-    };
     if first > 1_000_000 {
         return Err(Untold::NoVector);
     }
-    let messages = Vec::from_array(alloc, [Stamped { time: 0, message }])?;
-    session.advance(&Slice {
-        first,
-        start: None,
-        messages,
-    });
+    session.advance(&slice_of(alloc, first, size, update)?);
     Ok(())
+}
+
+// Takes a piece of the viewer's stream, and tells its fault.
+fn hear(
+    account: &mut Account,
+    session: &mut Session,
+    number: usize,
+    piece: &[u8],
+) -> Result<(), NoMemory>
+    ensures width { session.new.view.screen.width ≡ session.old.view.screen.width }
+    ensures height { session.new.view.screen.height ≡ session.old.view.screen.height }
+{
+    match session.feed(piece) {
+        Ok(()) => Ok(()),
+        Err(fault) => account.tell_number_at(number, "fault", fault.number()),
+    }
+}
+
+// Tells what is put out now, if anything is.
+fn tell_out(account: &mut Account, session: &mut Session, number: usize) -> Result<(), NoMemory>
+    ensures width { session.new.view.screen.width ≡ session.old.view.screen.width }
+    ensures height { session.new.view.screen.height ≡ session.old.view.screen.height }
+{
+    let mut out = Vec::new(account.alloc);
+    session.answer(&mut out)?;
+    if out.is_empty() {
+        return Ok(());
+    }
+    account.tell_at(number, "says")?;
+    account.add_bytes(&out)
 }
 
 // Takes a part of a vector, an update behind a plus or a piece of the viewer's stream, and tells what
@@ -72,21 +114,12 @@ fn take_part(
     ensures width { session.new.view.screen.width ≡ size.width }
     ensures height { session.new.view.screen.height ≡ size.height }
 {
-    let update = part.trim().strip_prefix("+");
-    let told = bytes(account.alloc, update.unwrap_or(part))?;
-    if update.is_some() {
-        go_on(account.alloc, session, size, &told)?;
-    } else if let Err(fault) = session.feed(&told) {
-        account.tell_at(number, "fault")?;
-        account.add_number(fault.number())?;
+    let alloc = account.alloc;
+    match part.trim().strip_prefix("+") {
+        Some(update) => go_on(alloc, session, size, &bytes(alloc, update)?)?,
+        None => hear(account, session, number, &bytes(alloc, part)?)?,
     }
-    let mut out = Vec::new(account.alloc);
-    session.answer(&mut out)?;
-    if !out.is_empty() {
-        account.tell_at(number, "says")?;
-        account.add_bytes(&out)?;
-    }
-    Ok(())
+    Ok(tell_out(account, session, number)?)
 }
 
 fn take_parts(
@@ -109,8 +142,7 @@ fn take_parts(
 /// pieces of the viewer's stream, and updates by which the recording goes on, each behind a plus.
 pub(crate) fn run(account: &mut Account, size: ScreenSize, text: &str) -> Result<(), Untold> {
     let (update, parts) = text.split_once(",").unwrap_or((text, ""));
-    let update = bytes(account.alloc, update)?;
-    let start = painted(account.alloc, size, &update)?;
+    let start = painted(account.alloc, size, &bytes(account.alloc, update)?)?;
     let mut session = started(account.alloc, size, start)?;
     take_parts(account, &mut session, size, parts)
 }

@@ -8,12 +8,12 @@ use rfb_wire::HostMessage;
 use std::alloc::Global;
 use terms::{NoMemory, ScreenSize};
 
-/// The host that a session waits for: for a recording of which format, and of which size, if one is
-/// expected.
+// The host that a session waits for: for a recording of which format, and of which size, if one is
+// expected.
 #[derive(Clone, Copy)]
-pub(crate) struct Awaited {
-    pub(crate) format: Format,
-    pub(crate) size: Option<ScreenSize>,
+struct Awaited {
+    format: Format,
+    size: Option<ScreenSize>,
 }
 
 // A session, and what came of what it was fed. Its calls promise nothing here.
@@ -85,6 +85,13 @@ impl Talk {
         Ok(())
     }
 
+    // Whether what is fed in two pieces comes to the same.
+    fn comes_to(&mut self, talk: &Talk, pieces: (&[u8], &[u8])) -> Result<bool, NoMemory> {
+        self.feed(pieces.0)?;
+        self.feed(pieces.1)?;
+        Ok(talk.is_same(self))
+    }
+
     // Feeds one more byte, the one of this number, and tells what it brought.
     fn tell_byte(
         &mut self,
@@ -104,15 +111,14 @@ impl Talk {
         }
         match self.fault {
             Some(new) if fault.is_none() => {
-                account.tell_at(number, "fault")?;
-                account.add_number(new.number())
+                account.tell_number_at(number, "fault", new.number())
             }
             _ => Ok(()),
         }
     }
 }
 
-// Whether what is fed in two pieces comes to the same.
+// Whether what a new session is fed in two pieces comes to the same.
 fn is_cut_alike(
     alloc: Global,
     awaited: Awaited,
@@ -120,24 +126,7 @@ fn is_cut_alike(
     talk: &Talk,
 ) -> Result<bool, NoMemory> {
     let mut again = Talk::new(alloc, awaited);
-    again.feed(pieces.0)?;
-    again.feed(pieces.1)?;
-    Ok(talk.is_same(&again))
-}
-
-// Tells what is otherwise where the bytes are cut in two.
-fn tell_difference(
-    account: &mut Account,
-    awaited: Awaited,
-    bytes: &[u8],
-    talk: &Talk,
-) -> Result<(), NoMemory> {
-    for cut in 0..=bytes.len().min(100) {
-        if !is_cut_alike(account.alloc, awaited, bytes.split_at(cut), talk)? {
-            return account.tell_at(cut, "is where it may not be cut");
-        }
-    }
-    Ok(())
+    again.comes_to(talk, pieces)
 }
 
 // Tells what comes of the bytes, and what is otherwise where they are cut in two.
@@ -151,12 +140,24 @@ fn tell_all(
         talk.tell_byte(account, number, *byte)?;
     }
     talk.tell(account)?;
-    tell_difference(account, awaited, bytes, talk)
+    for cut in 0..=bytes.len().min(100) {
+        if !is_cut_alike(account.alloc, awaited, bytes.split_at(cut), talk)? {
+            return account.tell_at(cut, "is where it may not be cut");
+        }
+    }
+    Ok(())
 }
 
-/// Tells what comes of what a host sends: what is said to it, its messages and the fault, behind the
-/// number of bytes that had come by then; and in the end the screen's size and name, or the reason.
-pub(crate) fn run(account: &mut Account, awaited: Awaited, bytes: &[u8]) -> Result<(), NoMemory> {
+/// Tells what comes of what a host sends for a recording of this format, and of this size if one is
+/// expected: what is said to it, its messages and the fault, behind the number of bytes that had come
+/// by then; and in the end the screen's size and name, or the reason.
+pub(crate) fn run(
+    account: &mut Account,
+    format: Format,
+    size: Option<ScreenSize>,
+    bytes: &[u8],
+) -> Result<(), NoMemory> {
+    let awaited = Awaited { format, size };
     let mut talk = Talk::new(account.alloc, awaited);
     tell_all(account, awaited, bytes, &mut talk)
 }

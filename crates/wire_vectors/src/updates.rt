@@ -1,14 +1,32 @@
 //! Updates as they are written.
 
+ghost use Rattle.std.specs.Prelude.{◌≡◌, ◌*◌, ◌+◌, ◌≤◌, All, IfOk, length};
+ghost use Rattle.pixel_format.specs.Format.{host_format};
+ghost use Rattle.pixel_format.specs.Pixel.{IsWithin};
+
 use crate::account::{Account, Untold};
 use crate::picture::write_rows;
 use crate::screens::painted;
 use painter::Screen;
-use pixel_format::PixelFormat;
+use pixel_format::{Color, PixelFormat};
 use rect_codec::write_update;
 use rect_data::Encoding;
 use std::alloc::Global;
 use terms::{Area, NoMemory, ScreenSize};
+
+// The colours of an area of a screen, in the host's format.
+fn colors_of(alloc: Global, screen: &Screen, area: Area) -> Result<Vec<Color>, NoMemory>
+    requires columns { area.x + area.w ≤ screen.now.width }
+    requires rows { area.y + area.h ≤ screen.now.height }
+    ensures size { IfOk result (λ colors. length colors.items ≡ area.h * area.w) }
+    ensures within { IfOk result (λ colors. All (IsWithin host_format) colors.items) }
+{
+    let mut colors = Vec::new(alloc);
+    screen.area(area, &mut colors)?;
+    let mut row = colors.clone()?;
+    PixelFormat::host().convert_row(&colors, &mut row);
+    Ok(row)
+}
 
 // An update of all of a screen, in the host's format.
 fn written(alloc: Global, screen: &Screen, encoding: Encoding) -> Result<Vec<u8>, NoMemory> {
@@ -19,14 +37,28 @@ fn written(alloc: Global, screen: &Screen, encoding: Encoding) -> Result<Vec<u8>
         w: size.width,
         h: size.height,
     };
-    let mut colors = Vec::new(alloc);
-    screen.area(area, &mut colors)?;
-    let host = PixelFormat::host();
-    let mut row = colors.clone()?;
-    host.convert_row(&colors, &mut row);
+    let colors = colors_of(alloc, screen, area)?;
     let mut out = Vec::new(alloc);
-    write_update(alloc, &host, area, &row, encoding, &mut out)?;
+    write_update(
+        alloc,
+        &PixelFormat::host(),
+        area,
+        &colors,
+        encoding,
+        &mut out,
+    )?;
     Ok(out)
+}
+
+// Tells how long an update is beside one in Raw, and what it paints.
+fn tell(account: &mut Account, size: ScreenSize, raw: usize, update: &[u8]) -> Result<(), Untold> {
+    account.tell_at(raw, "in Raw")?;
+    if update.len() < raw {
+        account.tell("shorter")?;
+    }
+    account.tell("")?;
+    let again = painted(account.alloc, size, update)?;
+    Ok(write_rows(account, &again, (size.width, size.height))?)
 }
 
 /// Tells of a screen that an update paints how many bytes an update of all of it has in Raw, whether
@@ -41,14 +73,7 @@ pub(crate) fn run(
         return Err(Untold::NoVector);
     };
     let screen = painted(account.alloc, size, bytes)?;
-    let raw = written(account.alloc, &screen, Encoding::Raw)?;
+    let raw = written(account.alloc, &screen, Encoding::Raw)?.len();
     let update = written(account.alloc, &screen, encoding)?;
-    account.tell_at(raw.len(), "in Raw")?;
-    if update.len() < raw.len() {
-        account.tell("shorter")?;
-    }
-    account.tell("")?;
-    let again = painted(account.alloc, size, &update)?;
-    write_rows(account, &again, (size.width, size.height))?;
-    Ok(())
+    tell(account, size, raw, &update)
 }

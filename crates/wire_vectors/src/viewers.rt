@@ -69,7 +69,8 @@ impl Message for ClientMessage {
                 account.add_bytes(&format.write())
             }
             ClientMessage::SetEncodings(encodings) => {
-                describe_encodings(account, encodings.as_slice())
+                account.add("encodings")?;
+                account.add_numbers(encodings.as_slice())
             }
             ClientMessage::Input(kind) => {
                 account.add("input")?;
@@ -86,22 +87,11 @@ impl Message for ClientMessage {
     }
 }
 
-fn describe_encodings(account: &mut Account, encodings: &[i32]) -> Result<(), NoMemory> {
-    account.add("encodings")?;
-    for number in encodings {
-        account.add_number(*number)?;
-    }
-    Ok(())
-}
-
 fn describe_request(
     account: &mut Account,
     incremental: bool,
     area: Numbers,
 ) -> Result<(), NoMemory> {
     account.add(if incremental { "changes" } else { "request" })?;
-    for number in area {
-        account.add_number(number)?;
-    }
-    Ok(())
+    account.add_numbers(&area)
 }

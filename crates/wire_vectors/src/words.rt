@@ -2,6 +2,7 @@
 
 use crate::account::Untold;
 use std::alloc::Global;
+use std::fmt::Write;
 use terms::NoMemory;
 
 /// The lines of a part of a file that aren't comments, one behind the other.
@@ -9,8 +10,7 @@ pub(crate) fn without_comments(alloc: Global, part: &str) -> Result<String, NoMe
     let mut kept = String::new(alloc);
     for line in part.lines() {
         if !line.starts_with("#") {
-            kept.push_str(line)?;
-            kept.push_str(" ")?;
+            write!(kept, "{line} ")?;
         }
     }
     Ok(kept)
@@ -27,16 +27,17 @@ pub(crate) fn are_same(first: &str, second: &str) -> bool {
     others.next().is_none()
 }
 
-/// The numbers behind the first word.
-pub(crate) fn numbers(alloc: Global, head: &str) -> Result<Vec<u16>, Untold> {
-    let mut numbers = Vec::new(alloc);
-    for word in head.split_whitespace().skip(1) {
-        let Ok(number) = word.parse::<u16>() else {
-            return Err(Untold::NoVector);
-        };
-        numbers.push(number)?;
+/// Appends the numbers behind the first word.
+pub(crate) fn append_numbers(head: &str, numbers: &mut Vec<u16>) -> Result<(), Untold> {
+    let mut words = head.split_whitespace();
+    let _kind = words.next();
+    for word in words {
+        match word.parse::<u16>() {
+            Ok(number) => numbers.push(number)?,
+            Err(_) => return Err(Untold::NoVector),
+        }
     }
-    Ok(numbers)
+    Ok(())
 }
 
 // A word without the count behind its `*`, and that count: 1 where there is none.
