@@ -31,28 +31,23 @@ pub struct Salvaging<'a> {
     pub behind: bool,
 }
 
-// The disk that is read: its file may show a gate open.
-type SourceDisk = DiskOfFile<ShownFile>;
+// The whole blocks of a file that may show a gate open.
+type SourceBlocks = Box<WholeBlocks<DiskOfFile<ShownFile>>>;
 
 // What is salvaged: the whole blocks of a recording, how many bytes its file has, and the file.
 #[derive(Drop)]
 struct Source {
-    blocks: Box<WholeBlocks<SourceDisk>>,
+    blocks: SourceBlocks,
     length: u64,
     file: File,
 }
 
 // The whole blocks that reads of a file give.
-fn blocks_of(
-    alloc: Global,
-    file: ShownFile,
-    progress: Progress,
-) -> Result<Box<WholeBlocks<SourceDisk>>, Refusal> {
+fn blocks_of(alloc: Global, file: ShownFile, progress: Progress) -> Result<SourceBlocks, Refusal> {
     let disk = DiskOfFile::over(file).watched(progress);
+    let no_memory = Refusal::Recording(IndexFault::NoMemory);
     match WholeBlocks::open(alloc, disk) {
-        Ok(blocks) => {
-            Box::new(alloc, blocks).map_err(|_| Refusal::Recording(IndexFault::NoMemory))
-        }
+        Ok(blocks) => Box::new(alloc, blocks).map_err(|_| no_memory),
         Err(refused) => Err(Refusal::Recording(IndexFault::Journal(refused.fault))),
     }
 }
@@ -75,11 +70,8 @@ fn open_source<R: Files<File = File> + AllocGlobal>(
     let gate = blocks.gate();
     if what.behind && blocks.fault().is_none() && gate.saturating_add(1) < length {
         let opened = OsFile::to_read(rt, file.try_clone()?);
-        let all = blocks_of(
-            alloc,
-            ShownFile::with_byte(opened, gate, OPEN_GATE),
-            progress,
-        )?;
+        let shown = ShownFile::with_byte(opened, gate, OPEN_GATE);
+        let all = blocks_of(alloc, shown, progress)?;
         if all.blocks() > blocks.blocks() {
             blocks = all;
         }
@@ -99,27 +91,21 @@ struct Outcome {
     behind: Option<Behind>,
 }
 
-// What came of a source of this length and with this fault, of whose file it is: what is left out, or
-// what stands behind the end.
+// What is left out of a file of this length, whose recording has this fault, or stands behind its end.
 fn outcome_of<R: Files<File = File> + AllocGlobal>(
     rt: &R,
-    salvaged: Salvaged<FileDisk>,
+    salvaged: &Salvaged<FileDisk>,
     length: u64,
     fault: Option<IndexFault>,
     file: File,
 ) -> Result<Outcome, Refusal>
-    requires { salvaged.journal.end ≤ LONGEST_FILE }
+    requires { salvaged.now.journal.end ≤ LONGEST_FILE }
 {
-    let Salvaged {
-        journal,
-        messages,
-        last_time,
-        wrong,
-    } = salvaged;
+    let journal = &salvaged.journal;
     let gate = journal.end().saturating_sub(1);
-    let left_out = wrong.or(fault).map(|fault| LeftOut {
+    let left_out = salvaged.wrong.or(fault).map(|fault| LeftOut {
         bytes: length.saturating_sub(gate),
-        after: last_time,
+        after: salvaged.last_time,
         fault,
     });
     let behind = match left_out {
@@ -127,7 +113,7 @@ fn outcome_of<R: Files<File = File> + AllocGlobal>(
         None => behind_gate(rt, file, journal.header(), &journal.last_digest(), gate),
     };
     Ok(Outcome {
-        messages,
+        messages: salvaged.messages,
         left_out,
         behind: behind?,
     })
@@ -148,7 +134,7 @@ fn salvaged<R: Files<File = File> + AllocGlobal>(
     let salvaged = salvage(rt.alloc(), &mut blocks, target);
     drop(blocks);
     match salvaged {
-        Ok(salvaged) => outcome_of(rt, salvaged, length, fault, file),
+        Ok(salvaged) => outcome_of(rt, &salvaged, length, fault, file),
         Err(refused) => Err(Refusal::Salvage(refused.fault)),
     }
 }
