@@ -10,6 +10,7 @@ use disk::Disk;
 use file_disk::{FileDisk, LastError, Written};
 use flusher_core::Book;
 use gated_journal::Header;
+use pixel_format::Format;
 use std::alloc::Global;
 use std::fs::File;
 use std::io;
@@ -53,6 +54,14 @@ impl Begun {
         match &self.found {
             Found::Recording(unread) => Some(&unread.header),
             _ => None,
+        }
+    }
+
+    /// The recording's format: that of one that is to be read, or else the plan's.
+    pub fn format(&self, plan: &Plan<'_>) -> Format {
+        match self.header() {
+            Some(header) => header.format(),
+            None => plan.format,
         }
     }
 }
@@ -190,17 +199,19 @@ impl<
     }
 
     /// Reads the recording, which may take long, or makes it where there is none.
-    pub fn finish(&self, begun: Begun) -> Result<Opened, Stopped> {
+    pub fn finish(&self, begun: Begun) -> Result<Box<Opened>, Stopped> {
         let Begun { found, host } = begun;
         let (mut book, identity) = self.recording(found, host.as_deref())?;
         self.tell_where(&book);
         let source = self.source(host, book.last_time())?;
         let beginning = beginning_of(&mut book, self.plan).map_err(Refusal::from)?;
-        Ok(Opened {
-            desk: desk_over(self.rt.alloc(), book)?,
+        let alloc = self.rt.alloc();
+        let opened = Opened {
+            desk: desk_over(alloc, book)?,
             beginning,
             identity,
             source,
-        })
+        };
+        Ok(Box::new(alloc, opened)?)
     }
 }

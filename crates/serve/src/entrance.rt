@@ -45,10 +45,10 @@ impl<'a, D: Disk, M: Mark, R: Clock + Wait> Service<'a, D, M, R> {
         ended
     }
 
-    // Ends a handshake without a viewer.
-    fn give_up_on(&self, from: SocketAddr) {
+    // Ends a handshake without a viewer, and tells how.
+    fn end_handshake(&self, event: Event<'_>) {
         self.room.hall.give_up(self.rt);
-        self.room.telling.tell(self.rt, Event::Unheard(from));
+        self.room.telling.tell(self.rt, event);
     }
 
     // Tells a connection why it is turned away.
@@ -86,7 +86,7 @@ impl<'a, D: Disk + Send, M: Mark + Send + Sync, R: Threads + Clock + Wait + Sync
         let (rt, room) = (self.rt, self.room);
         match guest.greet(rt, &room.bell) {
             Ok(Greeting::Whole) if room.fits(&guest) => {}
-            _ => return self.give_up_on(from),
+            _ => return self.end_handshake(Event::Unheard(from)),
         }
         if let Err(reason) = room.hall.seat(rt) {
             room.telling.tell(rt, Event::TurnedAway(from, reason));
@@ -104,7 +104,7 @@ impl<'a, D: Disk + Send, M: Mark + Send + Sync, R: Threads + Clock + Wait + Sync
         let room = self.room;
         match Guest::new(room.alloc, stream, room.screen.size, &room.name) {
             Ok(guest) => self.receive(guest, from),
-            Err(_) => self.give_up_on(from),
+            Err(_) => self.end_handshake(Event::Unheard(from)),
         }
     }
 
@@ -137,8 +137,7 @@ impl<'a, D: Disk + Send, M: Mark + Send + Sync, R: Threads + Clock + Wait + Sync
         }
         let attending = scope.spawn(move || self.attend(stream, from, arrival));
         if attending.is_err() {
-            room.hall.give_up(self.rt);
-            room.telling.tell(self.rt, Event::NoThread(from));
+            self.end_handshake(Event::NoThread(from));
         }
     }
 
@@ -146,8 +145,7 @@ impl<'a, D: Disk + Send, M: Mark + Send + Sync, R: Threads + Clock + Wait + Sync
     fn go_on<'s, E>(&'s self, scope: &'s Scope<'s, E>, comer: Comer) {
         let Comer { guest, from } = comer;
         if scope.spawn(move || self.receive(guest, from)).is_err() {
-            self.room.hall.give_up(self.rt);
-            self.room.telling.tell(self.rt, Event::NoThread(from));
+            self.end_handshake(Event::NoThread(from));
         }
     }
 

@@ -22,14 +22,28 @@ pub struct Comer {
     pub from: SocketAddr,
 }
 
+/// Where those come who are greeted while the recording is read.
+#[derive(Drop)]
+pub struct Door<'a, R> {
+    pub rt: &'a R,
+    pub alloc: Global,
+    pub listener: &'a TcpListener,
+    pub hall: &'a Hall,
+    pub telling: &'a Telling,
+}
+
+impl<'a, R: Clock + Wait> Door<'a, R> {
+    // Ends a handshake without a viewer, and tells how.
+    fn end_handshake(&self, event: Event<'_>) {
+        self.hall.give_up(self.rt);
+        self.telling.tell(self.rt, event);
+    }
+}
+
 /// Greets those who come while the recording is read, and keeps them for the recorder.
 #[derive(Drop)]
 pub struct Greeter<'a, R> {
-    rt: &'a R,
-    alloc: Global,
-    listener: &'a TcpListener,
-    hall: &'a Hall,
-    telling: &'a Telling,
+    door: Door<'a, R>,
     /// Rings once the recording is read.
     bell: Bell,
     size: ScreenSize,
@@ -40,28 +54,16 @@ pub struct Greeter<'a, R> {
 
 impl<'a, R> Greeter<'a, R> {
     /// One of a recording of this size and name.
-    pub fn new(
-        rt: &'a R,
-        alloc: Global,
-        listener: &'a TcpListener,
-        hall: &'a Hall,
-        telling: &'a Telling,
-        bell: Bell,
-        size: ScreenSize,
-        name: Vec<u8>,
-    ) -> Greeter<'a, R>
+    pub fn new(door: Door<'a, R>, bell: Bell, size: ScreenSize, name: Vec<u8>) -> Greeter<'a, R>
         requires { length name.items < 2 ^ 32 }
     {
+        let comers = Mutex::new(Vec::new(door.alloc));
         Greeter {
-            rt,
-            alloc,
-            listener,
-            hall,
-            telling,
+            door,
             bell,
             size,
             name,
-            comers: Mutex::new(Vec::new(alloc)),
+            comers,
         }
     }
 
@@ -80,8 +82,8 @@ impl<'a, R> Greeter<'a, R> {
 impl<'a, R: Clock + Wait> Greeter<'a, R> {
     // Hears a connection's handshake, as far as it comes: who goes on.
     fn greet(&self, stream: TcpStream, from: SocketAddr) -> Option<Comer> {
-        let mut guest = Guest::new(self.alloc, stream, self.size, &self.name).ok()?;
-        match guest.greet(self.rt, &self.bell) {
+        let mut guest = Guest::new(self.door.alloc, stream, self.size, &self.name).ok()?;
+        match guest.greet(self.door.rt, &self.bell) {
             Ok(Greeting::Whole | Greeting::UnderWay) => Some(Comer { guest, from }),
             Ok(Greeting::Over) | Err(_) => None,
         }
@@ -90,12 +92,11 @@ impl<'a, R: Clock + Wait> Greeter<'a, R> {
     // Greets a connection, and keeps who goes on.
     fn attend(&self, stream: TcpStream, from: SocketAddr) {
         let is_kept = match self.greet(stream, from) {
-            Some(comer) => self.comers.lock(self.rt).push(comer).is_ok(),
+            Some(comer) => self.comers.lock(self.door.rt).push(comer).is_ok(),
             None => false,
         };
         if !is_kept {
-            self.hall.give_up(self.rt);
-            self.telling.tell(self.rt, Event::Unheard(from));
+            self.door.end_handshake(Event::Unheard(from));
         }
     }
 }
@@ -104,31 +105,25 @@ impl<'a, R: Threads + Clock + Wait + Sync> Greeter<'a, R> {
     // Has a connection greeted on a thread of its own. Nobody has a seat yet, so that nobody is turned
     // away but by the number of handshakes.
     fn take<'s, E>(&'s self, scope: &'s Scope<'s, E>, stream: TcpStream, from: SocketAddr) {
-        let event = match self.hall.arrive(self.rt) {
+        match self.door.hall.arrive(self.door.rt) {
             Arrival::Greeted => {
-                if scope.spawn(move || self.attend(stream, from)).is_ok() {
-                    return;
+                if scope.spawn(move || self.attend(stream, from)).is_err() {
+                    self.door.end_handshake(Event::NoThread(from));
                 }
-                self.hall.give_up(self.rt);
-                Event::NoThread(from)
             }
-            Arrival::TurnedAway(reason) => {
-                self.hall.give_up(self.rt);
-                Event::TurnedAway(from, reason)
-            }
-            Arrival::Dropped => Event::Dropped(from),
-        };
-        self.telling.tell(self.rt, event);
+            Arrival::TurnedAway(reason) => self.door.end_handshake(Event::TurnedAway(from, reason)),
+            Arrival::Dropped => self.door.telling.tell(self.door.rt, Event::Dropped(from)),
+        }
     }
 
     /// Greets those who come until the recording is read.
     pub fn greet_all(&self) {
-        thread::scope(thread::scope_env(), self.rt, |scope| {
+        thread::scope(thread::scope_env(), self.door.rt, |scope| {
             accept_until_rung(
-                self.rt,
-                self.listener,
+                self.door.rt,
+                self.door.listener,
                 &self.bell,
-                self.telling,
+                self.door.telling,
                 |stream, from| self.take(scope, stream, from),
             );
         });

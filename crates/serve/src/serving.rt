@@ -3,7 +3,7 @@
 ghost use Rattle.std.specs.Prelude.{◌≡◌};
 ghost use Rattle.flusher_core.specs.State.{accepted_count};
 
-use crate::greeter::{Comer, Greeter};
+use crate::greeter::{Comer, Door, Greeter};
 use crate::refusing::refuse;
 use crate::service::{Service, run_threads};
 use connections::{Device, Hall, Origin, Plan, Refusal, Room};
@@ -62,7 +62,7 @@ fn serve_opened<M: Mark + Send + Sync, R: Threads + Clock + Wait + Sync + AllocG
     plan: &Plan<'_>,
     token: Token,
     opened: Box<Opened>,
-    arrivals: Arrivals,
+    arrivals: Box<Arrivals>,
     bell: Bell,
     telling: &Telling,
     last_error: LastError,
@@ -77,7 +77,7 @@ fn serve_opened<M: Mark + Send + Sync, R: Threads + Clock + Wait + Sync + AllocG
         listener,
         hall,
         comers,
-    } = arrivals;
+    } = Box::into_inner(arrivals);
     let room = room_of::<M, R>(rt, plan, &opened, hall, bell, telling, last_error)?;
     let Opened {
         desk,
@@ -135,57 +135,77 @@ fn greets_early(origin: Origin) -> bool {
     !matches!(origin, Origin::Count(_))
 }
 
-// Reads or makes the recording. Meanwhile those who come are greeted, if it is read: who came.
+// Who greets those who come while the recording is read: nobody if it is made, or if they have to
+// wait for their greeting.
+fn greeter_of<'a, R: AllocGlobal + Net<Stream = TcpStream, Listener = TcpListener>>(
+    opening: &Opening<'a, R>,
+    begun: &Begun,
+    listener: &'a TcpListener,
+    hall: &'a Hall,
+) -> io::Result<Option<Greeter<'a, R>>> {
+    match begun.header() {
+        Some(header) if greets_early(opening.plan.from) => {
+            let door = Door {
+                rt: opening.rt,
+                alloc: opening.rt.alloc(),
+                listener,
+                hall,
+                telling: opening.telling,
+            };
+            let name = header.name().to_vec(door.alloc)?;
+            let bell = Bell::new(door.rt)?;
+            Ok(Some(Greeter::new(door, bell, header.size(), name)))
+        }
+        _ => Ok(None),
+    }
+}
+
+// Reads or makes the recording. Meanwhile the greeter, if there is one, greets those who come.
 fn finish<R>(
     opening: &Opening<'_, R>,
     begun: Begun,
-    listener: &TcpListener,
-    hall: &Hall,
-) -> Result<(Opened, Vec<Comer>), Stopped>
+    greeter: &Option<Greeter<'_, R>>,
+) -> Result<Box<Opened>, Stopped>
 where
     R: AllocGlobal + Clock + Eprint + Files<File = File> + Sync + Threads + Wait,
     R: Net<Stream = TcpStream, Listener = TcpListener>,
 {
-    let (rt, alloc) = (opening.rt, opening.rt.alloc());
-    let (size, name) = match begun.header() {
-        Some(header) if greets_early(opening.plan.from) => {
-            (header.size(), header.name().to_vec(alloc)?)
-        }
-        _ => return Ok((opening.finish(begun)?, Vec::new(alloc))),
+    let Some(greeter) = greeter else {
+        return opening.finish(begun);
     };
-    let bell = Bell::new(rt)?;
-    let greeter = Greeter::new(rt, alloc, listener, hall, opening.telling, bell, size, name);
-    let opened = thread::scope(thread::scope_env(), rt, |scope| {
+    thread::scope(thread::scope_env(), opening.rt, |scope| {
         // Without a thread for it they are greeted once it is read.
         let _greeting = scope.spawn(|| greeter.greet_all());
         let opened = opening.finish(begun);
         greeter.end();
         opened
-    });
-    Ok((opened?, greeter.into_comers()))
+    })
 }
 
 // Finds the recording, the host and where viewers come, and reads or makes the recording.
-fn open<R, L>(opening: &Opening<'_, R>, listen: L) -> Result<(Opened, Arrivals), Stopped>
+fn open<R, L>(opening: &Opening<'_, R>, listen: L) -> Result<(Box<Opened>, Box<Arrivals>), Stopped>
 where
     R: AllocGlobal + Clock + Eprint + Files<File = File> + Sync + Threads + Wait,
     R: Net<Stream = TcpStream, Listener = TcpListener>,
     L: FnOnce() -> io::Result<TcpListener> + Drop,
     requires { L.IsAlwaysCallable listen }
 {
+    let alloc = opening.rt.alloc();
     let (begun, listener) = opening.begin(listen)?;
-    let format = match begun.header() {
-        Some(header) => header.format(),
-        None => opening.plan.format,
+    let seats = begun.format(opening.plan).limits().seats as u32;
+    let hall = Hall::new(opening.plan.term(), seats);
+    let greeter = greeter_of(opening, &begun, &listener, &hall)?;
+    let opened = finish(opening, begun, &greeter);
+    let comers = match greeter {
+        Some(greeter) => greeter.into_comers(),
+        None => Vec::new(alloc),
     };
-    let hall = Hall::new(opening.plan.term(), format.limits().seats as u32);
-    let (opened, comers) = finish(opening, begun, &listener, &hall)?;
     let arrivals = Arrivals {
         listener,
         hall,
         comers,
     };
-    Ok((opened, arrivals))
+    Ok((opened?, Box::new(alloc, arrivals)?))
 }
 
 fn run<'a, R, L, O, W>(
@@ -221,7 +241,6 @@ where
     let opened = open(&opening, listen);
     watched.end(rt);
     let (opened, arrivals) = opened?;
-    let opened = Box::new(rt.alloc(), opened)?;
     let identity = opened.identity;
     say(out, "serving")?;
     let committed = serve_opened::<Brand, R, W>(
