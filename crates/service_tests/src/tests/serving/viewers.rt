@@ -78,8 +78,10 @@ fn a_viewer_s_fault_ends_it_alone(rt: HostRuntime) -> Result<(), Fail> {
 // A request for all of the large screen, whose answer is more than sockets hold.
 const WHOLE: [u8; 10] = *b"\x03\0\0\0\0\0\x08\0\x04\0";
 
-// How many bytes that answer has.
+// How many bytes that answer has, and how many of them tell that it is under way.
 const LENGTH: usize = 16 + 4 * 2048 * 1024;
+
+const BEGUN: usize = 16;
 
 // What the host asks after each update of the large screen.
 const MORE: [u8; 10] = *b"\x03\x01\0\0\0\0\x08\0\x04\0";
@@ -129,6 +131,7 @@ fn the_file_is_cut_off(rt: &HostRuntime, ends: Loopback, file: &str) -> Result<(
     let host = large_host(alloc, &ends.hosts)?;
     let one = viewer(rt, ends.viewers)?;
     one.say(&WHOLE)?;
+    one.skip(alloc, BEGUN)?;
     let mut length = fs::metadata(rt, file)?.len();
     // The first is committed once the second is written, and isn't read before the answer is.
     for update in [&RED, &GREEN] {
@@ -136,7 +139,7 @@ fn the_file_is_cut_off(rt: &HostRuntime, ends: Loopback, file: &str) -> Result<(
         length = longer(rt, file, length)?;
     }
     OpenOptions::new().write(true).open(rt, file)?.set_len(0)?;
-    one.skip(alloc, LENGTH)?;
+    one.skip(alloc, LENGTH - BEGUN)?;
     one.say(&ALL)?;
     one.hear_at_last(alloc, &GREEN, &CHANGES)
 }
