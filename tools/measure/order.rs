@@ -11,11 +11,11 @@ const SIDE: usize = 16;
 const COLUMNS: usize = WIDTH.div_ceil(SIDE);
 const TIMES: usize = 10;
 
-/// Where runs of places of a row lie, one behind another.
+/// Where runs of places of a row lie, one after another.
 trait Order {
     /// How many places a screen takes.
     const SIZE: usize;
-    /// The index of a place, and how many places to the right of it, with it, lie behind one another.
+    /// The index of a place, and how many places to the right of it, with it, lie after one another.
     fn run(x: usize, y: usize) -> (usize, usize);
 }
 

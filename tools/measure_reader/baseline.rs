@@ -371,7 +371,7 @@ fn paint_rre(bytes: &[u8], [x, y, w, h]: [usize; 4], screen: &mut [u32]) {
     }
 }
 
-// Paints a tile, and answers the bytes behind it.
+// Paints a tile, and answers the bytes after it.
 fn paint_tile<'a>(mut bytes: &'a [u8], [x, y, w, h]: [usize; 4], colors: &mut [u32; 2], screen: &mut [u32]) -> &'a [u8] {
     let mask = bytes[0];
     bytes = &bytes[1..];

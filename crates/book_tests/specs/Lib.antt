@@ -1,1 +1,1 @@
-pub mod OnePlace
+pub mod OnePixel

@@ -12,9 +12,9 @@ use terms::NoMemory;
 
 /// Marks a desk that threads share, and all that comes from it: a receipt of one mark is known to
 /// stand in the recording of that mark. A program has no such type of its own. It is generic over
-/// the mark, and is called with [`Brand`], where each call picks what the members are: the header
-/// of the recording, whether its disk is one that may crash, how many messages were accepted when
-/// it was shared, and what the [`Token`] names.
+/// the mark, and is called with [`Brand`], for which each call picks what the members are: the
+/// header of the recording, whether its disk is one that may crash, how many messages were accepted
+/// when it was shared, and what the [`Token`] names.
 pub trait Mark {
     ghost use Rattle.std.specs.Prelude.{ℕ};
     ghost use Rattle.gated_journal.specs.Recording.{Head};
@@ -60,7 +60,7 @@ impl Model for Token {
 }
 
 impl Token {
-    /// A new one; `NoMemory` where its one word finds no room.
+    /// A new one; `NoMemory` if its one word finds no room.
     pub fn new(alloc: Global) -> Result<Token, NoMemory> {
         let counter = Counter::new(alloc)?;
         Ok(Token {

@@ -27,7 +27,7 @@ seek_refusals = seeking.NotCommitted ∷ seeking.NotSeated ∷ []
 abbrev pub leave_refusals : List LeaveRefusal
 leave_refusals = leaving.NotSeated ∷ []
 
--- the number of a step's refusal: its place among those of the step
+-- the number of a step's refusal: its index among those of the step
 abbrev pub IsStepNumber : StepRefusal → ℕ → Type 0
 IsStepNumber (steps.Host why) number = IsNumber host_refusals why number
 IsStepNumber (steps.Take why) number = IsNumber take_refusals why number

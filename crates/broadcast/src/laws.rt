@@ -23,8 +23,9 @@ pub fn steps_only_append()
         → accepted_count new.book ≡ accepted_count old.book + accepted_by reply }
 {}
 
-/// Two runs, the second from where the first ended, are one run. A run that ended may be followed
-/// by one of no steps. What was handed out from the committed messages stands in them for good.
+/// Two runs, the second from the state in which the first ended, are one run. A run that ended may
+/// be followed by one of no steps. What was handed out from the committed messages stands in them
+/// for good.
 pub fn runs_go_on()
     ensures run { (head : Head) (old mid new : State) (first second : List Step) (replies more : List Reply)
         → IsRun head old first replies mid → IsRun head mid second more new → IsRun head old (first ++ second) (replies ++ more) new }
@@ -40,7 +41,7 @@ pub fn runs_go_on()
 /// However many runs, crashes and openings there are: the last crash leaves a recording of whole
 /// blocks whose messages are a beginning of those that the last run accepted, with all that was
 /// committed in any of the lives before the run in which its crash came; and each slice that a run
-/// of any life handed out stands in it, at its place.
+/// of any life handed out stands in it, at its position.
 pub fn any_number_of_runs_and_crashes()
     ensures { (head : Head) (first : Life) (lives : List Life) → AreLives head first lives
         → AllByRecursion (Keeps head (accepted_of (last_of first lives).last.after) (last_of first lives).left) (first ∷ lives) }

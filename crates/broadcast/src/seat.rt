@@ -1,14 +1,14 @@
-//! A viewer's place in the recording.
+//! A viewer's position in the recording.
 
 ghost use Rattle.std.specs.Prelude.{◌≡◌};
 ghost use Rattle.broadcast.specs.Seats.{SeatState};
 
 use std::marker::Model;
 
-/// Where a viewer begins.
+/// The position at which a viewer begins.
 #[derive(Clone, Copy, Debug, PartialEq, Eq)]
 pub enum Start {
-    /// Behind the committed messages: what is committed from now on.
+    /// After the committed messages: what is committed from now on.
     Live,
     /// After so many committed messages.
     At(u64),
@@ -17,7 +17,7 @@ pub enum Start {
 /// What a desk keeps of a seat: how many messages stand before the next one that it is handed, and
 /// whether that comes with the screen there.
 #[derive(Clone, Copy, Debug, PartialEq, Eq)]
-pub struct Place {
+pub struct Cursor {
     pub position: u64,
     pub fresh: bool,
 }
@@ -35,21 +35,21 @@ pub struct Seated {
 #[derive(Debug, Drop)]
 pub struct Seat {
     number: u32,
-    place: Place,
+    cursor: Cursor,
 }
 
 impl Model for Seat {
     ghost Value = { SeatState };
 
-    ghost view = { λ s. record { number = s.number; position = s.place.position; fresh = s.place.fresh } };
+    ghost view = { λ s. record { number = s.number; position = s.cursor.position; fresh = s.cursor.fresh } };
 }
 
 impl Seat {
-    /// A seat of this number, at this place.
-    pub(crate) fn new(number: u32, place: Place) -> Seat
-        ensures { result ≡ record { number = number; position = place.position; fresh = place.fresh } }
+    /// A seat of this number, at this position.
+    pub(crate) fn new(number: u32, cursor: Cursor) -> Seat
+        ensures { result ≡ record { number = number; position = cursor.position; fresh = cursor.fresh } }
     {
-        Seat { number, place }
+        Seat { number, cursor }
     }
 
     /// The seat's number, from 0.
@@ -63,27 +63,27 @@ impl Seat {
     pub fn position(&self) -> u64
         ensures { result ≡ self.now.position }
     {
-        self.place.position
+        self.cursor.position
     }
 
     /// Whether the next slice comes with the screen before it.
     pub fn is_fresh(&self) -> bool
         ensures { result ≡ self.now.fresh }
     {
-        self.place.fresh
+        self.cursor.fresh
     }
 
-    /// Where it stands.
-    pub(crate) fn place(&self) -> Place
+    /// Its position, and whether it is fresh.
+    pub(crate) fn cursor(&self) -> Cursor
         ensures { result ≡ record { position = self.now.position; fresh = self.now.fresh } }
     {
-        self.place
+        self.cursor
     }
 
     /// Moves it.
-    pub(crate) fn stand(&mut self, place: Place)
-        ensures { self.new ≡ record { number = self.old.number; position = place.position; fresh = place.fresh } }
+    pub(crate) fn stand(&mut self, cursor: Cursor)
+        ensures { self.new ≡ record { number = self.old.number; position = cursor.position; fresh = cursor.fresh } }
     {
-        self.place = place;
+        self.cursor = cursor;
     }
 }

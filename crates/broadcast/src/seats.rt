@@ -3,7 +3,7 @@
 ghost use Rattle.std.specs.Prelude.{◌≡◌, ◌<◌, List, Option, IfSome, MatchOption, Some, None, length};
 ghost use Rattle.pixel_format.specs.Limits.{limits};
 
-use crate::seat::Place;
+use crate::seat::Cursor;
 use arrayvec::ArrayVec;
 use pixel_format::Format;
 use std::marker::Model;
@@ -14,16 +14,16 @@ const MOST_SEATS: usize = 256;
 /// The seats of a desk, by their numbers. Contracts see the list of what is kept of each.
 #[derive(Drop)]
 pub struct Seats {
-    places: ArrayVec<Option<Place>, MOST_SEATS>,
+    cursors: ArrayVec<Option<Cursor>, MOST_SEATS>,
 }
 
 impl Model for Seats {
     ghost use Rattle.std.specs.Prelude.{List, Option};
-    ghost use Rattle.broadcast.specs.declared.seat.Place.{Place};
+    ghost use Rattle.broadcast.specs.declared.seat.Cursor.{Cursor};
 
-    ghost Value = { List (Option Place) };
+    ghost Value = { List (Option Cursor) };
 
-    ghost view = { λ s. s.places.items };
+    ghost view = { λ s. s.cursors.items };
 }
 
 impl Seats {
@@ -34,20 +34,20 @@ impl Seats {
         ensures free { AreFree result }
         ensures all { length result ≡ (limits format).seats }
     {
-        let mut places = ArrayVec::new();
+        let mut cursors = ArrayVec::new();
         for _ in 0..format.limits().seats {
-            places.push(None);
+            cursors.push(None);
         }
-        Seats { places }
+        Seats { cursors }
     }
 
     /// What is kept of a seat.
-    pub fn at(&self, number: u32) -> Option<Place>
+    pub fn at(&self, number: u32) -> Option<Cursor>
         ensures { result ≡ seat_at self.now number }
     {
         let number = number as usize;
-        if number < self.places.len() {
-            self.places[number]
+        if number < self.cursors.len() {
+            self.cursors[number]
         } else {
             None
         }
@@ -58,8 +58,8 @@ impl Seats {
         ensures free { result ≡ first_free self.now }
         ensures within { IfSome result (λ n. n < length self.now) }
     {
-        for number in 0..self.places.len() {
-            if self.places[number].is_none() {
+        for number in 0..self.cursors.len() {
+            if self.cursors[number].is_none() {
                 return Some(number as u32);
             }
         }
@@ -67,10 +67,10 @@ impl Seats {
     }
 
     /// Keeps this of a seat.
-    pub fn set(&mut self, number: u32, place: Option<Place>)
+    pub fn set(&mut self, number: u32, cursor: Option<Cursor>)
         requires { number < length self.old }
-        ensures { self.new ≡ with_seat self.old number place }
+        ensures { self.new ≡ with_seat self.old number cursor }
     {
-        self.places[number as usize] = place;
+        self.cursors[number as usize] = cursor;
     }
 }

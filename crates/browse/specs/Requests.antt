@@ -7,7 +7,7 @@ use Rattle.file_commands.specs.declared.picturing.Moment.TheVariants.{Count, Tim
 use Rattle.browse.specs.declared.request.Asked.{Asked}
 use Rattle.browse.specs.declared.request.Asked.TheVariants.{Page, Script, Style, Times, Picture}
 
--- The query of a target asks for this moment: its number behind its kind.
+-- The query of a target asks for this moment: its number after its kind.
 abbrev pub IsQueryOf : Moment → List ℕ → Type 0
 IsQueryOf (Time time) query = (digits : List ℕ) × (query ≡ codes "at=" ++ digits) × (number_of (2 ^ 32) digits ≡ Some time)
 IsQueryOf (Count count) query = (digits : List ℕ) × (query ≡ codes "message=" ++ digits) × (number_of (2 ^ 64) digits ≡ Some count)

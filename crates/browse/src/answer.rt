@@ -20,7 +20,7 @@ pub struct Head<'a> {
 }
 
 /// Writes what stands before the body. No other page may use what is served, nothing is kept by a
-/// browser, the page uses nothing from elsewhere, and the connection ends behind the body.
+/// browser, the page uses nothing from elsewhere, and the connection ends after the body.
 pub fn write_head<W: Write>(out: &mut W, head: Head<'_>) -> io::Result<()> {
     let Head {
         status,

@@ -67,22 +67,22 @@ impl Guests {
         }
     }
 
-    // Where the connection of this number stands.
+    // The index of the connection of this number.
     fn position_of(&self, number: u64) -> Option<usize>
         ensures { result ≡ position (has_number number) self.now }
     {
         self.guests.iter().position(|guest| guest.number == number)
     }
 
-    // Where the first connection stands that gives way at this time.
+    // The index of the first connection that gives way at this time.
     fn first_silent(&self, now: u64) -> Option<usize>
         ensures { result ≡ position (is_silent now) self.now }
     {
         self.guests.iter().position(|guest| is_silent(guest, now))
     }
 
-    /// Receives a connection of this number at this time. If as many as may be are served, it takes
-    /// the place of the first that has said nothing for a second, without a whole request.
+    /// Receives a connection of this number at this time. If as many as may be are served, it
+    /// replaces the first that has said nothing for a second, without a whole request.
     pub fn enter(&mut self, number: u64, now: u64) -> Entrance
         ensures free { length self.old < most → (result ≡ Entrance.Free)
             × (self.new ≡ self.old ++ record { number = number; heard = now; is_answered = false } ∷ []) }

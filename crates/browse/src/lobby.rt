@@ -55,7 +55,7 @@ impl Lobby {
     }
 
     /// Receives a connection: the number under which it is served, and its socket. It isn't served
-    /// where all are busy, or memory runs out. One that gives way to it is shut.
+    /// if all are busy, or memory runs out. One that gives way to it is shut.
     pub fn enter<R: Clock + Wait>(
         &self,
         rt: &R,

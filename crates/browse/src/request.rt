@@ -72,25 +72,25 @@ fn time(digits: &[u8]) -> Option<u32>
     u32::try_from(decimal_number(digits)?).ok()
 }
 
-// What stands behind a front, where bytes begin with it.
-fn behind<'a>(bytes: &'a [u8], front: &[u8]) -> Option<&'a [u8]>
+// What follows a front, if bytes begin with it.
+fn following<'a>(bytes: &'a [u8], front: &[u8]) -> Option<&'a [u8]>
     ensures { MatchOption result ((rest : List ℕ) → bytes.now ≢ front.now ++ rest) (λ rest. bytes.now ≡ front.now ++ rest.now) }
 {
     bytes.strip_prefix(front)
 }
 
-// The moment that is asked for behind `/picture?`.
+// The moment that is asked for after `/picture?`.
 fn moment(query: &[u8]) -> Option<Moment>
     ensures { MatchOption result ((moment : MomentValue) → IsQueryOf moment query.now → ⊥) (λ moment. IsQueryOf moment query.now) }
 {
-    if let Some(digits) = behind(query, b"at=") {
+    if let Some(digits) = following(query, b"at=") {
         return Some(Moment::Time(time(digits)?));
     }
-    let digits = behind(query, b"message=")?;
+    let digits = following(query, b"message=")?;
     Some(Moment::Count(decimal_number(digits)?))
 }
 
-/// What a request's target asks for (RFC 9112, section 3.2.1); none where there is no such thing.
+/// What a request's target asks for (RFC 9112, section 3.2.1); `None` if there is no such thing.
 #[tactic(auto, using(crate::proofs::Queries::no_target, crate::proofs::Queries::no_picture))]
 pub fn asked_by(target: &[u8]) -> Option<Asked>
     ensures asked { MatchOption result ((asked : AskedValue) → IsTargetOf asked target.now → ⊥) (λ asked. IsTargetOf asked target.now) }
@@ -109,7 +109,7 @@ pub fn asked_by(target: &[u8]) -> Option<Asked>
     if target == b"/times".as_slice() {
         return Some(Asked::Times);
     }
-    let query = behind(target, b"/picture?")?;
+    let query = following(target, b"/picture?")?;
     Some(Asked::Picture(moment(query)?))
 }
 
@@ -175,8 +175,7 @@ fn judge_whole(head: &[u8], request: RequestSpans, fields: &[HeaderSpan]) -> Jud
 }
 
 /// What the bytes that have come so far are: the head of a request (RFC 9112, section 2.1), which
-/// asks for something or is refused, or the beginning of one. What stands behind a head isn't looked
-/// at.
+/// asks for something or is refused, or the beginning of one. What follows a head isn't looked at.
 pub fn judge(head: &[u8]) -> Judged
     ensures asked { (asked : AskedValue) → result ≡ Judged.Asked asked → IsAskedBy head.now asked }
     ensures not_found { result ≡ Judged.Refused Fault.NotFound → AsksForNothing head.now }

@@ -5,7 +5,7 @@ ghost use Rattle.std.specs.Prelude.{◌<◌};
 use crate::connection::attend;
 use crate::lobby::Lobby;
 use crate::site::Site;
-use file_commands::{Ended, Places, Refusal, answer, open_path};
+use file_commands::{Ended, Refusal, answer, open_path};
 use file_disk::{Progress, SystemError};
 use sockets::{Accepted, Bell, Stop, accept, wait_for_stop};
 use std::alloc::Global;
@@ -18,28 +18,17 @@ use std::thread::{Scope, Threads};
 use std::time::Clock;
 use std::{io, thread};
 
-/// Which recording is looked at, and where.
+/// Which recording is looked at, and at which address.
 #[derive(Clone, Copy)]
 pub struct Browsing<'a> {
     /// The recording's file.
     pub recording: &'a str,
-    /// Where browsers connect to: an address with a port, or a port of this machine alone.
+    /// What browsers connect to: an address with a port, or a port of this machine alone.
     pub listen: &'a str,
     /// When it ends.
     pub stop: Stop,
-    /// Whether a second line says what the system said where it is refused.
+    /// Whether a second line says what the system said if it is refused.
     pub is_verbose: bool,
-}
-
-impl<'a> Browsing<'a> {
-    // What its words name.
-    fn places(&self) -> Places<'a> {
-        Places {
-            source: self.recording,
-            out: "",
-            listen: self.listen,
-        }
-    }
 }
 
 // Serves a connection on a thread of its own, if it is one of few. One too many is closed.
@@ -102,34 +91,37 @@ fn serve_in<'s, E, R: Threads + Clock + Eprint + Wait + Sync>(
 }
 
 // The recording, opened for reading alone, as it is served.
-fn open<R: AllocGlobal + Clock + Files<File = File> + Net>(
+fn open<'a, R: AllocGlobal + Clock + Files<File = File> + Net>(
     rt: &R,
-    path: &str,
+    path: &'a str,
     progress: Progress,
-) -> Result<Site, Ended> {
+) -> Result<Site, Ended<'a>> {
     let index = open_path(rt, path, progress)?;
     Site::new(rt.alloc(), index, Lobby::new(rt)?, Bell::new(rt)?)
 }
 
-// What fails of a listener.
-fn broken(error: io::Error) -> Refusal {
-    Refusal::Net(SystemError::of(&error))
+// What the listener at an address gave, or why it fails.
+fn listened<T>(outcome: io::Result<T>, address: &str) -> Result<T, Refusal<'_>> {
+    match outcome {
+        Ok(it) => Ok(it),
+        Err(error) => Err(Refusal::Net(address, SystemError::of(&error))),
+    }
 }
 
-// Listens, says where, and serves until it is to end.
-fn serve<R, L, O: Write>(
+// Listens, says at which address, and serves until it is to end.
+fn serve<'a, R, L, O: Write>(
     rt: &R,
     site: &Site,
-    stop: Stop,
+    what: &Browsing<'a>,
     listen: L,
     out: &mut O,
-) -> Result<(), Ended>
+) -> Result<(), Ended<'a>>
 where
     R: Clock + Eprint + Sync + Threads + Wait,
     L: FnOnce() -> io::Result<TcpListener> + Drop,
     requires { L.IsAlwaysCallable listen }
 {
-    let listener = listen().map_err(broken)?;
+    let listener = listened(listen(), what.listen)?;
     listener.set_nonblocking(true)?;
     let address = listener.local_addr()?;
     writeln!(out, "browsing http://{address}/")?;
@@ -137,18 +129,18 @@ where
     let served = thread::scope(
         thread::scope_env(),
         rt,
-        |scope| serve_in(rt, scope, site, &listener, stop),
+        |scope| serve_in(rt, scope, site, &listener, what.stop),
     );
-    Ok(served.map_err(broken)?)
+    Ok(listened(served, what.listen)?)
 }
 
-fn run<R, L, O: Write>(
+fn run<'a, R, L, O: Write>(
     rt: &R,
-    what: &Browsing<'_>,
+    what: &Browsing<'a>,
     listen: L,
     progress: Progress,
     out: &mut O,
-) -> Result<(), Ended>
+) -> Result<(), Ended<'a>>
 where
     R: AllocGlobal + Clock + Eprint + Files<File = File> + Sync + Threads + Wait,
     R: Net<Stream = TcpStream, Listener = TcpListener>,
@@ -156,7 +148,7 @@ where
     requires { L.IsAlwaysCallable listen }
 {
     let site = open(rt, what.recording, progress)?;
-    serve(rt, &site, what.stop, listen, out)
+    serve(rt, &site, what, listen, out)
 }
 
 /// Serves a page on which a recording, which is opened for reading alone, is looked at, to browsers
@@ -177,8 +169,8 @@ where
     L: FnOnce() -> io::Result<TcpListener> + Drop,
     requires { L.IsAlwaysCallable listen }
 {
-    let places = what.is_verbose.then_some(what.places());
-    answer("browse", run(rt, &what, listen, progress, out), places, err)
+    let outcome = run(rt, &what, listen, progress, out);
+    answer("browse", outcome, what.is_verbose, err)
 }
 
 /// Listens at an address; a number alone is a port of this machine, which no other machine reaches.

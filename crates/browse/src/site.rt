@@ -58,7 +58,7 @@ impl<W: Write> StretchSink for Members<'_, W> {
 
 // What a page has to know of a recording, as JSON: its size, how many messages it has, its length
 // and how long a stretch is, both in milliseconds, and each stretch in which something came.
-fn write_times<W: Write>(index: &mut Indexed<FileDisk>, out: &mut W) -> Result<(), Ended> {
+fn write_times<W: Write>(index: &mut Indexed<FileDisk>, out: &mut W) -> Result<(), Ended<'static>> {
     let ScreenSize { width, height } = index.header().size();
     let (messages, end) = (index.committed(), index.last_time());
     let every = end / MOST_STRETCHES + 1;
@@ -88,8 +88,8 @@ fn write_screen<W: Write>(alloc: Global, screen: &Screen, out: &mut W) -> io::Re
     write_picture(alloc, screen, PictureFormat::Png, out)
 }
 
-// Why a recording can't be read, where that is why there is no picture.
-fn failure_of(refusal: Refusal) -> Option<ReplayFault> {
+// Why a recording can't be read, if that is why there is no picture.
+fn failure_of(refusal: Refusal<'_>) -> Option<ReplayFault> {
     match refusal {
         Refusal::Screen(ReplayFault::NotCommitted | ReplayFault::NoMemory) => None,
         Refusal::Screen(fault) => Some(fault),
@@ -98,7 +98,7 @@ fn failure_of(refusal: Refusal) -> Option<ReplayFault> {
 }
 
 // Why there is no picture.
-fn write_refusal<W: Write>(refusal: Refusal, out: &mut W) -> io::Result<()> {
+fn write_refusal<W: Write>(refusal: Refusal<'_>, out: &mut W) -> io::Result<()> {
     match refusal {
         Refusal::Screen(ReplayFault::NotCommitted) => {
             write_failure(out, "404 Not Found", "the recording has fewer messages\n")
@@ -121,7 +121,7 @@ impl Site {
         mut index: Box<Indexed<FileDisk>>,
         lobby: Lobby,
         bell: Bell,
-    ) -> Result<Site, Ended> {
+    ) -> Result<Site, Ended<'static>> {
         let mut times = Vec::new(alloc);
         write_times(&mut index, &mut times)?;
         Ok(Site {

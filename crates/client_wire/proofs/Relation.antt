@@ -185,8 +185,8 @@ format_again : (bytes : List ℕ) (f : Format) → IsSetPixelFormat bytes f → 
 format_again bytes f is =
     let body : List ℕ = is.padding ++ is.format in
     let length_is : length body ≡ 19 = length-append is.padding is.format ∙ omega (arith, is.padding_length, is.format_length) in
-    let behind : drop 3 body ≡ is.format = drop_at is.padding is.format 3 is.padding_length in
-    let ok : format_at (drop 3 body) ≡ Ok f = ap format_at behind ∙ is_accepted is.format f is.is is.true_color is.valid in
+    let following : drop 3 body ≡ is.format = drop_at is.padding is.format 3 is.padding_length in
+    let ok : format_at (drop 3 body) ≡ Ok f = ap format_at following ∙ is_accepted is.format f is.is is.true_color is.valid in
     kind_again 0 bytes body is.bytes_are ∙ body_of_pixel_format body ∙ pixel_format_read body body [] (whole_again 19 body length_is)
     ∙ ap (λ r. judged r []) ok
 

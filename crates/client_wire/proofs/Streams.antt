@@ -144,7 +144,7 @@ pub empty_list : (xs : List ℕ) → length xs ≡ 0 → xs ≡ []
 empty_list [] e = refl
 empty_list (x ∷ xs) e = absurd (omega arith)
 
--- where no byte is read over, what is kept is the rest
+-- if no byte is read over, what is kept is the rest
 pub stands_kept : (kept : List ℕ) (passed : ℕ) (rest : List ℕ) → passed ≡ 0 → StandsFor kept passed rest → rest ≡ kept
 stands_kept kept passed rest none s =
     let empty : s.skipped ≡ [] = empty_list s.skipped (s.count ∙ none) in
@@ -155,7 +155,7 @@ stands_whole kept = record { skipped = []; count = refl; is = sym (append-nil ke
 
 -- ---- bytes that are passed over
 
--- where some of the bytes that are left pass, the others are left
+-- if some of the bytes that are left pass, the others are left
 pub over_more : {A E : Type 0} (read : List ℕ → Reading A E) (over : ℕ → List ℕ → Reading A E)
     → ((j : ℕ) (taken more : List ℕ) → over (length taken + j) (taken ++ more) ≡ over j more) → (bytes : List ℕ) (passed left n : ℕ) → n < left
     → ((skipped more : List ℕ) → length skipped ≡ passed → read ((bytes ++ skipped) ++ more) ≡ over left more)
@@ -171,7 +171,7 @@ over_more read over skips bytes passed left n few link skipped more count =
     ap (λ z. (bytes ++ z) ++ more) (sym both) ∙ ap (λ z. z ++ more) (sym (append_assoc bytes a b)) ∙ append_assoc (bytes ++ a) b more in
     ap read stream ∙ link a (b ++ more) length_a ∙ ap (λ k. over k (b ++ more)) left_is ∙ skips (left - n) b more
 
--- where bytes pass, nothing is given
+-- if bytes pass, nothing is given
 pub pass_goes : {M G : Type 0} (read : List ℕ → Reading M WireFault) (give : M → List ℕ → List G) (bytes : List ℕ) (passed n : ℕ) (old : List G) (rest taken : List ℕ)
     → StandsFor bytes passed rest → length taken ≡ n → Moves read give bytes (passed + n) old old (rest ++ taken)
 pass_goes read give bytes passed n old rest taken s is = record {

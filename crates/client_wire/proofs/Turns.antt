@@ -82,7 +82,7 @@ linked_more bytes piece longer stage l is = record {
   begun = rw (is, length-append) (omega (arith, l.begun));
 }
 
--- where the field isn't whole, the message waits
+-- if the field isn't whole, the message waits
 field_waits : (bytes : List ℕ) (stage : Stage) → IsInField bytes stage → message_at bytes ≡ More
 field_waits bytes stage at =
     let few : length (drop (start_of stage) bytes) < wants_of stage = rw (length-drop) (omega (arith, at.linked.begun, at.unfinished)) in
@@ -126,7 +126,7 @@ over_goes n bytes o is few = record {
   short = is.short;
 }
 
--- where all have passed, the message is whole
+-- if all have passed, the message is whole
 pub over_whole : (bytes : List ℕ) (o : Over) (rest taken : List ℕ) → IsOver bytes o → StandsFor bytes o.passed rest → length taken ≡ o.left
     → message_at (rest ++ taken) ≡ Got (messages.Input o.kind) []
 over_whole bytes o rest taken over s is =
@@ -167,7 +167,7 @@ head_there bytes (positions.ReadOver o) at = λ more rest kind e. at.short
 pub at_head : (p : PartialMessage) → IsAt p → IsHeadAlone p.bytes.items
 at_head p at = head_there p.bytes.items p.position at
 
--- bytes are taken behind others
+-- bytes are taken after others
 pub takes_both : (a b : ℕ) (old between new : PartialMessage) (n : ℕ) → n ≡ a + b → TakesFor a old between → TakesFor b between new → TakesFor n old new
 takes_both a b old between new n is first second = record {
   kept = omega (arith, first.kept, second.kept);

@@ -18,7 +18,7 @@ abbrev pub judged : Result Format FormatFault → List ℕ → Reading ClientMes
 judged (Ok f) rest = Got (messages.SetPixelFormat f) rest
 judged (Err e) rest = Bad (faults.BadFormat e)
 
--- SetPixelFormat, behind its type 0: three bytes of padding, and the 16 bytes of a format (sections
+-- SetPixelFormat, after its type 0: three bytes of padding, and the 16 bytes of a format (sections
 -- 7.5.1 and 7.4)
 unfoldable pub set_pixel_format_at : List ℕ → Reading ClientMessage WireFault
 set_pixel_format_at bytes = field 19 bytes >>= λ f rest. judged (format_at (drop 3 f)) rest
@@ -32,12 +32,12 @@ numbers_of _ = []
 unfoldable pub encodings_at : ℕ → List ℕ → Reading ClientMessage WireFault
 encodings_at count bytes = field (4 * count) bytes >>= λ f rest. Got (messages.SetEncodings (numbers_of f)) rest
 
--- SetEncodings, behind its type 2: a byte of padding, the number of encodings, and the number of
+-- SetEncodings, after its type 2: a byte of padding, the number of encodings, and the number of
 -- each (section 7.5.2)
 unfoldable pub set_encodings_at : List ℕ → Reading ClientMessage WireFault
 set_encodings_at bytes = field 3 bytes >>= λ f rest. encodings_at (u16_at f 1) rest
 
--- FramebufferUpdateRequest, behind its type 3: the incremental flag, which is true when it isn't 0,
+-- FramebufferUpdateRequest, after its type 3: the incremental flag, which is true when it isn't 0,
 -- and x, y, width and height (section 7.5.3)
 unfoldable pub request_at : List ℕ → Reading ClientMessage WireFault
 request_at bytes = field 9 bytes >>= λ f rest.
@@ -47,8 +47,8 @@ request_at bytes = field 9 bytes >>= λ f rest.
 unfoldable pub input_at : ℕ → ℕ → List ℕ → Reading ClientMessage WireFault
 input_at kind left bytes = field left bytes >>= λ f rest. Got (messages.Input kind) rest
 
--- ClientCutText, behind its type 6: three bytes of padding, the text's length, and the text
--- (section 7.5.6)
+-- ClientCutText, after its type 6: three bytes of padding, the text's length, and the text (section
+-- 7.5.6)
 unfoldable pub cut_text_at : List ℕ → Reading ClientMessage WireFault
 cut_text_at bytes = field 7 bytes >>= λ f rest. input_at 6 (u32_at f 3) rest
 

@@ -19,7 +19,7 @@ pub record IsSetPixelFormat (bytes : List ℕ) (f : Format) : Type 0 where
   pub true_color : 0 < slice_index format 3
   pub valid : IsValid f
 
--- signed numbers one behind the other, of four bytes each
+-- signed numbers one after the other, of four bytes each
 abbrev pub AreNumbers : List ℤ → List ℕ → Type 0
 AreNumbers [] bytes = bytes ≡ []
 AreNumbers (n ∷ ns) bytes = (four : List ℕ) × (rest : List ℕ) × (bytes ≡ four ++ rest) × (length four ≡ 4)

@@ -1,4 +1,4 @@
--- Where a reader stands in a message: what comes next, and what the bytes from there on say, by the
+-- How far a reader is in a message: what comes next, and what the bytes from there on say, by the
 -- grammar.
 use Rattle.std.specs.Prelude.{◌≡◌, ℕ, ◌+◌, ◌*◌, ◌<◌, ◌≤◌, ◌^◌, List, ◌++◌, length, drop, max, vec_capacity}
 use Rattle.terms.specs.Appending.{room_for}
@@ -25,7 +25,7 @@ wants_of (stages.Encodings count) = 4 * count
 wants_of stages.Request = 9
 wants_of stages.TextHead = 7
 
--- where in the message the field begins
+-- the offset in the message at which the field begins
 abbrev pub start_of : Stage → ℕ
 start_of stages.Type = 0
 start_of (stages.Encodings count) = 4
@@ -45,12 +45,12 @@ abbrev pub position_at : Position → List ℕ → Reading ClientMessage WireFau
 position_at (positions.Field stage) bytes = resume stage bytes
 position_at (positions.ReadOver o) bytes = input_at o.kind o.left bytes
 
--- what the bytes behind a field say
+-- what the bytes after a field say
 abbrev pub follow : AfterField → List ℕ → Reading ClientMessage WireFault
 follow (steps.Goes p) bytes = position_at p bytes
 follow (steps.Whole m) bytes = Got m bytes
 
--- the start of a field that has bytes, or of some bytes that are read over, at this place of the
+-- the start of a field that has bytes, or of some bytes that are read over, at this offset of the
 -- message
 abbrev pub BeginsAt : ℕ → Position → Type 0
 BeginsAt at (positions.Field stage) = (start_of stage ≡ at) × (0 < wants_of stage) × (at + wants_of stage ≤ kept_limit)
@@ -72,7 +72,7 @@ pub record IsInField (bytes : List ℕ) (stage : Stage) : Type 0 where
   pub unfinished : length bytes < start_of stage + wants_of stage
   pub short : start_of stage + wants_of stage ≤ kept_limit
 
--- The reader stands in bytes that are read over. Behind what is kept and as many bytes as have
+-- The reader stands in bytes that are read over. After what is kept and as many bytes as have
 -- passed, whichever they were, those that are left come to the message's end.
 pub record IsOver (bytes : List ℕ) (o : Over) : Type 0 where
   pub link : (skipped more : List ℕ) → length skipped ≡ o.passed
@@ -81,7 +81,7 @@ pub record IsOver (bytes : List ℕ) (o : Over) : Type 0 where
   pub bound : o.passed + o.left < 2 ^ 32
   pub short : length bytes ≤ head_limit
 
--- where the reader stands
+-- the reader is at this position
 abbrev pub IsAtPosition : List ℕ → Position → Type 0
 IsAtPosition bytes (positions.Field stage) = IsInField bytes stage
 IsAtPosition bytes (positions.ReadOver o) = IsOver bytes o

@@ -4,7 +4,7 @@ use Rattle.terms.specs.Reading.{Reading, Got, More, Bad}
 use Rattle.terms.specs.declared.wire_fault.WireFault.{WireFault}
 use Rattle.terms.specs.Fault.{UnlessMemory}
 
--- the value and the bytes behind it, nothing where they are too few, or the fault
+-- the value and the bytes after it, nothing if they are too few, or the fault
 abbrev pub Says : {X A : Type 0} → (X → A) → (X → List ℕ) → Result (Option X) WireFault → Reading A WireFault → Type 0
 Says value rest (Ok (Some x)) reading = reading ≡ Got (value x) (rest x)
 Says value rest (Ok None) reading = reading ≡ More

@@ -45,7 +45,7 @@ pub record StandsFor (kept : List ℕ) (passed : ℕ) (rest : List ℕ) : Type 0
 abbrev pub given_of : {M G : Type 0} → (M → List ℕ → List G) → List (Part M) → List G
 given_of give parts = flat_map (λ p. give p.message p.bytes) parts
 
--- what new has behind old is given of the messages that the stream begins with
+-- what new has after old is given of the messages that the stream begins with
 pub record Gives {M G : Type 0} (read : List ℕ → Reading M WireFault) (give : M → List ℕ → List G) (old new : List G) (stream rest : List ℕ) : Type 0 where
   pub parts : List (Part M)
   pub given : new ≡ old ++ given_of give parts
@@ -66,8 +66,8 @@ pub record Goes {M G : Type 0} (read : List ℕ → Reading M WireFault) (give :
   pub stands : StandsFor kept passed rest
   pub waits : read rest ≡ More
 
--- The messages before the place where a reader stops are given. Unless memory ran out there, a
--- fault of the stream stands at that place.
+-- The messages before the offset at which a reader stops are given. Unless memory ran out there, a
+-- fault of the stream stands at that offset.
 pub record Stops {M G : Type 0} (read : List ℕ → Reading M WireFault) (give : M → List ℕ → List G) (f : WireFault) (old new : List G) (stream : List ℕ) : Type 0 where
   pub rest : List ℕ
   pub gives : Gives read give old new stream rest

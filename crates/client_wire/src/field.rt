@@ -11,7 +11,7 @@ use pixel_format::PixelFormat;
 use std::alloc::{AllocError, Global};
 use terms::{WireFault, read_u16, read_u32};
 
-/// The message of the field behind the type of a SetPixelFormat (RFC 6143, section 7.5.1).
+/// The message of the field after the type of a SetPixelFormat (RFC 6143, section 7.5.1).
 pub fn pixel_format_in(field: &[u8]) -> Result<ClientMessage, WireFault>
     requires { length field.now ≡ 19 }
     ensures { MatchResult result
@@ -33,15 +33,14 @@ pub fn encodings_in(alloc: Global, field: &[u8]) -> Result<Encodings, AllocError
 {
     let mut numbers = Vec::new(alloc);
     let mut rest = field;
-    while let [_, _, _, _, behind @ ..] = rest {
+    while let [_, _, _, _, following @ ..] = rest {
         numbers.push(read_u32(rest, 0).cast_signed())?;
-        rest = behind;
+        rest = following;
     }
     Ok(Encodings::from_vec(numbers))
 }
 
-/// The message of the field behind the type of a FramebufferUpdateRequest (RFC 6143, section
-/// 7.5.3).
+/// The message of the field after the type of a FramebufferUpdateRequest (RFC 6143, section 7.5.3).
 pub fn request_in(field: &[u8]) -> ClientMessage
     requires { length field.now ≡ 9 }
     ensures { result ≡ ClientMessage.Request (is_flag (slice_index field.now 0))

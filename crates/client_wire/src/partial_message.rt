@@ -1,4 +1,4 @@
-//! Where a reader stands in a message.
+//! How far a reader is in a message.
 
 ghost use Rattle.std.specs.Prelude.{◌≡◌, ℕ, ◌<◌, ◌≤◌, ◌^◌, ◌+◌, ◌++◌, [], ◌∷◌, List, length, take, IfOk, OnOk, IfErr, OnErr, Ok, Err, vec_capacity};
 ghost use Rattle.terms.specs.Reading.{Bad};
@@ -16,19 +16,19 @@ use terms::{WireFault, append_come};
 pub enum Stage {
     /// The message's type.
     Type,
-    /// Behind the type of a SetPixelFormat: padding, and the format.
+    /// After the type of a SetPixelFormat: padding, and the format.
     PixelFormat,
-    /// Behind the type of a SetEncodings: padding, and the number of encodings.
+    /// After the type of a SetEncodings: padding, and the number of encodings.
     EncodingsHead,
     /// The numbers of so many encodings.
     Encodings { count: u16 },
-    /// Behind the type of a FramebufferUpdateRequest: the flag and the area.
+    /// After the type of a FramebufferUpdateRequest: the flag and the area.
     Request,
-    /// Behind the type of a ClientCutText: padding, and the text's length.
+    /// After the type of a ClientCutText: padding, and the text's length.
     TextHead,
 }
 
-/// An input message of this type: how many bytes behind those that are kept have passed, and how
+/// An input message of this type: how many bytes after those that are kept have passed, and how
 /// many are left.
 #[derive(Clone, Copy)]
 pub struct Over {
@@ -80,7 +80,7 @@ impl Stage {
         }
     }
 
-    /// Where in the message the field begins.
+    /// The offset in the message at which the field begins.
     pub fn start(self) -> usize
         ensures value { result ≡ start_of self }
         ensures bound { result ≤ 4 }
@@ -142,7 +142,7 @@ impl PartialMessage {
         Ok(())
     }
 
-    // The field is whole: goes on behind it, or gives the message.
+    // The field is whole: goes on after it, or gives the message.
     fn advance(
         &mut self,
         alloc: Global,

@@ -8,7 +8,7 @@ use crate::message::ClientMessage;
 use std::alloc::Global;
 use terms::{WireFault, field, read_u16, read_u32};
 
-// What the bytes behind the type of a SetPixelFormat begin with.
+// What the bytes after the type of a SetPixelFormat begin with.
 fn set_pixel_format(bytes: &[u8]) -> Result<Option<(ClientMessage, &[u8])>, WireFault>
     ensures { Says (λ x. x.0) (λ x. x.1.now) result (set_pixel_format_at bytes.now) }
 {
@@ -65,8 +65,8 @@ fn cut_text(bytes: &[u8]) -> Result<Option<(ClientMessage, &[u8])>, WireFault>
     input(6, length as usize, text)
 }
 
-/// The message that the bytes begin with, and the bytes behind it; `None` where they are too few
-/// for it, and the fault that they begin with. It reads the bytes from their front, while a
+/// The message that the bytes begin with, and the bytes after it; `None` if they are too few for
+/// it, and the fault that they begin with. It reads the bytes from their front, while a
 /// `ClientReader` takes them in pieces.
 pub fn read_client_message(
     alloc: Global,

@@ -54,7 +54,7 @@ impl ClientReader {
 
     /// Takes the next piece of the stream, and appends each message that is whole now. A fault is
     /// answered at the last byte of the field that holds it, once the messages before it are
-    /// appended; from then on each call answers the same fault and does nothing else, also where
+    /// appended; from then on each call answers the same fault and does nothing else, also if
     /// memory ran out.
     pub fn feed(&mut self, piece: &[u8], out: &mut Vec<ClientMessage>) -> Result<(), WireFault>
         // The messages that are whole are given, and the reader stands for the rest.

@@ -12,8 +12,8 @@ use crate::partial_message::{AfterField, Over, Position, Stage};
 use std::alloc::Global;
 use terms::{WireFault, read_u16, read_u32};
 
-// Behind the type of a message.
-fn behind_type(kind: u8) -> Result<Position, WireFault>
+// After the type of a message.
+fn after_type(kind: u8) -> Result<Position, WireFault>
     ensures goes { IfOk result (λ p. (more : List ℕ) → body_at kind more ≡ position_at p more) }
     ensures begins { IfOk result (BeginsAt 1) }
     ensures faults { IfErr result (λ f. (more : List ℕ) → body_at kind more ≡ Bad f) }
@@ -35,8 +35,8 @@ fn behind_type(kind: u8) -> Result<Position, WireFault>
     }
 }
 
-// Behind the head of a SetEncodings.
-fn behind_encodings_head(alloc: Global, field: &[u8]) -> AfterField
+// After the head of a SetEncodings.
+fn after_encodings_head(alloc: Global, field: &[u8]) -> AfterField
     requires { length field.now ≡ 3 }
     ensures goes { (more : List ℕ)
         → resume Stage.EncodingsHead (field.now ++ more) ≡ follow result more }
@@ -50,8 +50,8 @@ fn behind_encodings_head(alloc: Global, field: &[u8]) -> AfterField
     AfterField::Goes(Position::Field(Stage::Encodings { count }))
 }
 
-// Behind the head of a ClientCutText.
-fn behind_text_head(field: &[u8]) -> AfterField
+// After the head of a ClientCutText.
+fn after_text_head(field: &[u8]) -> AfterField
     requires { length field.now ≡ 7 }
     ensures goes { (more : List ℕ)
         → resume Stage.TextHead (field.now ++ more) ≡ follow result more }
@@ -74,14 +74,14 @@ pub fn step(alloc: Global, stage: Stage, field: &[u8]) -> Result<AfterField, Wir
         ((more : List ℕ) → resume stage (field.now ++ more) ≡ Bad f)) }
 {
     match stage {
-        Stage::Type => Ok(AfterField::Goes(behind_type(field[0])?)),
+        Stage::Type => Ok(AfterField::Goes(after_type(field[0])?)),
         Stage::PixelFormat => Ok(AfterField::Whole(pixel_format_in(field)?)),
-        Stage::EncodingsHead => Ok(behind_encodings_head(alloc, field)),
+        Stage::EncodingsHead => Ok(after_encodings_head(alloc, field)),
         Stage::Encodings { .. } => {
             let encodings = encodings_in(alloc, field)?;
             Ok(AfterField::Whole(ClientMessage::SetEncodings(encodings)))
         }
         Stage::Request => Ok(AfterField::Whole(request_in(field))),
-        Stage::TextHead => Ok(behind_text_head(field)),
+        Stage::TextHead => Ok(after_text_head(field)),
     }
 }

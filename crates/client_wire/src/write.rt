@@ -1,5 +1,5 @@
 //! Writers of a viewer's messages, and of what a host's have in common with them. Each appends one
-//! message, or leaves the vector as it was where memory runs out.
+//! message, or leaves the vector as it was if memory runs out.
 
 ghost use Rattle.std.specs.Prelude.{◌≡◌, ◌<◌, ◌^◌, ℕ, ℤ, List, [], ◌++◌, Bool, take, length, OnOk, OnErr};
 ghost use Rattle.std.specs.List.{AllByRecursion};
@@ -74,7 +74,7 @@ pub fn write_key_event(down: bool, key: u32, out: &mut Vec<u8>) -> Result<(), No
 }
 
 /// Appends a PointerEvent (RFC 6143, section 7.5.5): the buttons that are pressed, as bits, and the
-/// pointer's place.
+/// pixel that the pointer is at.
 pub fn write_pointer_event(mask: u8, x: u16, y: u16, out: &mut Vec<u8>) -> Result<(), NoMemory>
     ensures ok { OnOk result (out.new.items ≡ out.old.items ++ pointer_event_bytes mask x y) }
     ensures err { OnErr result (out.new.items ≡ out.old.items) }

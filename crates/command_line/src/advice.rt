@@ -12,7 +12,7 @@ fn first_colon(address: &[u8]) -> Option<usize>
     address.iter().position(|byte| *byte == b':')
 }
 
-/// Whether an address has a port behind it.
+/// Whether an address has a port after it.
 pub fn has_port(address: &str) -> bool
     ensures { result ≡ is_some (position (λ byte. byte == 58) address.now) }
 {

@@ -102,7 +102,7 @@ fn salvaging<'a>(matches: &ArgMatches<'a>) -> Result<Salvaging<'a>, Wrong> {
     Ok(Salvaging {
         recording: word(matches, "PATH")?,
         out: word(matches, "OUT")?,
-        behind: matches.get_flag("behind"),
+        with_hidden: matches.get_flag("behind"),
     })
 }
 

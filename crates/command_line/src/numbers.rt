@@ -10,7 +10,7 @@ pub fn number(word: &str) -> Option<u64> {
     word.parse().ok()
 }
 
-/// A decimal number with at most three places behind the point, in thousandths.
+/// A decimal number with at most three digits after the point, in thousandths.
 pub fn thousandths(word: &str) -> Option<u32> {
     let (whole, part) = word.split_once(".").unwrap_or((word, "0"));
     let scale = match part.len() {
@@ -25,7 +25,7 @@ pub fn thousandths(word: &str) -> Option<u32> {
     u32::try_from(thousandths).ok()
 }
 
-/// A number within these limits; `default` where no word is given.
+/// A number within these limits; `default` if no word is given.
 pub fn within(word: Option<&str>, least: u64, most: u64, default: u64) -> Option<u64>
     ensures least { IfSome result (λ number. least ≤ number) }
     ensures most { IfSome result (λ number. number ≤ most) }
@@ -40,7 +40,7 @@ pub fn within(word: Option<&str>, least: u64, most: u64, default: u64) -> Option
     Some(number)
 }
 
-/// What was read of an option, which may be left out; none where it can't be read.
+/// What was read of an option, which may be left out; `None` if it can't be read.
 pub fn if_given<T>(read: Option<Option<T>>) -> Option<Option<T>> {
     match read {
         None => Some(None),

@@ -4,7 +4,7 @@ ghost use Rattle.std.specs.Prelude.{◌≤◌};
 
 use crate::advice::{ADDRESS, asks_for_more, has_port};
 use crate::words::{Chosen, read_words};
-use file_commands::{FileCommand, Places, Refusal, create_new, keep, refuse, run};
+use file_commands::{FileCommand, Refusal, create_new, keep, refuse, run};
 use file_disk::Progress;
 use serve::Plan;
 use std::fs::File;
@@ -27,18 +27,8 @@ const BAD_WORDS: u8 = 2;
 const BAD: &str = "recorderd: bad command line";
 
 // Says why the file of a drill's recording isn't made or written.
-fn refuse_drill<E: Write>(
-    path: &str,
-    refusal: Refusal,
-    is_verbose: bool,
-    err: &mut E,
-) -> io::Result<bool> {
-    let places = Places {
-        source: "",
-        out: path,
-        listen: "",
-    };
-    refuse("drill", refusal, is_verbose.then_some(places), err)?;
+fn refuse_drill<E: Write>(refusal: Refusal<'_>, is_verbose: bool, err: &mut E) -> io::Result<bool> {
+    refuse("drill", refusal, is_verbose, err)?;
     Ok(false)
 }
 
@@ -53,12 +43,12 @@ fn drill_to_file<R: Files<File = File> + AllocGlobal, I: Read + Drop, O: Write, 
 ) -> io::Result<bool> {
     let mut disk = match create_new(rt, path) {
         Ok(disk) => disk,
-        Err(refusal) => return refuse_drill(path, refusal, is_verbose, err),
+        Err(refusal) => return refuse_drill(refusal, is_verbose, err),
     };
     let ran = drill::run_and_read(rt.alloc(), input, out)?;
     match keep(rt, path, &mut disk, &ran.recording) {
         Ok(()) => Ok(ran.is_whole),
-        Err(refusal) => refuse_drill(path, refusal, is_verbose, err),
+        Err(refusal) => refuse_drill(refusal, is_verbose, err),
     }
 }
 
@@ -99,8 +89,8 @@ fn bad_words<E: Write>(why: &str, is_verbose: bool, err: &mut E) -> u8
     }
 }
 
-/// Tells of words that can't be read, since one is no text, and why where it `is_verbose`. Answers the
-/// exit status: that of a bad command line, or 1 where it can't be told.
+/// Tells of words that can't be read, since one is no text, and why if it `is_verbose`. Answers the
+/// exit status: that of a bad command line, or 1 if it can't be told.
 pub fn no_words<E: Write>(is_verbose: bool, err: &mut E) -> u8
     ensures { result ≤ 2 }
 {
@@ -113,7 +103,7 @@ fn print_line<O: Write>(out: &mut O, text: &str) -> io::Result<bool> {
     Ok(true)
 }
 
-// The status behind a command that did its work or was refused, once all is written.
+// The status after a command that did its work or was refused, once all is written.
 fn status_of<O: Write>(done: io::Result<bool>, out: &mut O) -> u8
     ensures { result ≤ 1 }
 {
@@ -126,7 +116,7 @@ fn status_of<O: Write>(done: io::Result<bool>, out: &mut O) -> u8
     }
 }
 
-// Serves; where it is refused and the address to listen at has no port, advice may be told.
+// Serves; if it is refused and the address to listen at has no port, advice may be told.
 fn served<R, O: Write, E: Write>(
     rt: &R,
     plan: &Plan<'_>,
@@ -145,11 +135,11 @@ where
     Ok(is_done)
 }
 
-/// Runs the program: the words of its command line (the first is its own name), whether a person is at
-/// its standard error, where long work is told of, its input, and its two outputs; files and sockets
-/// are those of the runtime. To a person, and with `--verbose`, more is told of a refusal than its
-/// line. Answers the exit status: 0 where it is done, 1 where it is refused, where memory for its own
-/// work is, or where a stream can't be read or written, and 2 for a bad command line.
+/// Runs the program: the words of its command line (the first is its own name), whether a person is
+/// at its standard error, on which long work is told of, its input, and its two outputs; files and
+/// sockets are those of the runtime. To a person, and with `--verbose`, more is told of a refusal
+/// than its line. Answers the exit status: 0 if it is done, 1 if it is refused, if memory for its
+/// own work is, or if a stream can't be read or written, and 2 for a bad command line.
 pub fn command<R, I: Read + Drop, O: Write, E: Write>(
     rt: &R,
     words: &[String],

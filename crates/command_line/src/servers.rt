@@ -15,7 +15,7 @@ fn stop(matches: &ArgMatches<'_>) -> Result<Stop, Wrong> {
     })
 }
 
-/// Which recording is looked at, and where.
+/// Which recording is looked at, and at which address.
 pub fn browsing<'a>(matches: &ArgMatches<'a>, is_verbose: bool) -> Result<Browsing<'a>, Wrong> {
     Ok(Browsing {
         recording: word(matches, "PATH")?,
@@ -91,7 +91,7 @@ fn audience(word: Option<&str>) -> Result<Audience, Wrong> {
     }
 }
 
-// How much is told of what happens: all where that is asked for, and on a terminal why it is refused.
+// How much is told of what happens: all if that is asked for, and on a terminal why it is refused.
 fn told(matches: &ArgMatches<'_>, is_verbose: bool) -> Told {
     if matches.get_flag("verbose") {
         Told::Everything

@@ -14,7 +14,7 @@ enum Argument {
     Words(&'static str, &'static str),
     /// `--NAME VALUE`: both names.
     Value(&'static str, &'static str, &'static str),
-    /// The same, where it has to be given.
+    /// The same, which has to be given.
     NeededValue(&'static str, &'static str, &'static str),
     /// `--NAME`.
     Flag(&'static str, &'static str),
@@ -95,7 +95,7 @@ const COMMANDS: [CommandWords; 15] = [
             Word("OUT", "The file to write, without bytes or not there yet"),
             Flag(
                 "behind",
-                "Writes also the blocks that go on with the digests behind the recording's end",
+                "Writes also the blocks that go on with the digests after the recording's end",
             ),
         ],
     },
@@ -147,7 +147,7 @@ const COMMANDS: [CommandWords; 15] = [
             Value(
                 "message",
                 "COUNT",
-                "In place of a time: behind so many messages",
+                "In place of a time: after so many messages",
             ),
         ],
     },
@@ -258,8 +258,8 @@ const COMMANDS: [CommandWords; 15] = [
         about: "Says what a refusal means, where it comes from, and what to do",
         example: "Example, of the line 'recorderd: check refused journal 1': recorderd explain journal 1",
         arguments: &[
-            Word("AREA", "The word behind 'refused'"),
-            Word("NUMBER", "The number behind it"),
+            Word("AREA", "The word after 'refused'"),
+            Word("NUMBER", "The number after it"),
         ],
     },
 ];

@@ -4,7 +4,7 @@ use crate::files::bytes_of;
 use std::alloc::Global;
 use std::{io, str};
 
-/// How a call ends, and what it prints: standard output, and standard error behind it.
+/// How a call ends, and what it prints: standard output, and standard error after it.
 #[derive(Drop)]
 pub struct Outcome {
     pub status: u8,
@@ -17,7 +17,7 @@ impl Outcome {
         self.status == other.status && self.printed.as_slice() == other.printed.as_slice()
     }
 
-    /// It as text; what is printed as hexadecimal digits, where it is no text.
+    /// It as text; what is printed as hexadecimal digits, if it is no text.
     pub fn told(&self, alloc: Global) -> io::Result<String> {
         let status = self.status;
         match str::from_utf8(&self.printed) {
@@ -39,7 +39,7 @@ pub struct Call {
     pub outcome: Outcome,
 }
 
-/// The program's name, and these words behind it.
+/// The program's name, and these words after it.
 pub fn words_of(alloc: Global, line: &str) -> io::Result<Vec<String>> {
     let mut words = Vec::new(alloc);
     words.push("recorderd".to_string(alloc)?)?;

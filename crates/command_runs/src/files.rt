@@ -17,7 +17,7 @@ pub fn bytes_of(alloc: Global, digits: &str) -> io::Result<Vec<u8>> {
     Ok(bytes)
 }
 
-/// Writes a file as another one, with another byte at a place.
+/// Writes a file as another one, with another byte at an offset.
 pub fn change<R: AllocGlobal + Files<File = File>>(
     rt: &R,
     from: &str,
@@ -36,7 +36,7 @@ pub fn change<R: AllocGlobal + Files<File = File>>(
     fs::write(rt, name, bytes.as_slice())
 }
 
-/// The digits of a file's bytes, where it has others than these digits say.
+/// The digits of a file's bytes, if it has others than these digits say.
 pub fn other_bytes<R: AllocGlobal + Files<File = File>>(
     rt: &R,
     name: &str,

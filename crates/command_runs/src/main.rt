@@ -4,16 +4,16 @@
 //!
 //! | Paragraph | Says |
 //! |---|---|
-//! | `STATUS WORDS`, and lines behind `< `, `| ` and `: ` | with these words and this input it ends so, and prints these lines and bytes |
+//! | `STATUS WORDS`, and lines after `< `, `| ` and `: ` | with these words and this input it ends so, and prints these lines and bytes |
 //! | `bad`, and words in lines | none of the lines is a command line |
 //! | `file NAME`, and bytes | a file is written |
-//! | `change FROM NAME PLACE BYTE` | a file is written as another one, with another byte at a place |
+//! | `change FROM NAME OFFSET BYTE` | a file is written as another one, with another byte at an offset |
 //! | `link FROM NAME` | a file has another name, too |
 //! | `here NAME`, and bytes | a file has just these bytes |
-//! | `remove NAMES` | files are removed, where they are there |
+//! | `remove NAMES` | files are removed, if they are there |
 //! | `#`, and a text | nothing: it is a comment |
 //!
-//! Bytes are hexadecimal digits; what is printed on standard error comes behind what is printed on
+//! Bytes are hexadecimal digits; what is printed on standard error comes after what is printed on
 //! standard output. For each file a line is printed that counts the paragraphs that are so, beside
 //! comments, and each one that isn't, with what came instead. At last drills are run whose output
 //! has little room, and one whose input can't be read: their exit statuses are printed.

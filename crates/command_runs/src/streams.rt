@@ -20,7 +20,7 @@ impl Read for Input<'_> {
     }
 }
 
-/// An output that keeps what it takes, and fails where it has no more room.
+/// An output that keeps what it takes, and fails if it has no more room.
 #[derive(Drop)]
 pub struct Output {
     pub bytes: Vec<u8>,

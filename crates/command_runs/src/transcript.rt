@@ -52,14 +52,14 @@ where
     Ok(None)
 }
 
-// Removes files, where they are there.
+// Removes files, if they are there.
 fn remove<R: Files<File = File>>(rt: &R, names: &[&str]) {
     for name in names {
         let _ = fs::remove_file(rt, *name);
     }
 }
 
-/// Does what a paragraph says; answers what came instead, where it isn't so.
+/// Does what a paragraph says; answers what came instead, if it isn't so.
 pub fn difference<R>(rt: &R, paragraph: &str) -> io::Result<Option<String>>
 where
     R: AllocGlobal + Clock + Eprint + Files<File = File> + Sync + Threads + Wait,

@@ -44,7 +44,7 @@ impl Stopwatch {
         })
     }
 
-    /// The time now, never below one that was told before. Where the clock can't be read, it is the
+    /// The time now, never below one that was told before. If the clock can't be read, it is the
     /// one that was told last.
     pub fn now<R: Clock>(&mut self, rt: &R) -> u32
         ensures later { self.old ≤ result }

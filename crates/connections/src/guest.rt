@@ -37,7 +37,8 @@ pub struct Guest<C: Connection> {
 }
 
 impl<C: Connection> Guest<C> {
-    /// One behind this connection, who is told of a recording of this size and name.
+    /// The one at the other end of this connection, who is told of a recording of this size and
+    /// name.
     pub fn new(alloc: Global, connection: C, size: ScreenSize, name: &[u8]) -> io::Result<Guest<C>>
         requires name { length name.now < 2 ^ 32 }
         ensures size { IfOk result (λ guest. guest.size ≡ size) }
@@ -63,7 +64,7 @@ impl<C: Connection> Guest<C> {
         Ok(goes_on)
     }
 
-    /// Hears the handshake from where it stands, for 30 seconds at most, or until the bell rings.
+    /// Hears the rest of the handshake, for 30 seconds at most, or until the bell rings.
     pub fn greet<R: Clock>(&mut self, rt: &R, bell: &Bell) -> io::Result<Greeting>
         ensures size { self.new.size ≡ self.old.size }
     {

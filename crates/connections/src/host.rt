@@ -37,7 +37,7 @@ pub struct Host {
 
 impl Host {
     /// Connects to a host whose messages are for a recording of this format, and which is of this
-    /// size, where one is expected, and ends its handshake, which may take 30 seconds. What fails is
+    /// size, if one is expected, and ends its handshake, which may take 30 seconds. What fails is
     /// told.
     pub fn connect<R: Net<Stream = TcpStream> + AllocGlobal + Clock + Wait>(
         rt: &R,
@@ -183,8 +183,8 @@ impl Host {
         self.end.unwrap_or(HostEnd::Closed(0))
     }
 
-    // The next message; none at the stream's end, or once the recorder was asked to end. The host is
-    // asked for more, and read from, only where there is room for it.
+    // The next message; `None` at the stream's end, or once the recorder was asked to end. The host
+    // is asked for more, and read from, only if there is room for it.
     fn next<M: Mark, R: Clock + Wait>(&mut self, rt: &R, room: &Room<M>) -> Option<HostMessage> {
         let mut is_short = false;
         for _ in 0..u64::MAX {
@@ -206,7 +206,7 @@ impl Host {
                     is_short = true;
                     thread::sleep(rt, pause());
                 }
-                // Where the host takes no more, reading meets its end, which says how it ended.
+                // If the host takes no more, reading meets its end, which says how it ended.
                 _ => {
                     let _read = self.read_piece();
                 }

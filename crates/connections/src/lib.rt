@@ -1,5 +1,5 @@
 //! The connections of a recorder, to its host and to its viewers: sockets and the limits that they
-//! have, what the threads behind them share, and which end of a recorder is told.
+//! have, what their threads share, and which end of a recorder is told.
 #![tactic(auto)]
 
 mod clock;

@@ -16,12 +16,12 @@ pub enum Audience {
     Any,
 }
 
-/// Where viewers begin, as it is asked for.
+/// The position at which viewers begin, as it is asked for.
 #[derive(Clone, Copy, Debug, PartialEq, Eq)]
 pub enum Origin {
     /// At the newest screen.
     Live,
-    /// Behind so many messages.
+    /// After so many messages.
     Count(u64),
     /// At this moment of the recording, in milliseconds.
     Time(u32),
@@ -37,11 +37,11 @@ pub struct Playing {
     pub repeats: bool,
 }
 
-/// Where viewers begin in a recording that is open, and how it is played.
+/// The position at which viewers begin in a recording that is open, and how it is played.
 #[derive(Clone, Copy, Debug, PartialEq, Eq)]
 pub struct Beginning {
     pub start: Start,
-    /// None where it is shown as it grows.
+    /// `None` if it is shown as it grows.
     pub program: Option<Program>,
 }
 
@@ -50,7 +50,7 @@ pub struct Beginning {
 pub struct Plan<'a> {
     /// The recording's file.
     pub file: &'a str,
-    /// Where viewers connect to.
+    /// The address that viewers connect to.
     pub listen: &'a str,
     /// The host's address; without one the recording is served alone.
     pub host: Option<&'a str>,
@@ -60,11 +60,11 @@ pub struct Plan<'a> {
     pub key_interval: u16,
     /// How many viewers are served.
     pub audience: Audience,
-    /// Whether what stands behind the end of the recording is written over, whatever it is.
+    /// Whether what follows the end of the recording is written over, whatever it is.
     pub overwrites: bool,
-    /// Where each viewer begins.
+    /// The position at which each viewer begins.
     pub from: Origin,
-    /// How the recording is played, where it is in its own time. There is no host then.
+    /// How the recording is played, if it is in its own time. There is no host then.
     pub playing: Option<Playing>,
     /// What ends it beside the host, which isn't read from any more then; what it sent is committed
     /// and shown to the viewers who are there.

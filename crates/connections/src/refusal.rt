@@ -19,8 +19,8 @@ pub enum Refusal {
     /// more in the end.
     #[error("file 1")]
     File,
-    /// Blocks that go on with the digests stand behind the end of the recording, more than a crash
-    /// leaves there, and would be written over.
+    /// More blocks than a crash leaves go on with the digests after the end of the recording, and
+    /// would be written over.
     #[error("file 2")]
     Hidden,
     /// The recording isn't opened.
@@ -71,7 +71,7 @@ pub struct Ends {
 }
 
 /// The one reason that is told: the flusher's, else the worker's, else the host's or its socket's,
-/// else the listener's, else the device's where it was read; none where all went well.
+/// else the listener's, else the device's when it was read; `None` if all went well.
 pub fn first_refusal(ends: Ends) -> Option<Refusal>
     ensures flusher { OnErr ends.flusher (result ≡ Some Refusal.Device) }
     ensures worker { OnOk ends.flusher (IfErr ends.worker (λ refusal. result ≡ Some (Refusal.Book refusal))) }

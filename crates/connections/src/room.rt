@@ -173,7 +173,7 @@ impl Intake {
 #[derive(Drop)]
 pub struct Device {
     started: Option<Instant>,
-    // In milliseconds from the start on, or the greatest number where none is written.
+    // In milliseconds from the start on, or the greatest number if none is written.
     since: AtomicU64,
 }
 
@@ -186,7 +186,7 @@ impl Device {
         }
     }
 
-    // How many milliseconds have passed; none where the clock can't be read.
+    // How many milliseconds have passed; `None` if the clock can't be read.
     fn now<R: Clock>(&self, rt: &R) -> Option<u64> {
         let passed = self.started?.elapsed(rt).ok()?;
         u64::try_from(passed.as_millis()).ok()
@@ -217,16 +217,16 @@ struct Recorded {
     bytes: AtomicU64,
 }
 
-/// What all threads of a recorder share: the recording's screen and name, where viewers begin, who
-/// watches, what waits, how far the recording is committed, what the system said of its file, and
-/// whether a block is being written.
+/// What all threads of a recorder share: the recording's screen and name, the position at which
+/// viewers begin, who watches, what waits, how far the recording is committed, what the system said
+/// of its file, and whether a block is being written.
 #[derive(Drop)]
 pub struct Room<M: Mark> {
     pub alloc: Global,
     pub screen: RecordedScreen,
     pub name: Vec<u8>,
     pub from: Start,
-    /// How the recording is played, where it is in its own time.
+    /// How the recording is played, if it is in its own time.
     pub program: Option<Program>,
     /// Whether there is no host: nothing is recorded.
     pub is_alone: bool,
@@ -323,8 +323,8 @@ impl<M: Mark> Room<M> {
         self.committed.store(count, Ordering::SeqCst);
     }
 
-    /// Notes that the device failed where a viewer was to be shown what is recorded, and tells so the
-    /// first time.
+    /// Notes that the device failed when a viewer was to be shown what is recorded, and tells so
+    /// the first time.
     pub fn note_unreadable<R: Wait>(&self, rt: &R) {
         if !self.is_unreadable.swap(true, Ordering::SeqCst) {
             let error = self.last_error.get();

@@ -39,7 +39,7 @@ struct Talk<M: Mark> {
     ghost sized: { (session.view.screen.width ≡ M.head.width) × (session.view.screen.height ≡ M.head.height) },
 }
 
-// Whether the rectangles of a message have as many places as the screen, as those of an update of
+// Whether the rectangles of a message have as many pixels as the screen, as those of an update of
 // the whole screen have.
 fn is_of_whole_screen(message: &HostMessage) -> bool {
     let size = message.size();
@@ -57,7 +57,7 @@ impl<M: Mark> Talk<M> {
         self.session.feed(piece).is_ok()
     }
 
-    // Goes on by a slice that begins where the session stands, or has a start: whether it does.
+    // Goes on by a slice that begins at the session's position, or has a start: whether it does.
     fn advance(&mut self, slice: &Slice) -> bool
         requires sized { IsOfSize M.head.width M.head.height slice.now }
         requires room { slice.now.first + length slice.now.messages.items < 2 ^ 64 }
@@ -73,8 +73,8 @@ impl<M: Mark> Talk<M> {
         true
     }
 
-    // Writes what is due, with an update where one is, within the time that an answer may take. A
-    // viewer that has not come to where it begins isn't answered yet.
+    // Writes what is due, with an update if one is, within the time that an answer may take. A
+    // viewer that has not come to the position at which it begins isn't answered yet.
     fn answer<C: Connection, R: Clock>(
         &mut self,
         rt: &R,

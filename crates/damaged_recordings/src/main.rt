@@ -3,7 +3,7 @@
 //!
 //! Each word names a file: `.journal` is opened as blocks, whatever their bodies are, and any other
 //! one as messages. A line says what is answered for the file as it is. Then, but for `.damaged`, a
-//! line for each place says what is answered for which values there, and a last one for which
+//! line for each offset says what is answered for which values there, and a last one for which
 //! lengths; each ends with the first digits of a digest of all that was read.
 #![tactic(auto)]
 
@@ -15,19 +15,19 @@ use runs::Runs;
 use sha2::{Digest, Sha256};
 use std::{env, fs, io};
 
-// What is answered for each value of the byte at a place.
-fn print_place(rt: &HostRuntime, kind: Kind, file: &[u8], place: usize) -> io::Result<()> {
+// What is answered for each value of the byte at an offset.
+fn print_offset(rt: &HostRuntime, kind: Kind, file: &[u8], offset: usize) -> io::Result<()> {
     let mut runs = Runs::new(rt.alloc());
     let mut read = Sha256::new();
     for value in 0..=255u8 {
         let mut changed = file.to_vec(rt.alloc())?;
-        if let Some(byte) = changed.get_mut(place) {
+        if let Some(byte) = changed.get_mut(offset) {
             *byte = value;
         }
         let outcome = outcome_of(rt.alloc(), kind, changed, &mut read);
         runs.note(usize::from(value), outcome)?;
     }
-    print!(rt; "place {place}:")?;
+    print!(rt; "place {offset}:")?;
     runs.print(rt, read.finalize())
 }
 
@@ -56,8 +56,8 @@ fn print_file(rt: &HostRuntime, name: &str) -> io::Result<()> {
     if name.ends_with(".damaged") {
         return Ok(());
     }
-    for place in 0..file.len() {
-        print_place(rt, kind, &file, place)?;
+    for offset in 0..file.len() {
+        print_offset(rt, kind, &file, offset)?;
     }
     print_lengths(rt, kind, &file)
 }

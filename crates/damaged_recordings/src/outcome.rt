@@ -34,7 +34,7 @@ impl Display for Outcome {
     }
 }
 
-// Reads the header, each block's entries and body, and the place behind the last gate.
+// Reads the header, each block's entries and body, and the offset after the last gate.
 fn read_blocks(
     alloc: Global,
     journal: &mut Journal<MemoryDisk>,
@@ -91,7 +91,7 @@ fn of_messages(alloc: Global, file: Vec<u8>, read: &mut Sha256) -> Outcome {
     }
 }
 
-/// What the opening of a file is answered. All that is then read of it is put behind what was read.
+/// What the opening of a file is answered. All that is then read of it is put after what was read.
 pub fn outcome_of(alloc: Global, kind: Kind, file: Vec<u8>, read: &mut Sha256) -> Outcome {
     match kind {
         Kind::Blocks => of_blocks(alloc, file, read),

@@ -1,4 +1,4 @@
-//! Numbers that stand one behind another with one outcome.
+//! Numbers that follow one another with one outcome.
 
 use crate::outcome::Outcome;
 use std::alloc::{AllocError, Global};
@@ -12,7 +12,7 @@ struct Run {
     outcome: Outcome,
 }
 
-/// The outcomes of numbers, told together where they are the same.
+/// The outcomes of numbers, told together if they are the same.
 #[derive(Drop)]
 pub struct Runs {
     runs: Vec<Run>,

@@ -5,7 +5,7 @@ use Rattle.disk.specs.Contents.{Contents, MayLeave}
 use Rattle.disk.specs.History.{present}
 use Rattle.disk.specs.Memory.{Kept, IsTakenBack, history_of}
 use Rattle.disk.specs.MemoryLaws.{MayLeave-taken_back, present-taken_back}
-use Rattle.disk.specs.Crash.{IsLeft, IsLeftBehind}
+use Rattle.disk.specs.Crash.{IsLeft, IsLeftAfter}
 use Rattle.disk.specs.declared.memory.crash.Fill.{Fill}
 
 pub allowed_after : (old new : Kept) (file : List ℕ) → (new ≡ old) ⊎ IsTakenBack old new → MayLeave (present (history_of new)) file → MayLeave (present (history_of old)) file
@@ -14,7 +14,7 @@ allowed_after old new file (inl same) left =
     subst P same left
 allowed_after old new file (inr back) left = MayLeave-taken_back old new file back left
 
-pub filled_after : (fill : Fill) (old new : Kept) (ends : Bool) (file : List ℕ) → IsTrue ends → (new ≡ old) ⊎ IsTakenBack old new → IsLeft fill (present (history_of new)) file → IsLeftBehind fill (history_of old) ends file
+pub filled_after : (fill : Fill) (old new : Kept) (ends : Bool) (file : List ℕ) → IsTrue ends → (new ≡ old) ⊎ IsTakenBack old new → IsLeft fill (present (history_of new)) file → IsLeftAfter fill (history_of old) ends file
 filled_after fill old new ends file stopped (inl same) left =
     let P : Kept → Type 0 = λ kept. IsLeft fill (present (history_of kept)) file in
     inl (subst P same left)

@@ -16,12 +16,12 @@ pub record Kept : Type 0 where
 
 -- the note of a write of these bytes into this file
 abbrev pub noted_write : ℕ → List ℕ → List ℕ → Overwrite
-noted_write place bytes file = record { place = place; count = length bytes; length_before = length file; replaced = take (length bytes) (drop place file) }
+noted_write offset bytes file = record { offset = offset; count = length bytes; length_before = length file; replaced = take (length bytes) (drop offset file) }
 
 -- The file before this write: what it replaced is put back, and what it added is gone. Undoing
 -- never makes a file longer, whatever the note says.
 unfoldable pub before_write : Overwrite → List ℕ → List ℕ
-before_write w file = take (min w.length_before (length file)) (put file w.place (take w.count w.replaced))
+before_write w file = take (min w.length_before (length file)) (put file w.offset (take w.count w.replaced))
 
 -- the file before this event
 abbrev pub before_event : Event → List ℕ → List ℕ
@@ -34,10 +34,10 @@ held_of file [] = file
 held_of file (Wrote w ∷ earlier) = held_of (before_write w file) earlier
 held_of file (Synced ∷ earlier) = file
 
--- whether a write since then had place p in its range
+-- whether a write since then had offset p in its range
 abbrev pub is_touched : List Event → ℕ → Bool
 is_touched [] p = false
-is_touched (Wrote w ∷ earlier) p = is_touched earlier p || is_between w.place w.count p
+is_touched (Wrote w ∷ earlier) p = is_touched earlier p || is_between w.offset w.count p
 is_touched (Synced ∷ earlier) p = false
 
 -- what stands after these events

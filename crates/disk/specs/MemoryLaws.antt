@@ -5,7 +5,7 @@ use Rattle.std.proofs.lemmas.List.{length-take, get_or-take, get_or-drop, ext_ge
 use Rattle.std.proofs.lemmas.Bool.{cases_lt}
 use Rattle.disk.specs.Overwrite.{Overwrite}
 use Rattle.disk.specs.Contents.{Contents, MayLeave, Agrees, IsOnDisk, IsWritten, IsWithinWrite, IsSynced, put, is_between}
-use Rattle.disk.specs.Put.{length-put, put_before, put_within, put_behind, put_elsewhere}
+use Rattle.disk.specs.Put.{length-put, put_before, put_within, put_after, put_elsewhere}
 use Rattle.disk.specs.ContentsLaws.{not_between, IsWithinWrite-written}
 use Rattle.disk.specs.History.{present, GoesOn}
 use Rattle.disk.specs.Memory.{IsTakenBack, Kept, noted_write, before_write, before_event, held_of, is_touched, contents_of, contents_before, moments_of, history_of}
@@ -14,17 +14,17 @@ use Rattle.disk.specs.declared.memory.Event.TheVariants.{Wrote, Synced}
 
 pub length-before_write : (w : Overwrite) (file : List ℕ) → length (before_write w file) ≤ length file
 unfolding before_write
-length-before_write w file = omega (arith, length-take (min w.length_before (length file)) (put file w.place (take w.count w.replaced)))
+length-before_write w file = omega (arith, length-take (min w.length_before (length file)) (put file w.offset (take w.count w.replaced)))
 
-pub before_write_elsewhere : (w : Overwrite) (file : List ℕ) (p : ℕ) → p < length (before_write w file) → is_between w.place w.count p ≡ false → slice_index (before_write w file) p ≡ slice_index file p
+pub before_write_elsewhere : (w : Overwrite) (file : List ℕ) (p : ℕ) → p < length (before_write w file) → is_between w.offset w.count p ≡ false → slice_index (before_write w file) p ≡ slice_index file p
 unfolding before_write
 before_write_elsewhere w file p l e =
-    let old : List ℕ = put file w.place (take w.count w.replaced) in
+    let old : List ℕ = put file w.offset (take w.count w.replaced) in
     let below : p < min w.length_before (length file) = omega (arith, length-take (min w.length_before (length file)) old) in
-    let outside : (p < w.place) ⊎ (w.place + length (take w.count w.replaced) ≤ p) =
-    elim (not_between w.place w.count p e) [ inl h ↦ inl h | inr h ↦ inr (omega (arith, length-take w.count w.replaced)) ] in
+    let outside : (p < w.offset) ⊎ (w.offset + length (take w.count w.replaced) ≤ p) =
+    elim (not_between w.offset w.count p e) [ inl h ↦ inl h | inr h ↦ inr (omega (arith, length-take w.count w.replaced)) ] in
     get_or-take (min w.length_before (length file)) old p 0 below
-    ∙ put_elsewhere file (take w.count w.replaced) w.place p (omega arith) outside
+    ∙ put_elsewhere file (take w.count w.replaced) w.offset p (omega arith) outside
 
 or_false : (a b : Bool) → (a || b) ≡ false → (a ≡ false) × (b ≡ false)
 or_false true b e = cc
@@ -40,7 +40,7 @@ Agrees-contents_of file (Wrote w ∷ earlier) =
       no_shorter = omega (arith, before.no_shorter, length-before_write w file);
       no_longer = omega arith;
       untouched = λ p l e.
-          let neither = or_false (is_touched earlier p) (is_between w.place w.count p) e in
+          let neither = or_false (is_touched earlier p) (is_between w.offset w.count p) e in
           sym (before_write_elsewhere w file p (omega (arith, before.no_shorter)) neither.1) ∙ before.untouched p l neither.0;
     }
 
@@ -77,66 +77,66 @@ GoesOn-noted old new event P noted undone now =
     subst F (sym noted) (subst G undone (GoesOn-event new.bytes event old.events P now))
 
 -- the bytes that a write replaced, put back
-put_back : (file bytes : List ℕ) (place p : ℕ) → place ≤ length file → p < length file → slice_index (put (put file place bytes) place (take (length bytes) (drop place file))) p ≡ slice_index file p
-put_back file bytes place p h l =
-    let new : List ℕ = put file place bytes in
-    let new_length : length new ≡ max (length file) (place + length bytes) = length-put file bytes place h in
-    let replaced : List ℕ = take (length bytes) (drop place file) in
-    let replaced_length : length replaced ≡ min (length bytes) (length file - place) = simp (length-take, length-drop) refl in
-    elim (cases_lt p place) [
-      | inl before ↦ put_before new replaced place p (omega arith) before ∙ put_before file bytes place p l before
-      | inr from ↦ elim (cases_lt p (place + length replaced)) [
+put_back : (file bytes : List ℕ) (offset p : ℕ) → offset ≤ length file → p < length file → slice_index (put (put file offset bytes) offset (take (length bytes) (drop offset file))) p ≡ slice_index file p
+put_back file bytes offset p h l =
+    let new : List ℕ = put file offset bytes in
+    let new_length : length new ≡ max (length file) (offset + length bytes) = length-put file bytes offset h in
+    let replaced : List ℕ = take (length bytes) (drop offset file) in
+    let replaced_length : length replaced ≡ min (length bytes) (length file - offset) = simp (length-take, length-drop) refl in
+    elim (cases_lt p offset) [
+      | inl before ↦ put_before new replaced offset p (omega arith) before ∙ put_before file bytes offset p l before
+      | inr from ↦ elim (cases_lt p (offset + length replaced)) [
         | inl to ↦
-            let at : place + (p - place) ≡ p = omega arith in
-            put_within new replaced place p (omega arith) from to
-            ∙ get_or-take (length bytes) (drop place file) (p - place) 0 (omega arith)
-            ∙ get_or-drop place file (p - place) 0
+            let at : offset + (p - offset) ≡ p = omega arith in
+            put_within new replaced offset p (omega arith) from to
+            ∙ get_or-take (length bytes) (drop offset file) (p - offset) 0 (omega arith)
+            ∙ get_or-drop offset file (p - offset) 0
             ∙ ap (λ (k : ℕ). slice_index file k) at
-        | inr behind ↦
-            put_behind new replaced place p (omega arith) behind
-            ∙ put_behind file bytes place p h (omega arith)
+        | inr following ↦
+            put_after new replaced offset p (omega arith) following
+            ∙ put_after file bytes offset p h (omega arith)
       ]
     ]
 
 -- what undoing a write gives back
-pub before_write-put : (file bytes : List ℕ) (place : ℕ) → place ≤ length file → before_write (noted_write place bytes file) (put file place bytes) ≡ file
+pub before_write-put : (file bytes : List ℕ) (offset : ℕ) → offset ≤ length file → before_write (noted_write offset bytes file) (put file offset bytes) ≡ file
 unfolding before_write
-before_write-put file bytes place h =
-    let new : List ℕ = put file place bytes in
-    let replaced : List ℕ = take (length bytes) (drop place file) in
-    let once : take (length bytes) replaced ≡ replaced = take-take (length bytes) (length bytes) (drop place file) (omega arith) in
-    let new_length : length new ≡ max (length file) (place + length bytes) = length-put file bytes place h in
-    let whole : length (put new place replaced) ≡ max (length new) (place + length replaced) = length-put new replaced place (omega arith) in
-    let cut : length (take (min (length file) (length new)) (put new place replaced)) ≡ length file =
-    omega (arith, length-take (min (length file) (length new)) (put new place replaced)) in
-    rw once (ext_get_or 0 (take (min (length file) (length new)) (put new place replaced)) file cut (λ p l.
-    get_or-take (min (length file) (length new)) (put new place replaced) p 0 (omega arith)
-    ∙ put_back file bytes place p h (omega arith)))
+before_write-put file bytes offset h =
+    let new : List ℕ = put file offset bytes in
+    let replaced : List ℕ = take (length bytes) (drop offset file) in
+    let once : take (length bytes) replaced ≡ replaced = take-take (length bytes) (length bytes) (drop offset file) (omega arith) in
+    let new_length : length new ≡ max (length file) (offset + length bytes) = length-put file bytes offset h in
+    let whole : length (put new offset replaced) ≡ max (length new) (offset + length replaced) = length-put new replaced offset (omega arith) in
+    let cut : length (take (min (length file) (length new)) (put new offset replaced)) ≡ length file =
+    omega (arith, length-take (min (length file) (length new)) (put new offset replaced)) in
+    rw once (ext_get_or 0 (take (min (length file) (length new)) (put new offset replaced)) file cut (λ p l.
+    get_or-take (min (length file) (length new)) (put new offset replaced) p 0 (omega arith)
+    ∙ put_back file bytes offset p h (omega arith)))
 
 -- after a whole write that was noted
-pub IsWritten-noted : (file bytes : List ℕ) (place : ℕ) (earlier : List Event) → place ≤ length file → IsWritten place bytes (contents_of file earlier) (contents_of (put file place bytes) (Wrote (noted_write place bytes file) ∷ earlier))
-IsWritten-noted file bytes place earlier h = record {
+pub IsWritten-noted : (file bytes : List ℕ) (offset : ℕ) (earlier : List Event) → offset ≤ length file → IsWritten offset bytes (contents_of file earlier) (contents_of (put file offset bytes) (Wrote (noted_write offset bytes file) ∷ earlier))
+IsWritten-noted file bytes offset earlier h = record {
   now = refl;
-  held = ap (λ (before : List ℕ). held_of before earlier) (before_write-put file bytes place h);
+  held = ap (λ (before : List ℕ). held_of before earlier) (before_write-put file bytes offset h);
   touched = λ p. refl;
 }
 
 -- what a write does, with its note, to the moments
-pub record NotesWrite (place : ℕ) (bytes : List ℕ) (old new : Kept) : Type 0 where
-  pub written : IsWritten place bytes (present (history_of old)) (present (history_of new))
-  pub goes_on : GoesOn (history_of old) (history_of new) (IsWithinWrite place (length bytes) (present (history_of old)))
+pub record NotesWrite (offset : ℕ) (bytes : List ℕ) (old new : Kept) : Type 0 where
+  pub written : IsWritten offset bytes (present (history_of old)) (present (history_of new))
+  pub goes_on : GoesOn (history_of old) (history_of new) (IsWithinWrite offset (length bytes) (present (history_of old)))
 
-pub NotesWrite-noted : (place : ℕ) (bytes : List ℕ) (old new : Kept) → place ≤ length old.bytes → new.bytes ≡ put old.bytes place bytes → new.events ≡ Wrote (noted_write place bytes old.bytes) ∷ old.events → NotesWrite place bytes old new
-NotesWrite-noted place bytes old new h file events =
-    let w : Overwrite = noted_write place bytes old.bytes in
+pub NotesWrite-noted : (offset : ℕ) (bytes : List ℕ) (old new : Kept) → offset ≤ length old.bytes → new.bytes ≡ put old.bytes offset bytes → new.events ≡ Wrote (noted_write offset bytes old.bytes) ∷ old.events → NotesWrite offset bytes old new
+NotesWrite-noted offset bytes old new h file events =
+    let w : Overwrite = noted_write offset bytes old.bytes in
     let before : Contents = contents_of old.bytes old.events in
-    let noted : IsWritten place bytes before (contents_of new.bytes (Wrote w ∷ old.events)) =
-    rw file (IsWritten-noted old.bytes bytes place old.events h) in
-    let undone : before_write w new.bytes ≡ old.bytes = rw file (before_write-put old.bytes bytes place h) in
+    let noted : IsWritten offset bytes before (contents_of new.bytes (Wrote w ∷ old.events)) =
+    rw file (IsWritten-noted old.bytes bytes offset old.events h) in
+    let undone : before_write w new.bytes ≡ old.bytes = rw file (before_write-put old.bytes bytes offset h) in
     record {
       written = rw (present_of old.bytes old.events, present_of new.bytes new.events, events) noted;
       goes_on = rw (present_of old.bytes old.events)
-          (GoesOn-noted old new (Wrote w) (IsWithinWrite place (length bytes) before) events undone (IsWithinWrite-written place bytes before (contents_of new.bytes (Wrote w ∷ old.events)) h noted));
+          (GoesOn-noted old new (Wrote w) (IsWithinWrite offset (length bytes) before) events undone (IsWithinWrite-written offset bytes before (contents_of new.bytes (Wrote w ∷ old.events)) h noted));
     }
 
 -- what a sync does, with its note, to the moments
@@ -159,7 +159,7 @@ MayLeave-with_write : (w : Overwrite) (file : List ℕ) (earlier : List Event) (
 MayLeave-with_write w file earlier image before = record {
   no_shorter = before.no_shorter;
   no_longer = omega (arith, before.no_longer, length-before_write w file);
-  untouched = λ p l e. before.untouched p l (or_false (is_touched earlier p) (is_between w.place w.count p) e).0;
+  untouched = λ p l e. before.untouched p l (or_false (is_touched earlier p) (is_between w.offset w.count p) e).0;
 }
 
 pub MayLeave-taken_back : (old new : Kept) (image : List ℕ) → IsTakenBack old new → MayLeave (present (history_of new)) image → MayLeave (present (history_of old)) image

@@ -3,7 +3,7 @@ use Rattle.std.specs.Prelude.{ℕ, List}
 
 -- its range, the file's length before it, and the bytes that it replaced
 pub record Overwrite : Type 0 where
-  pub place : ℕ
+  pub offset : ℕ
   pub count : ℕ
   pub length_before : ℕ
   pub replaced : List ℕ

@@ -15,8 +15,8 @@ pub struct DiskFault;
 ///
 /// Its rules are those of a disk that may crash at any moment, in the middle of a call too.
 /// Contracts see three things at each moment: `now`, what reads give; `held`, what stood at the
-/// last successful sync; `touched`, the places written since. A crash leaves a file of a length
-/// between, with held's byte at each untouched place. Each clause has as its premise that the type
+/// last successful sync; `touched`, the offsets written since. A crash leaves a file of a length
+/// between, with held's byte at each untouched offset. Each clause has as its premise that the type
 /// is such a disk (`is_modelled`): of a real file nothing is said.
 pub trait Disk {
     ghost use Rattle.disk.specs.Contents.{IsWritten, IsWithinWrite, IsSynced, CountsFailure, Agrees};
@@ -42,11 +42,11 @@ pub trait Disk {
         ensures fault { OnErr result (after_fault self.old self.new) }
         ensures counts { is_modelled → CountsFailure (failures self.old) (failures self.new) result };
 
-    /// Fills the buffer with the bytes from this place on.
-    fn read_at(&mut self, place: u64, buffer: &mut [u8]) -> Result<(), DiskFault>
-        requires fits { place + length buffer.old < 2 ^ 64 }
-        requires within { is_modelled → place + length buffer.old ≤ length (present (history self.old)).now }
-        ensures read { is_modelled → OnOk result (buffer.new ≡ take (length buffer.old) (drop place (present (history self.old)).now)) }
+    /// Fills the buffer with the bytes from this offset on.
+    fn read_at(&mut self, offset: u64, buffer: &mut [u8]) -> Result<(), DiskFault>
+        requires fits { offset + length buffer.old < 2 ^ 64 }
+        requires within { is_modelled → offset + length buffer.old ≤ length (present (history self.old)).now }
+        ensures read { is_modelled → OnOk result (buffer.new ≡ take (length buffer.old) (drop offset (present (history self.old)).now)) }
         ensures history { is_modelled → history self.new ≡ history self.old }
         ensures fault { OnErr result (after_fault self.old self.new) }
         ensures counts { is_modelled → CountsFailure (failures self.old) (failures self.new) result };
@@ -54,11 +54,11 @@ pub trait Disk {
     /// Writes over what is there, and past the end. Until a sync, a crash may leave any bytes in
     /// the range; after a fault the range may have any bytes, and the length is between the old one
     /// and that of a whole write.
-    fn write_at(&mut self, place: u64, bytes: &[u8]) -> Result<(), DiskFault>
-        requires fits { place + length bytes.now < 2 ^ 64 }
-        requires within { is_modelled → place ≤ length (present (history self.old)).now }
-        ensures written { is_modelled → OnOk result (IsWritten place bytes.now (present (history self.old)) (present (history self.new))) }
-        ensures goes_on { is_modelled → GoesOn (history self.old) (history self.new) (IsWithinWrite place (length bytes.now) (present (history self.old))) }
+    fn write_at(&mut self, offset: u64, bytes: &[u8]) -> Result<(), DiskFault>
+        requires fits { offset + length bytes.now < 2 ^ 64 }
+        requires within { is_modelled → offset ≤ length (present (history self.old)).now }
+        ensures written { is_modelled → OnOk result (IsWritten offset bytes.now (present (history self.old)) (present (history self.new))) }
+        ensures goes_on { is_modelled → GoesOn (history self.old) (history self.new) (IsWithinWrite offset (length bytes.now) (present (history self.old))) }
         ensures fault { OnErr result (after_fault self.old self.new) }
         ensures counts { is_modelled → CountsFailure (failures self.old) (failures self.new) result };
 
@@ -85,7 +85,7 @@ pub(crate) fn one_more_failed(failures: &mut u64) -> DiskFault
     DiskFault
 }
 
-// Counts a call where it failed, and passes its answer on.
+// Counts a call if it failed, and passes its answer on.
 pub(crate) fn counted<T>(failures: &mut u64, outcome: Result<T, DiskFault>) -> Result<T, DiskFault>
     ensures outcome { result ≡ outcome }
     ensures counts { CountsFailure failures.old failures.new result }

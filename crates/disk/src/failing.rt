@@ -66,19 +66,19 @@ impl<D: Disk> Disk for FailingDisk<D> {
         counted(&mut self.failures, outcome)
     }
 
-    fn read_at(&mut self, place: u64, buffer: &mut [u8]) -> Result<(), DiskFault> {
+    fn read_at(&mut self, offset: u64, buffer: &mut [u8]) -> Result<(), DiskFault> {
         if self.switch.fails_call() {
             return Err(one_more_failed(&mut self.failures));
         }
-        let outcome = self.disk.read_at(place, buffer);
+        let outcome = self.disk.read_at(offset, buffer);
         counted(&mut self.failures, outcome)
     }
 
-    fn write_at(&mut self, place: u64, bytes: &[u8]) -> Result<(), DiskFault> {
+    fn write_at(&mut self, offset: u64, bytes: &[u8]) -> Result<(), DiskFault> {
         if self.switch.fails_call() {
             return Err(one_more_failed(&mut self.failures));
         }
-        let outcome = self.disk.write_at(place, bytes);
+        let outcome = self.disk.write_at(offset, bytes);
         counted(&mut self.failures, outcome)
     }
 

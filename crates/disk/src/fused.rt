@@ -2,7 +2,7 @@
 
 ghost use Rattle.std.specs.Prelude.{◌≡◌, ◌⊎◌, ◌+◌, ◌<◌, ◌≤◌, ◌^◌, false, [], length, take, drop, IfOk, OnOk, OnErr};
 ghost use Rattle.disk.specs.Contents.{MayLeave, IsSynced, IsWritten, IsWithinWrite, CountsFailure};
-ghost use Rattle.disk.specs.Crash.{IsLeftBehind};
+ghost use Rattle.disk.specs.Crash.{IsLeftAfter};
 ghost use Rattle.disk.specs.History.{present, GoesOn};
 ghost use Rattle.disk.specs.Memory.{history_of};
 
@@ -16,8 +16,8 @@ use std::marker::Model;
 /// What a crash then leaves of it is `left`.
 ///
 /// The first write that the stop meets was under way as the device stopped: it fails, and is one of
-/// the disk's moments all the same, so that what is left may have it. Where there is no memory for
-/// it, the device stopped before it.
+/// the disk's moments all the same, so that what is left may have it. If there is no memory for it,
+/// the device stopped before it.
 #[derive(Drop)]
 pub struct FusedDisk {
     disk: FailingDisk<MemoryDisk>,
@@ -59,7 +59,7 @@ impl FusedDisk {
     /// synced since: what is left is then filled as the disk was before it.
     pub fn left(self, fill: Fill) -> MemoryDisk
         ensures allowed { MayLeave (present (history_of self.disk.disk)) result.bytes }
-        ensures filled { IsLeftBehind fill (history_of self.disk.disk) self.ends_in_stopped_write result.bytes }
+        ensures filled { IsLeftAfter fill (history_of self.disk.disk) self.ends_in_stopped_write result.bytes }
         ensures sound { result ≡ record { bytes = result.bytes; events = []; failures = 0 } }
     {
         let FusedDisk {
@@ -103,11 +103,11 @@ impl Disk for FusedDisk {
         counted(&mut self.failures, outcome)
     }
 
-    fn read_at(&mut self, place: u64, buffer: &mut [u8]) -> Result<(), DiskFault>
-        requires fits { place + length buffer.old < 2 ^ 64 }
-        requires within { place + length buffer.old ≤ length (present (history_of self.old.disk.disk)).now }
+    fn read_at(&mut self, offset: u64, buffer: &mut [u8]) -> Result<(), DiskFault>
+        requires fits { offset + length buffer.old < 2 ^ 64 }
+        requires within { offset + length buffer.old ≤ length (present (history_of self.old.disk.disk)).now }
         ensures read { OnOk result
-            (buffer.new ≡ take (length buffer.old) (drop place (present (history_of self.old.disk.disk)).now)) }
+            (buffer.new ≡ take (length buffer.old) (drop offset (present (history_of self.old.disk.disk)).now)) }
         ensures history { LeavesAll self.old self.new }
         ensures fault { OnErr result (IsAfterFault self.old self.new) }
         ensures counts { CountsFailure self.old.failures self.new.failures result }
@@ -115,19 +115,19 @@ impl Disk for FusedDisk {
         if self.switch.stops_call() {
             return Err(one_more_failed(&mut self.failures));
         }
-        let outcome = self.disk.read_at(place, buffer);
+        let outcome = self.disk.read_at(offset, buffer);
         counted(&mut self.failures, outcome)
     }
 
-    fn write_at(&mut self, place: u64, bytes: &[u8]) -> Result<(), DiskFault>
-        requires fits { place + length bytes.now < 2 ^ 64 }
-        requires within { place ≤ length (present (history_of self.old.disk.disk)).now }
+    fn write_at(&mut self, offset: u64, bytes: &[u8]) -> Result<(), DiskFault>
+        requires fits { offset + length bytes.now < 2 ^ 64 }
+        requires within { offset ≤ length (present (history_of self.old.disk.disk)).now }
         ensures written { let before = history_of self.old.disk.disk in
-            OnOk result (IsWritten place bytes.now (present before) (present (history_of self.new.disk.disk))) }
+            OnOk result (IsWritten offset bytes.now (present before) (present (history_of self.new.disk.disk))) }
         ensures goes_on { let before = history_of self.old.disk.disk in
-            GoesOn before (history_of self.new.disk.disk) (IsWithinWrite place (length bytes.now) (present before)) }
+            GoesOn before (history_of self.new.disk.disk) (IsWithinWrite offset (length bytes.now) (present before)) }
         ensures fault { OnErr result (IsAfterFault self.old self.new) }
-        ensures stopped { OnErr result (IsAsBeforeStop self.old self.new ⊎ EndsInStoppedWrite place bytes.now self.old self.new) }
+        ensures stopped { OnErr result (IsAsBeforeStop self.old self.new ⊎ EndsInStoppedWrite offset bytes.now self.old self.new) }
         ensures counts { CountsFailure self.old.failures self.new.failures result }
         ensures passed { OnOk result (self.new.ends_in_stopped_write ≡ false) }
     {
@@ -137,7 +137,7 @@ impl Disk for FusedDisk {
                 return Err(fault);
             }
             let failing = &mut self.disk;
-            return match failing.disk.write_at(place, bytes) {
+            return match failing.disk.write_at(offset, bytes) {
                 Ok(()) => {
                     self.ends_in_stopped_write = true;
                     Err(fault)
@@ -145,7 +145,7 @@ impl Disk for FusedDisk {
                 Err(_) => Err(fault),
             };
         }
-        let outcome = self.disk.write_at(place, bytes);
+        let outcome = self.disk.write_at(offset, bytes);
         self.ends_in_stopped_write &= outcome.is_err();
         counted(&mut self.failures, outcome)
     }

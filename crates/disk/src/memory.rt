@@ -15,7 +15,7 @@ use std::marker::Model;
 /// A write as it is kept, so that it can be undone.
 #[derive(Drop)]
 struct NotedWrite {
-    place: usize,
+    offset: usize,
     count: usize,
     length_before: usize,
     replaced: Vec<u8>,
@@ -27,7 +27,7 @@ impl Model for NotedWrite {
     ghost Value = { Overwrite };
 
     ghost view = { λ w. record {
-      place = w.place;
+      offset = w.offset;
       count = w.count;
       length_before = w.length_before;
       replaced = w.replaced.items;
@@ -44,7 +44,7 @@ enum Event {
 /// replaced, and of every sync, so that contracts can read what is held, what was touched and each
 /// moment of the past.
 ///
-/// A call fails where it finds no memory, and does nothing then.
+/// A call fails if it finds no memory, and does nothing then.
 #[derive(Drop)]
 pub struct MemoryDisk {
     bytes: Vec<u8>,
@@ -99,26 +99,26 @@ impl MemoryDisk {
 fn write(
     file: &mut Vec<u8>,
     events: &mut Vec<Event>,
-    place: usize,
+    offset: usize,
     bytes: &[u8],
 ) -> Result<(), AllocError>
-    requires fits { place + length bytes.now < 2 ^ 64 }
-    requires within { place ≤ length file.old.items }
-    ensures written { OnOk result (file.new.items ≡ put file.old.items place bytes.now) }
+    requires fits { offset + length bytes.now < 2 ^ 64 }
+    requires within { offset ≤ length file.old.items }
+    ensures written { OnOk result (file.new.items ≡ put file.old.items offset bytes.now) }
     ensures noted { OnOk result (events.new.items
-        ≡ events.old.items ++ Event.Wrote (noted_write place bytes.now file.old.items) ∷ []) }
+        ≡ events.old.items ++ Event.Wrote (noted_write offset bytes.now file.old.items) ∷ []) }
     ensures refused { OnErr result
         ((file.new.items ≡ file.old.items) × (events.new.items ≡ events.old.items)) }
 {
     let length_before = file.len();
-    let overlap = bytes.len().min(length_before - place);
-    let end = place + overlap;
+    let overlap = bytes.len().min(length_before - offset);
+    let end = offset + overlap;
     let alloc = *file.allocator();
-    let replaced = Vec::from_slice(alloc, &file[place..end])?;
+    let replaced = Vec::from_slice(alloc, &file[offset..end])?;
     // What may be refused comes first: the growth by the bytes past the end, and the note.
     file.extend_from_slice(&bytes[overlap..])?;
     let note = NotedWrite {
-        place,
+        offset,
         count: bytes.len(),
         length_before,
         replaced,
@@ -127,7 +127,7 @@ fn write(
         file.truncate(length_before);
         return Err(AllocError);
     }
-    file[place..end].copy_from_slice(&bytes[..overlap]);
+    file[offset..end].copy_from_slice(&bytes[..overlap]);
     Ok(())
 }
 
@@ -153,36 +153,36 @@ impl Disk for MemoryDisk {
         Ok(self.bytes.len() as u64)
     }
 
-    fn read_at(&mut self, place: u64, buffer: &mut [u8]) -> Result<(), DiskFault>
-        requires fits { place + length buffer.old < 2 ^ 64 }
-        requires within { place + length buffer.old ≤ length (present (history_of self.old)).now }
+    fn read_at(&mut self, offset: u64, buffer: &mut [u8]) -> Result<(), DiskFault>
+        requires fits { offset + length buffer.old < 2 ^ 64 }
+        requires within { offset + length buffer.old ≤ length (present (history_of self.old)).now }
         ensures read { OnOk result
-            (buffer.new ≡ take (length buffer.old) (drop place (present (history_of self.old)).now)) }
+            (buffer.new ≡ take (length buffer.old) (drop offset (present (history_of self.old)).now)) }
         ensures history { history_of self.new ≡ history_of self.old }
         ensures fault { OnErr result (IsAsBefore self.old self.new) }
         ensures counts { CountsFailure self.old.failures self.new.failures result }
         ensures never_fails { IsOk result }
     {
-        let start = place as usize;
+        let start = offset as usize;
         buffer.copy_from_slice(&self.bytes[start..start + buffer.len()]);
         Ok(())
     }
 
-    fn write_at(&mut self, place: u64, bytes: &[u8]) -> Result<(), DiskFault>
-        requires fits { place + length bytes.now < 2 ^ 64 }
-        requires within { place ≤ length (present (history_of self.old)).now }
-        ensures written { OnOk result (IsWritten place bytes.now (present (history_of self.old)) (present (history_of self.new))) }
+    fn write_at(&mut self, offset: u64, bytes: &[u8]) -> Result<(), DiskFault>
+        requires fits { offset + length bytes.now < 2 ^ 64 }
+        requires within { offset ≤ length (present (history_of self.old)).now }
+        ensures written { OnOk result (IsWritten offset bytes.now (present (history_of self.old)) (present (history_of self.new))) }
         ensures goes_on { GoesOn (history_of self.old) (history_of self.new)
-            (IsWithinWrite place (length bytes.now) (present (history_of self.old))) }
+            (IsWithinWrite offset (length bytes.now) (present (history_of self.old))) }
         ensures fault { OnErr result (IsAsBefore self.old self.new) }
         ensures noted { OnOk result (self.new ≡ record {
-          bytes = put self.old.bytes place bytes.now;
-          events = Event.Wrote (noted_write place bytes.now self.old.bytes) ∷ self.old.events;
+          bytes = put self.old.bytes offset bytes.now;
+          events = Event.Wrote (noted_write offset bytes.now self.old.bytes) ∷ self.old.events;
           failures = self.old.failures;
         }) }
         ensures counts { CountsFailure self.old.failures self.new.failures result }
     {
-        match write(&mut self.bytes, &mut self.events, place as usize, bytes) {
+        match write(&mut self.bytes, &mut self.events, offset as usize, bytes) {
             Ok(()) => Ok(()),
             Err(_) => Err(one_more_failed(&mut self.failures)),
         }

@@ -6,8 +6,7 @@ use std::sync::atomic::{AtomicBool, AtomicU64, Ordering};
 
 /// Says when a `FailingDisk` and a `FusedDisk` fail. It is handed to them as they are made, and
 /// what holds a clone of it arms them also while something else has the disk. Each disk counts
-/// every call made to it, `len` and `read_at` too. An arming takes the place of the last one of its
-/// kind.
+/// every call made to it, `len` and `read_at` too. An arming replaces the last one of its kind.
 ///
 /// A word in memory that threads share tells a contract nothing: that calls fail when they should
 /// is tested.

@@ -91,7 +91,7 @@ impl Drill {
     }
 
     // Ends the fuse and the book, and gives the bytes that the disk has then: what the last stop
-    // leaves of it, where a line set one.
+    // leaves of it, if a line set one.
     fn into_recording(self) -> Result<Vec<u8>, AllocError> {
         let Drill {
             alloc,
@@ -243,12 +243,12 @@ pub fn run<I: Read + Drop, O: Write>(alloc: Global, input: I, out: &mut O) -> io
 pub struct Ran {
     /// Whether no line was bad.
     pub is_whole: bool,
-    /// The bytes that its disk has then, as the last stop leaves them where a line set one; none
-    /// where there was no `new`.
+    /// The bytes that its disk has then, as the last stop leaves them if a line set one; none if
+    /// there was no `new`.
     pub recording: Vec<u8>,
 }
 
-/// Runs a script as [`run`] does, and gives the recording that it leaves, also where a line was bad.
+/// Runs a script as [`run`] does, and gives the recording that it leaves, also if a line was bad.
 pub fn run_and_read<I: Read + Drop, O: Write>(
     alloc: Global,
     input: I,

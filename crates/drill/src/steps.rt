@@ -47,7 +47,7 @@ fn answer_to_step(
     }
 }
 
-// The seat of `seek S N` and `leave S`, and the place that it is to have.
+// The seat of `seek S N` and `leave S`, and the position that it is to have.
 fn seat_of(line: &DeskLine) -> (u32, u64) {
     match line {
         DeskLine::Seek { seat, count } => (*seat, *count),
@@ -56,7 +56,7 @@ fn seat_of(line: &DeskLine) -> (u32, u64) {
     }
 }
 
-// The step that a line asks for, or its answer where it asks for none.
+// The step that a line asks for, or its answer if it asks for none.
 fn step_of(alloc: Global, desk: &Desk<FusedDisk>, line: DeskLine) -> Result<Step, Answer>
     ensures { IfOk result (IsSizedStep desk.now.head) }
 {
@@ -96,7 +96,7 @@ fn reply_to(alloc: Global, desk: &mut Desk<FusedDisk>, step: Step) -> Result<Rep
     Ok(reply)
 }
 
-// The answer that tells a reply; a seat has this number, and after `seek` this place.
+// The answer that tells a reply; a seat has this number, and after `seek` this position.
 fn answer_of(reply: Reply, seat: u32, position: u64) -> Answer {
     match reply {
         Reply::Host(Ok(number)) => Answer::Accepted(number),
@@ -135,7 +135,7 @@ fn answer_of(reply: Reply, seat: u32, position: u64) -> Answer {
     }
 }
 
-// Where a viewer begins.
+// The position at which a viewer begins.
 fn start_of(start: drill_script::Start) -> Start {
     match start {
         drill_script::Start::Live => Start::Live,
@@ -143,7 +143,7 @@ fn start_of(start: drill_script::Start) -> Start {
     }
 }
 
-// `pixel N X Y`: a place outside the screen is a bad line, whatever N is.
+// `pixel N X Y`: a pixel outside the screen is a bad line, whatever N is.
 fn pixel(desk: &mut Desk<FusedDisk>, count: u64, x: u16, y: u16) -> Answer {
     let size = desk.header().size();
     if x >= size.width || y >= size.height {

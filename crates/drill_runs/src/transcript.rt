@@ -3,9 +3,9 @@
 use std::alloc::Global;
 use std::io;
 
-/// A script, and what it is to answer. Where its disk has a recording at first, the first line is
-/// `<` and the hexadecimal digits of that one's bytes. Where the bytes that its disk then has are
-/// told too, they are the last line of the answers, as `=` and their hexadecimal digits.
+/// A script, and what it is to answer. If its disk has a recording at first, the first line is `<`
+/// and the hexadecimal digits of that one's bytes. If the bytes that its disk then has are told
+/// too, they are the last line of the answers, as `=` and their hexadecimal digits.
 #[derive(Drop)]
 pub struct Transcript {
     recording: Option<Vec<u8>>,
@@ -15,7 +15,7 @@ pub struct Transcript {
 }
 
 impl Transcript {
-    /// Reads the lines of one drill. `\r` in a line of the script is a carriage return; behind `*` a
+    /// Reads the lines of one drill. `\r` in a line of the script is a carriage return; after `*` a
     /// line of it is told by its bytes, as hexadecimal digits.
     pub fn read(alloc: Global, text: &str) -> io::Result<Transcript> {
         let mut recording = None;
@@ -51,7 +51,7 @@ impl Transcript {
         })
     }
 
-    /// What the drill answers, where that is something else.
+    /// What the drill answers, if that is something else.
     pub fn answered_otherwise(&self, alloc: Global) -> io::Result<Option<String>> {
         let mut out = Vec::new(alloc);
         let script = self.script.as_slice();

@@ -34,7 +34,7 @@ no_word [] e some = absurd (some refl)
 no_word ([] ∷ ws) e some = refl
 no_word ((b ∷ bs) ∷ ws) e some = absurd cc
 
--- no word where one has to be
+-- no word, though one has to be there
 pub ends : {A B : Type 0} (view : A → List ℕ) (digits_of : B → List ℕ) (fault : LineFault) (front : List ℕ) (words after left : List (List ℕ)) (total : Option (List ℕ × List (List ℕ)))
     → Reads view (Err fault) after (word_at words) → words ≢ [] → with_front front (joined_at words) ≡ total → ReadsInMemory digits_of (Err fault) left total
 ends view digits_of Bad front words after left total none some so_far = sym so_far ∙ ap (with_front front) (no_word words none some)

@@ -47,7 +47,7 @@ parts_begin text first rest e =
 pub parts_some : (text : List ℕ) → parts text ≡ [] → ⊥
 parts_some text none = absurd (omega (arith, length-slice_split is_space text, ap length none))
 
--- nothing is left exactly where there is no part
+-- nothing is left exactly when there is no part
 pub over_is : {T : Type 0} (text : T → List ℕ) (rest : Option T) (over : Bool) → is_some rest ≡ not over
     → IsTrue over ↔ (option_map_or (λ t. parts (text t)) rest [] ≡ [])
 over_is text None true e = (λ _. refl, λ _. refl)
@@ -78,7 +78,7 @@ both : (words : List (List ℕ)) → AreSome words → AllByRecursion IsUnspaced
 both [] some unspaced = tt
 both (word ∷ words) some unspaced = ((some.0, unspaced.0), both words some.1 unspaced.1)
 
--- the parts of a text are its words where none is empty
+-- the parts of a text are its words if none is empty
 pub parts_text : (text : List ℕ) → AreSome (parts text) → IsTextOf (parts text) text
 parts_text text some = record {
   some = parts_some text;

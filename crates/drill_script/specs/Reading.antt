@@ -41,7 +41,7 @@ infixl 10 ◌>>=◌
 abbrev pub ◌>>=◌ : {A B : Type 0} → Option A → (A → Option B) → Option B
 o >>= f = option_and_then f o
 
--- the parts of a text that spaces part, an empty one where two of them meet
+-- the parts of a text that spaces part, an empty one when two of them meet
 abbrev pub parts : List ℕ → List (List ℕ)
 parts text = slice_split (λ byte. byte == 32) text
 

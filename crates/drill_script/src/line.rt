@@ -10,16 +10,16 @@ pub enum Fill {
     Held,
     /// `now`: the bytes as they were written.
     Now,
-    /// Two hexadecimal digits: this byte at each place that was written since the last sync.
+    /// Two hexadecimal digits: this byte at each offset that was written since the last sync.
     Byte(u8),
 }
 
-/// Where a new seat begins.
+/// The position at which a new seat begins.
 #[derive(Clone, Copy, Debug, PartialEq, Eq)]
 pub enum Start {
-    /// `live`: behind the last committed message.
+    /// `live`: after the last committed message.
     Live,
-    /// `N`: behind the first N messages.
+    /// `N`: after the first N messages.
     At(u64),
 }
 
@@ -47,15 +47,15 @@ pub enum DeskLine {
     Host { time: u32, bytes: Vec<u8> },
     /// `take`: the accepted messages go into a block.
     Take,
-    /// `body`: the block is written behind its gate.
+    /// `body`: the block is written, with its gate closed.
     Body,
     /// `gate`: the block's gate is opened.
     Gate,
-    /// `join live`, `join N`: a viewer takes a free seat, live or behind the first N messages.
+    /// `join live`, `join N`: a viewer takes a free seat, live or after the first N messages.
     Join { start: Start },
     /// `next S LIMIT`: the next messages of seat S, LIMIT of them at most.
     Next { seat: u32, limit: u32 },
-    /// `seek S N`: seat S goes behind the first N messages.
+    /// `seek S N`: seat S goes to position N, after the first N messages.
     Seek { seat: u32, count: u64 },
     /// `leave S`: seat S is free again.
     Leave { seat: u32 },

@@ -88,7 +88,7 @@ fn first_space(text: &[u8]) -> Option<usize>
     text.iter().position(|byte| *byte == b' ')
 }
 
-// The part before the first space, and the text behind it.
+// The part before the first space, and the text after it.
 fn split_part(text: &[u8]) -> (&[u8], Option<&[u8]>)
     ensures { parts text.now ≡ result.0.now ∷ option_map_or (λ rest. parts rest.now) result.1 [] }
 {
@@ -129,7 +129,7 @@ impl<'a> Words<'a> {
         self.rest.is_none()
     }
 
-    /// The next word. It's bad where none is left, or two spaces meet.
+    /// The next word. It's bad if none is left, or two spaces meet.
     pub(crate) fn word(&mut self) -> Result<&'a [u8], LineFault>
         ensures { Reads (λ word. word.now) result self.new (word_at self.old) }
     {

@@ -14,9 +14,9 @@ use crate::system::{FILE, NET, THREAD};
 fn text_of(texts: &[&'static str], number: u64) -> Option<&'static str>
     ensures { IsSome result ↔ (1 ≤ number) × (number ≤ length texts.now) }
 {
-    let place = number.checked_sub(1)?;
-    if place < texts.len() as u64 {
-        Some(texts[place as usize])
+    let index = number.checked_sub(1)?;
+    if index < texts.len() as u64 {
+        Some(texts[index as usize])
     } else {
         None
     }
@@ -27,13 +27,13 @@ fn text_of_host(number: u64) -> Option<&'static str>
     ensures { IsSome result ↔ IsNumberOf Area.Host number }
 {
     match number.checked_sub(19) {
-        Some(behind) if behind > 0 => text_of(&HANDSHAKE, behind),
+        Some(after) if after > 0 => text_of(&HANDSHAKE, after),
         _ => text_of(&WIRE, number),
     }
 }
 
-/// What a refusal of this area and number means, where it comes from, and what to do: two or three
-/// lines of at most 80 columns, the last one without a newline behind it.
+/// What a refusal of this area and number means, what it comes from, and what to do: two or three
+/// lines of at most 80 columns, the last one without a newline after it.
 pub fn explanation(area: Area, number: u64) -> Option<&'static str>
     ensures { IsSome result ↔ IsNumberOf area number }
 {

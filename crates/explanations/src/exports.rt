@@ -6,7 +6,7 @@ Blocks count from 0, and `recorderd list PATH` prints a line for each: give FROM
 one of these numbers.";
 
 const BAD_END: &str = "\
-TO lies before the first message of block FROM, or behind the last message.
+TO lies before the first message of block FROM, or after the last message.
 OUT wasn't touched. `recorderd list PATH` prints the first message of each
 block, and `recorderd check PATH` how many messages there are.";
 

@@ -1,5 +1,5 @@
-//! What a refusal means, where it comes from, and what to do: a text for each line that `recorderd`
-//! prints where a command is refused. `docs/ERRORS.md` is made of these texts.
+//! What a refusal means, what it comes from, and what to do: a text for each line that `recorderd`
+//! prints when a command is refused. `docs/ERRORS.md` is made of these texts.
 #![tactic(auto)]
 
 mod area;

@@ -20,7 +20,7 @@ Memory ran out while a recording was opened. Nothing was written to it.
 Free memory or raise its limit, and start again.";
 
 const BAD_DIGEST: &str = "\
-The digest of block B isn't that of its bytes behind the blocks before it: block
+The digest of block B isn't that of its bytes after the blocks before it: block
 B was changed, or one before it dropped, inserted or changed. Nothing was
 written: restore the file from a copy, or `salvage` what is before B.";
 

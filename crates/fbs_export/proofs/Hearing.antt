@@ -29,9 +29,9 @@ use Rattle.fbs_export.proofs.Pieces.{goes_on, stops_in}
 use Rattle.fbs_export.proofs.Stamping.{block_stamped}
 
 -- more messages in front
-reads_behind : (w h : ℕ) (parts new : List (Part Message)) (body x rest : List ℕ) → AllByRecursion (IsPart (message_at (message_limit Two) w h)) parts → body ≡ flat_map bytes_of parts ++ x
+reads_after : (w h : ℕ) (parts new : List (Part Message)) (body x rest : List ℕ) → AllByRecursion (IsPart (message_at (message_limit Two) w h)) parts → body ≡ flat_map bytes_of parts ++ x
     → Reads (message_at (message_limit Two) w h) x new rest → Reads (message_at (message_limit Two) w h) body (parts ++ new) rest
-reads_behind w h parts new body x rest each is r = record {
+reads_after w h parts new body x rest each is r = record {
   each = all_append (IsPart (message_at (message_limit Two) w h)) parts new each r.each;
   stream_is = is ∙ ap (λ z. flat_map bytes_of parts ++ z) r.stream_is ∙ sym (append_assoc (flat_map bytes_of parts) (flat_map bytes_of new) rest)
       ∙ ap (λ z. z ++ rest) (sym (flat_append bytes_of parts new));
@@ -114,7 +114,7 @@ hears_fault keeps c fresh r times s piece (faults.Message w) a p =
       fault = record {
         parts = a.parts ++ x.parts;
         rest = x.rest;
-        reads = reads_behind r.width r.height a.parts x.parts (a.body ++ piece) ((a.lead ++ a.since) ++ piece) x.rest a.each is x.reads;
+        reads = reads_after r.width r.height a.parts x.parts (a.body ++ piece) ((a.lead ++ a.since) ++ piece) x.rest a.each is x.reads;
         fault = x.fault;
       };
     }
@@ -153,7 +153,7 @@ block_ends keeps c new r times s n t a long opening stamps_all =
     let size = ap (λ z. length z) a.body_is in
     let sizes : length a.body ≡ length (flat_map bytes_of a.parts) + (length a.lead + length a.since) =
     omega (arith, size, length-append (flat_map bytes_of a.parts) (a.lead ++ a.since), length-append a.lead a.since) in
-    let all_of_them : Reads (message_at (message_limit Two) w h) a.body (a.parts ++ new_parts) g.rest = reads_behind w h a.parts new_parts a.body (a.lead ++ a.since) g.rest a.each a.body_is g.gives.reads in
+    let all_of_them : Reads (message_at (message_limit Two) w h) a.body (a.parts ++ new_parts) g.rest = reads_after w h a.parts new_parts a.body (a.lead ++ a.since) g.rest a.each a.body_is g.gives.reads in
     let size' = ap (λ z. length z) all_of_them.stream_is in
     let stamps : stamped w h (drop a.at (times ++ replicate n t)) (a.parts ++ new_parts) ≡ stamped w h (drop a.at times) a.parts ++ at_time t (flat_map (λ p. given Two w h p.message p.bytes) new_parts) =
     block_stamped w h times a.at n t a.parts new_parts a.lead a.since g.rest a.timed (omega (arith, sizes, a.timed, a.length_is, long)) a.lead_waits a.each g.gives.reads.each g.gives.reads.stream_is in
@@ -244,7 +244,7 @@ waits_within keeps c r times s a = record {
   opens = ap opening_at (sym (append-nil s)) ∙ a.opened [] ∙ ap (Got (record { width = r.width; height = r.height; name = name_in c.opening.name })) (append-nil a.body);
   parts = a.parts ++ a.goes.gives.parts;
   rest = a.goes.rest;
-  reads = reads_behind r.width r.height a.parts a.goes.gives.parts a.body (a.lead ++ a.since) a.goes.rest a.each a.body_is a.goes.gives.reads;
+  reads = reads_after r.width r.height a.parts a.goes.gives.parts a.body (a.lead ++ a.since) a.goes.rest a.each a.body_is a.goes.gives.reads;
   waits = a.goes.waits;
 }
 
@@ -258,7 +258,7 @@ heard_or_not : (o : Option Reader) → (o ≡ None) ⊎ ((r : Reader) × (o ≡ 
 heard_or_not None = inl refl
 heard_or_not (Some r) = inr (r, refl)
 
--- a block ends, in the opening or behind it
+-- a block ends, in the opening or after it
 pub block_over : {T : Type 0} (keeps : T → List Stamped → List Host → Type 0) (c new : Stream T) (times s : List ℕ) (n t : ℕ) → length s ≡ length times + n → new.opening ≡ c.opening → new.reader ≡ c.reader
     → ((told : List Stamped) → (waiting : List Host) → keeps c.tally told waiting → keeps new.tally (told ++ at_time t waiting) []) → Stands keeps c times s → Stands keeps new (times ++ replicate n t) s
 block_over keeps c new times s n t long opening reader stamps_all stands = elim (heard_or_not c.reader) [

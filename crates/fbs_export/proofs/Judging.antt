@@ -1,4 +1,4 @@
--- Judging the parts of an opening, one behind the other.
+-- Judging the parts of an opening, one after the other.
 use Rattle.std.proofs.Common.{◌≡◌, ◌<◌, ◌≤◌, ℕ, ◌+◌, List, [], ◌++◌, length, take, drop, refl, sym, ap, ◌∙◌, arith, append-nil, append_assoc, take-append-drop, length-drop, drop-drop, Result, Ok, Err}
 use Rattle.std.specs.Prelude.{Option, Some, None}
 use Rattle.std.proofs.lemmas.List.{length-take}
@@ -33,14 +33,14 @@ of_opening_map (faults.Message g) P Q h p = p
 of_opening_map faults.NoMemory P Q h p = p
 of_opening_map faults.Read P Q h p = p
 
--- what is judged behind a part is judged of all the bytes
-pub judged_behind : (read next : List ℕ → Reading Opening FbsFault) (n reach all : ℕ) (bytes : List ℕ) (r : Result (Option Announced) FbsFault)
+-- what is judged after a part is judged of all the bytes
+pub judged_after : (read next : List ℕ → Reading Opening FbsFault) (n reach all : ℕ) (bytes : List ℕ) (r : Result (Option Announced) FbsFault)
     → ((more : List ℕ) → read (bytes ++ more) ≡ next (drop n bytes ++ more)) → n ≤ length bytes → all ≡ n + reach → IsJudged next reach (drop n bytes) r → IsJudged read all bytes r
-judged_behind read next n reach all bytes (Ok None) link enough is judged =
+judged_after read next n reach all bytes (Ok None) link enough is judged =
     let here : read bytes ≡ next (drop n bytes) = ap read (sym (append-nil bytes)) ∙ link [] ∙ ap next (append-nil (drop n bytes)) in
     (here ∙ judged.0, omega (arith, judged.1, length-drop n bytes, is, enough))
-judged_behind read next n reach all bytes (Ok (Some a)) link enough is judged =
+judged_after read next n reach all bytes (Ok (Some a)) link enough is judged =
     let same : drop reach (drop n bytes) ≡ drop all bytes = drop-drop reach n bytes ∙ ap (λ z. drop z bytes) (omega (arith, is)) in
     (omega (arith, judged.0, length-drop n bytes, is, enough), λ more. link more ∙ judged.1 more ∙ ap (λ z. named a.size.width a.size.height a.count (z ++ more)) same)
-judged_behind read next n reach all bytes (Err f) link enough is judged =
+judged_after read next n reach all bytes (Err f) link enough is judged =
     of_opening_map f ((more : List ℕ) → next (drop n bytes ++ more) ≡ Bad f) ((more : List ℕ) → read (bytes ++ more) ≡ Bad f) (λ h more. link more ∙ h more) judged

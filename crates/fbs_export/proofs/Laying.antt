@@ -1,4 +1,4 @@
--- Blocks that come, one behind the other.
+-- Blocks that come, one after the other.
 use Rattle.std.proofs.Common.{◌≡◌, ◌<◌, ◌≤◌, ◌+◌, ◌^◌, ◌⊎◌, inl, inr, ℕ, List, [], ◌∷◌, ◌++◌, length, take, drop, false, nat_lt, refl, sym, ap, ◌∙◌, subst, arith, append_assoc, append-nil, length-append, length-drop, take-append-drop, None, Some, IfSome}
 use Rattle.std.specs.Prelude.{Option}
 use Rattle.std.specs.List.{flat_map}
@@ -107,16 +107,16 @@ pub times_more : (blocks : List (Part Block)) (p : Part Block) → times_of (blo
 times_more blocks p = flat_append block_times blocks (p ∷ []) ∙ ap (λ z. times_of blocks ++ z) (append-nil (block_times p))
 
 -- a fault in the data that are there is one of the file, whatever follows
-pub fault_in_data : (f : FbsFault) (front behind : List ℕ) (blocks : List (Part Block)) (tail : List ℕ) → Laid front blocks tail → IsDataFault (stream_of blocks tail) f → IsFault (front ++ behind) f
-fault_in_data faults.NotFbs front behind blocks tail laid p = absurd p
-fault_in_data faults.Truncated front behind blocks tail laid p = absurd p
-fault_in_data faults.Version front behind blocks tail laid p = record { front = front; behind = behind; is = refl; blocks = blocks; tail = tail; laid = laid; holds = p }
-fault_in_data faults.Security front behind blocks tail laid p = record { front = front; behind = behind; is = refl; blocks = blocks; tail = tail; laid = laid; holds = p }
-fault_in_data faults.Format front behind blocks tail laid p = record { front = front; behind = behind; is = refl; blocks = blocks; tail = tail; laid = laid; holds = p }
-fault_in_data faults.Size front behind blocks tail laid p = record { front = front; behind = behind; is = refl; blocks = blocks; tail = tail; laid = laid; holds = p }
-fault_in_data (faults.Message w) front behind blocks tail laid p = record { front = front; behind = behind; is = refl; blocks = blocks; tail = tail; laid = laid; holds = p }
-fault_in_data faults.NoMemory front behind blocks tail laid p = tt
-fault_in_data faults.Read front behind blocks tail laid p = tt
+pub fault_in_data : (f : FbsFault) (front following : List ℕ) (blocks : List (Part Block)) (tail : List ℕ) → Laid front blocks tail → IsDataFault (stream_of blocks tail) f → IsFault (front ++ following) f
+fault_in_data faults.NotFbs front following blocks tail laid p = absurd p
+fault_in_data faults.Truncated front following blocks tail laid p = absurd p
+fault_in_data faults.Version front following blocks tail laid p = record { front = front; following = following; is = refl; blocks = blocks; tail = tail; laid = laid; holds = p }
+fault_in_data faults.Security front following blocks tail laid p = record { front = front; following = following; is = refl; blocks = blocks; tail = tail; laid = laid; holds = p }
+fault_in_data faults.Format front following blocks tail laid p = record { front = front; following = following; is = refl; blocks = blocks; tail = tail; laid = laid; holds = p }
+fault_in_data faults.Size front following blocks tail laid p = record { front = front; following = following; is = refl; blocks = blocks; tail = tail; laid = laid; holds = p }
+fault_in_data (faults.Message w) front following blocks tail laid p = record { front = front; following = following; is = refl; blocks = blocks; tail = tail; laid = laid; holds = p }
+fault_in_data faults.NoMemory front following blocks tail laid p = tt
+fault_in_data faults.Read front following blocks tail laid p = tt
 
 -- what is said of the bytes that are left is said of all of them
 pub if_some_front : (a b : Option (List ℕ)) (seen : List ℕ) (P : List ℕ → Type 0) → Consumes a b seen → IfSome b (λ rest. P (seen ++ rest)) → IfSome a P
@@ -130,9 +130,9 @@ if_any None P h = tt
 if_any (Some x) P h = h x
 
 -- a fault in the data of a block
-pub content_fault : (f : FbsFault) (seen : List ℕ) (blocks : List (Part Block)) (n : ℕ) (x behind : List ℕ) → Laid seen blocks [] → 12 ≤ length seen → n < 2 ^ 32 → length x ≤ n
-    → IsDataFault (data_of blocks ++ x) f → IsFault (seen ++ (u32_bytes n ++ (x ++ behind))) f
-content_fault f seen blocks n x behind laid long small fits bad =
+pub content_fault : (f : FbsFault) (seen : List ℕ) (blocks : List (Part Block)) (n : ℕ) (x following : List ℕ) → Laid seen blocks [] → 12 ≤ length seen → n < 2 ^ 32 → length x ≤ n
+    → IsDataFault (data_of blocks ++ x) f → IsFault (seen ++ (u32_bytes n ++ (x ++ following))) f
+content_fault f seen blocks n x following laid long small fits bad =
     let tail : List ℕ = u32_bytes n ++ (x ++ []) in
     let waits : block_at tail ≡ More = elim (cases_lt (length x) n) [
       | inl less ↦ in_block n x [] small (inl (less, refl))
@@ -140,9 +140,9 @@ content_fault f seen blocks n x behind laid long small fits bad =
     ] in
     let here : begun tail ≡ x = begun_is n x [] small fits (inl refl) in
     let front : Laid (seen ++ tail) blocks tail = laid_tail seen tail blocks laid long waits in
-    let all : (seen ++ tail) ++ behind ≡ seen ++ (u32_bytes n ++ (x ++ behind)) =
-    append_assoc seen tail behind ∙ ap (λ z. seen ++ (z ++ behind)) (ap (λ z. u32_bytes n ++ z) (append-nil x)) ∙ ap (λ z. seen ++ z) (append_assoc (u32_bytes n) x behind) in
-    subst (λ z. IsFault z f) all (fault_in_data f (seen ++ tail) behind blocks tail front (subst (λ z. IsDataFault (data_of blocks ++ z) f) (sym here) bad))
+    let all : (seen ++ tail) ++ following ≡ seen ++ (u32_bytes n ++ (x ++ following)) =
+    append_assoc seen tail following ∙ ap (λ z. seen ++ (z ++ following)) (ap (λ z. u32_bytes n ++ z) (append-nil x)) ∙ ap (λ z. seen ++ z) (append_assoc (u32_bytes n) x following) in
+    subst (λ z. IsFault z f) all (fault_in_data f (seen ++ tail) following blocks tail front (subst (λ z. IsDataFault (data_of blocks ++ z) f) (sym here) bad))
 
 -- a file that ends inside a block
 pub cut_short : (seen tail x : List ℕ) (blocks : List (Part Block)) → Laid seen blocks [] → 12 ≤ length seen → block_at tail ≡ More → begun tail ≡ x → 0 < length tail

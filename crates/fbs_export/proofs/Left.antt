@@ -10,7 +10,7 @@ use Rattle.fbs_export.specs.Export.{block_text, messages_text, messages_from, fi
 use Rattle.fbs_export.specs.Written.{WroteFront}
 use Rattle.fbs_export.proofs.Writes.{front_of_first, front_of_second}
 
--- the message that stands at a place below the end is the next one of those that are left
+-- the message that stands at a position below the end is the next one of those that are left
 pub next_left : (all : List Stamped) (n to : ℕ) (s : Stamped) → slice_get all n ≡ Some s → n < to → drop n (take to all) ≡ s ∷ drop (suc n) (take to all)
 next_left all n zero s e less = absurd (omega arith)
 next_left [] n (suc to) s e less = absurd (cc)
@@ -34,14 +34,14 @@ pub base_is : (o : Option ℕ) (n from time t : ℕ) → MatchOption o (n ≡ fr
 base_is None n from time t known start = start known
 base_is (Some b) n from time t known start = known
 
--- where the first of them is the next
+-- if the first of them is the next
 pub starts_here : (all : List Stamped) (from n to : ℕ) (s : Stamped) → drop n (take to all) ≡ s ∷ drop (suc n) (take to all) → n ≡ from → s.time ≡ first_time (between all from to)
 starts_here all from n to s left here = ap first_time (sym left) ∙ ap (λ z. first_time (drop z (take to all))) here
 
 pub front_so_far : (all : List Stamped) (from n to : ℕ) (a b : Option (List ℕ)) → SoFar all from n to a b → WroteFront a b (messages_from all from to)
 front_so_far all from n to a b s = record {
   front = s.done;
-  behind = messages_text (first_time (between all from to)) (drop n (take to all));
+  following = messages_text (first_time (between all from to)) (drop n (take to all));
   is = sym s.whole;
   wrote = s.wrote;
 }

@@ -10,7 +10,7 @@ use Rattle.fbs_export.specs.declared.opening.Name.{Name}
 use Rattle.fbs_export.specs.Opening.{opening_at, named}
 use Rattle.fbs_export.specs.Reader.{IsInName, IsOpened}
 
--- what is kept of a name and of what comes behind
+-- what is kept of a name and of what comes after
 keep_more : (came new : List ℕ) (k : ℕ) → k ≡ min (length new) (1024 - length (take 1024 came)) → take 1024 came ++ take k new ≡ take 1024 (came ++ new)
 keep_more came new k is = elim (cases_lt 1024 (length came)) [
   | inl long ↦

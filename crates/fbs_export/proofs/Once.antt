@@ -27,10 +27,10 @@ rest_local : (n : ℕ) → IsLocal (rest_of_block n)
 unfolding rest_of_block
 rest_local n bytes more =
     let last : List ℕ → List ℕ → List ℕ → List ℕ → Reading Block WireFault = λ content padding time rest. Got (record { content = content; padding = padding; time = u32_at time 0 }) rest in
-    let padded : List ℕ → List ℕ → List ℕ → Reading Block WireFault = λ content padding behind. field 4 behind >>= last content padding in
-    let whole : List ℕ → List ℕ → Reading Block WireFault = λ content behind. field (padding_length n) behind >>= padded content in
+    let padded : List ℕ → List ℕ → List ℕ → Reading Block WireFault = λ content padding following. field 4 following >>= last content padding in
+    let whole : List ℕ → List ℕ → Reading Block WireFault = λ content following. field (padding_length n) following >>= padded content in
     bind_local (field n bytes) (field n (bytes ++ more)) more whole whole (field_local WireFault n bytes more)
-    (λ content behind. bind_local (field (padding_length n) behind) (field (padding_length n) (behind ++ more)) more (padded content) (padded content) (field_local WireFault (padding_length n) behind more)
+    (λ content following. bind_local (field (padding_length n) following) (field (padding_length n) (following ++ more)) more (padded content) (padded content) (field_local WireFault (padding_length n) following more)
     (λ padding end. bind_local (field 4 end) (field 4 (end ++ more)) more (last content padding) (last content padding) (field_local WireFault 4 end more) (λ time rest. refl)))
 
 block_local : IsLocal block_at
@@ -119,8 +119,8 @@ content_is : (n : ℕ) (x : List ℕ) (m : Block) (after : List ℕ) → rest_of
 unfolding rest_of_block
 content_is n x m after e =
     let last : List ℕ → List ℕ → List ℕ → List ℕ → Reading Block WireFault = λ content padding time rest. Got (record { content = content; padding = padding; time = u32_at time 0 }) rest in
-    let padded : List ℕ → List ℕ → List ℕ → Reading Block WireFault = λ content padding behind. field 4 behind >>= last content padding in
-    let whole : List ℕ → List ℕ → Reading Block WireFault = λ content behind. field (padding_length n) behind >>= padded content in
+    let padded : List ℕ → List ℕ → List ℕ → Reading Block WireFault = λ content padding following. field 4 following >>= last content padding in
+    let whole : List ℕ → List ℕ → Reading Block WireFault = λ content following. field (padding_length n) following >>= padded content in
     let first = bind_got (field n x) whole m after e in
     let second = bind_got (field (padding_length n) first.rest) (padded first.value) m after first.then in
     let third = bind_got (field 4 second.rest) (last first.value second.value) m after second.then in
@@ -129,41 +129,41 @@ content_is n x m after e =
     ap (λ (z : Block). z.content) (sym same) ∙ (field_got n x first.value first.rest first.first).is
 
 -- what is there of a block stands in front of its data
-begun_in_front : (q : Part Block) (rest t behind : List ℕ) → block_at (t ++ behind) ≡ Got q.message rest → GoesOn (begun t) (content_of q)
+begun_in_front : (q : Part Block) (rest t following : List ℕ) → block_at (t ++ following) ≡ Got q.message rest → GoesOn (begun t) (content_of q)
 unfolding block_at
-begun_in_front q rest [] behind e = record { more = content_of q; is = refl }
-begun_in_front q rest (a ∷ []) behind e = record { more = content_of q; is = refl }
-begun_in_front q rest (a ∷ b ∷ []) behind e = record { more = content_of q; is = refl }
-begun_in_front q rest (a ∷ b ∷ c ∷ []) behind e = record { more = content_of q; is = refl }
-begun_in_front q rest (a ∷ b ∷ c ∷ d ∷ t) behind e =
+begun_in_front q rest [] following e = record { more = content_of q; is = refl }
+begun_in_front q rest (a ∷ []) following e = record { more = content_of q; is = refl }
+begun_in_front q rest (a ∷ b ∷ []) following e = record { more = content_of q; is = refl }
+begun_in_front q rest (a ∷ b ∷ c ∷ []) following e = record { more = content_of q; is = refl }
+begun_in_front q rest (a ∷ b ∷ c ∷ d ∷ t) following e =
     let head : List ℕ = a ∷ b ∷ c ∷ d ∷ [] in
     let n : ℕ = u32_at head 0 in
-    let read : rest_of_block n (t ++ behind) ≡ Got q.message rest = rw (field-whole {E = WireFault} 4 head (t ++ behind) refl) at e in
-    let content : content_of q ≡ take n (t ++ behind) = content_is n (t ++ behind) q.message rest read in
+    let read : rest_of_block n (t ++ following) ≡ Got q.message rest = rw (field-whole {E = WireFault} 4 head (t ++ following) refl) at e in
+    let content : content_of q ≡ take n (t ++ following) = content_is n (t ++ following) q.message rest read in
     let long : nat_lt (length (a ∷ b ∷ c ∷ d ∷ t)) 4 ≡ false = le-ltb (length (a ∷ b ∷ c ∷ d ∷ t)) 4 (omega arith) in
-    let goes = front_of_take n t behind in
+    let goes = front_of_take n t following in
     record { more = goes.more; is = rw (long) (content ∙ goes.is) }
 
 -- The blocks of a front of a file, and what it has of one more, stand in front of the file's.
-data_go_on : (b blocks : List (Part Block)) (t behind : List ℕ) → AllByRecursion (IsPart block_at) b → AllByRecursion (IsPart block_at) blocks
-    → flat_map bytes_of blocks ≡ flat_map bytes_of b ++ (t ++ behind) → GoesOn (stream_of b t) (data_of blocks)
-data_go_on [] [] t behind x y is =
-    let none : t ≡ [] = empty_list t (omega (arith, ap (λ (z : List ℕ). length z) is, length-append t behind)) in
+data_go_on : (b blocks : List (Part Block)) (t following : List ℕ) → AllByRecursion (IsPart block_at) b → AllByRecursion (IsPart block_at) blocks
+    → flat_map bytes_of blocks ≡ flat_map bytes_of b ++ (t ++ following) → GoesOn (stream_of b t) (data_of blocks)
+data_go_on [] [] t following x y is =
+    let none : t ≡ [] = empty_list t (omega (arith, ap (λ (z : List ℕ). length z) is, length-append t following)) in
     record { more = []; is = rw none refl }
-data_go_on [] (q ∷ blocks) t behind x y is =
-    let got : block_at (t ++ behind) ≡ Got q.message (flat_map bytes_of blocks) = ap block_at (sym is) ∙ part_again block_at block_local q (flat_map bytes_of blocks) y.0 in
-    let goes = begun_in_front q (flat_map bytes_of blocks) t behind got in
+data_go_on [] (q ∷ blocks) t following x y is =
+    let got : block_at (t ++ following) ≡ Got q.message (flat_map bytes_of blocks) = ap block_at (sym is) ∙ part_again block_at block_local q (flat_map bytes_of blocks) y.0 in
+    let goes = begun_in_front q (flat_map bytes_of blocks) t following got in
     record { more = goes.more ++ data_of blocks; is = ap (λ (z : List ℕ). z ++ data_of blocks) goes.is ∙ append_assoc (begun t) goes.more (data_of blocks) }
-data_go_on (p ∷ b) [] t behind x y is =
-    let none : p.bytes ≡ [] = empty_list p.bytes (omega (arith, ap (λ (z : List ℕ). length z) is, length-append (p.bytes ++ flat_map bytes_of b) (t ++ behind), length-append p.bytes (flat_map bytes_of b))) in
+data_go_on (p ∷ b) [] t following x y is =
+    let none : p.bytes ≡ [] = empty_list p.bytes (omega (arith, ap (λ (z : List ℕ). length z) is, length-append (p.bytes ++ flat_map bytes_of b) (t ++ following), length-append p.bytes (flat_map bytes_of b))) in
     let both : More ≡ Got p.message [] = sym (head_short [] (omega arith)).0 ∙ ap block_at (sym none) ∙ x.0 in
     absurd (cc)
-data_go_on (p ∷ b) (q ∷ blocks) t behind x y is =
-    let front : q.bytes ++ flat_map bytes_of blocks ≡ p.bytes ++ (flat_map bytes_of b ++ (t ++ behind)) = is ∙ append_assoc p.bytes (flat_map bytes_of b) (t ++ behind) in
-    let got = sym (part_again block_at block_local q (flat_map bytes_of blocks) y.0) ∙ ap block_at front ∙ part_again block_at block_local p (flat_map bytes_of b ++ (t ++ behind)) x.0 in
+data_go_on (p ∷ b) (q ∷ blocks) t following x y is =
+    let front : q.bytes ++ flat_map bytes_of blocks ≡ p.bytes ++ (flat_map bytes_of b ++ (t ++ following)) = is ∙ append_assoc p.bytes (flat_map bytes_of b) (t ++ following) in
+    let got = sym (part_again block_at block_local q (flat_map bytes_of blocks) y.0) ∙ ap block_at front ∙ part_again block_at block_local p (flat_map bytes_of b ++ (t ++ following)) x.0 in
     let message : q.message ≡ p.message = cc in
-    let rests : flat_map bytes_of blocks ≡ flat_map bytes_of b ++ (t ++ behind) = cc in
-    let goes = data_go_on b blocks t behind x.1 y.1 rests in
+    let rests : flat_map bytes_of blocks ≡ flat_map bytes_of b ++ (t ++ following) = cc in
+    let goes = data_go_on b blocks t following x.1 y.1 rests in
     record {
       more = goes.more;
       is = ap (λ (m : Block). m.content ++ data_of blocks) message ∙ ap (λ (z : List ℕ). content_of p ++ z) goes.is
@@ -180,10 +180,10 @@ long_start front blocks tail laid = elim (cases_lt (length front) 12) [
 
 front_goes_on : (file : List ℕ) (P : List ℕ → Type 0) (blocks : List (Part Block)) → Laid file blocks [] → (f : InFront file P) → GoesOn (stream_of f.blocks f.tail) (data_of blocks)
 front_goes_on file P blocks laid f =
-    let all : drop 12 file ≡ drop 12 f.front ++ f.behind = ap (drop 12) f.is ∙ drop-append-le 12 f.front f.behind (long_start f.front f.blocks f.tail f.laid) in
-    let is : flat_map bytes_of blocks ≡ flat_map bytes_of f.blocks ++ (f.tail ++ f.behind) =
-    sym (append-nil (flat_map bytes_of blocks)) ∙ sym laid.reads.stream_is ∙ all ∙ ap (λ (z : List ℕ). z ++ f.behind) f.laid.reads.stream_is ∙ append_assoc (flat_map bytes_of f.blocks) f.tail f.behind in
-    data_go_on f.blocks blocks f.tail f.behind f.laid.reads.each laid.reads.each is
+    let all : drop 12 file ≡ drop 12 f.front ++ f.following = ap (drop 12) f.is ∙ drop-append-le 12 f.front f.following (long_start f.front f.blocks f.tail f.laid) in
+    let is : flat_map bytes_of blocks ≡ flat_map bytes_of f.blocks ++ (f.tail ++ f.following) =
+    sym (append-nil (flat_map bytes_of blocks)) ∙ sym laid.reads.stream_is ∙ all ∙ ap (λ (z : List ℕ). z ++ f.following) f.laid.reads.stream_is ∙ append_assoc (flat_map bytes_of f.blocks) f.tail f.following in
+    data_go_on f.blocks blocks f.tail f.following f.laid.reads.each laid.reads.each is
 
 -- a fault of the opening is one of whatever goes on
 no_bad_opening : (file : List ℕ) (s : Said) (bad : FbsFault) → IsSummary file s → InFront file (λ z. opening_at z ≡ Bad bad) → ⊥

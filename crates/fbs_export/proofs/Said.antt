@@ -21,7 +21,7 @@ use Rattle.fbs_export.specs.Summary.{Said, Tells, IsSummary}
 use Rattle.fbs_export.specs.Export.{start, block_text, opening_text, messages_text, less_first, row_text, rows_text}
 use Rattle.fbs_export.proofs.Openings.{opening_is_read}
 use Rattle.fbs_export.proofs.RoundTrip.{part_of, part_is_read, message_parts, messages_are_parts, host_part, host_parts_read, same_data, same_times, no_block}
-use Rattle.fbs_export.proofs.Times.{last_time_of, behind_times}
+use Rattle.fbs_export.proofs.Times.{last_time_of, after_times}
 
 starts : (more : List ℕ) → is_start (take 12 (start ++ more)) ≡ true
 unfolding is_start
@@ -81,9 +81,9 @@ module _ (h : Head) (is : IsHead h) (screen : List ℕ) (rects : List Rectangle)
     waits = message-empty (message_limit Two) h.width h.height;
     messages_are = rw (
       times_are,
-      behind_times (length (opening_text h)) 0 (times_of (part_of 0 screen ∷ message_parts first ms)),
+      after_times (length (opening_text h)) 0 (times_of (part_of 0 screen ∷ message_parts first ms)),
       last_time_of (length screen) 0 (times_of (message_parts first ms)) some,
-      behind_times (length screen) 0 (times_of (message_parts first ms)),
+      after_times (length screen) 0 (times_of (message_parts first ms)),
       ← same_times h.format h.width h.height first ms all,
     ) refl;
     rest_is = refl;

@@ -53,10 +53,10 @@ module _ (w h : ℕ) where
   stamped_append times [] new = refl
   stamped_append times (p ∷ parts) new =
       let first : List Stamped = at_time (slice_index times (length p.bytes - 1)) (given Two w h p.message p.bytes) in
-      let behind : drop (length (bytes_in parts)) (drop (length p.bytes) times) ≡ drop (length (bytes_in (p ∷ parts))) times =
+      let following : drop (length (bytes_in parts)) (drop (length p.bytes) times) ≡ drop (length (bytes_in (p ∷ parts))) times =
       drop_drop_at (length (bytes_in parts)) (length p.bytes) times (length (bytes_in (p ∷ parts))) (omega (arith, length-append p.bytes (bytes_in parts))) in
       ap (λ z. first ++ z) (stamped_append (drop (length p.bytes) times) parts new)
-      ∙ ap (λ z. first ++ (stamped w h (drop (length p.bytes) times) parts ++ stamped w h z new)) behind
+      ∙ ap (λ z. first ++ (stamped w h (drop (length p.bytes) times) parts ++ stamped w h z new)) following
       ∙ sym (append_assoc first (stamped w h (drop (length p.bytes) times) parts) (stamped w h (drop (length (bytes_in (p ∷ parts))) times) new))
     where
       drop_drop_at : (m n : ℕ) (l : List ℕ) (k : ℕ) → n + m ≡ k → drop m (drop n l) ≡ drop k l
@@ -70,13 +70,13 @@ module _ (w h : ℕ) where
       let long = length-append p.bytes (bytes_in parts) in
       let some : 0 < length p.bytes = some_part p all.0 in
       let last : slice_index (times ++ more) (length p.bytes - 1) ≡ slice_index times (length p.bytes - 1) = get_or_append_left times more 0 (length p.bytes - 1) (omega (arith, long, some, fits)) in
-      let behind : drop (length p.bytes) (times ++ more) ≡ drop (length p.bytes) times ++ more = drop-append-le (length p.bytes) times more (omega (arith, long, fits)) in
-      rw (last, behind, stamped_front (drop (length p.bytes) times) more parts all.1 (omega (arith, long, fits, length-drop (length p.bytes) times))) refl
+      let following : drop (length p.bytes) (times ++ more) ≡ drop (length p.bytes) times ++ more = drop-append-le (length p.bytes) times more (omega (arith, long, fits)) in
+      rw (last, following, stamped_front (drop (length p.bytes) times) more parts all.1 (omega (arith, long, fits, length-drop (length p.bytes) times))) refl
 
   at_time_append : (t : ℕ) (a b : List Host) → at_time t (a ++ b) ≡ at_time t a ++ at_time t b
   at_time_append t a b = map-append (λ m. record { time = t; message = m }) a b
 
-  -- behind an unfinished message, all that becomes whole has the block's time
+  -- after an unfinished message, all that becomes whole has the block's time
   stamped_new : (times : List ℕ) (m t : ℕ) (lead since rest : List ℕ) (new : List (Part Message)) → length times ≡ length lead → length since ≡ m
       → message_at (message_limit Two) w h lead ≡ More → AllByRecursion Is new → lead ++ since ≡ bytes_in new ++ rest → stamped w h (times ++ replicate m t) new ≡ at_time t (hosts_in new)
   stamped_new times m t lead since rest [] same long waits all e = refl
@@ -88,10 +88,10 @@ module _ (w h : ℕ) where
       let sizes : length lead + length since ≡ n + length (bytes_in new ++ rest) = omega (arith, whole, length-append lead since, length-append p.bytes (bytes_in new ++ rest)) in
       let last : slice_index (times ++ replicate m t) (n - 1) ≡ t =
       get_or-append_right times (replicate m t) (length times) (n - 1) 0 refl (omega (arith, same, less)) ∙ get_or-replicate m (n - 1 - length times) t 0 (omega (arith, same, less, sizes, long)) in
-      let behind : drop n (times ++ replicate m t) ≡ replicate (m - (n - length times)) t = drop_both n times (replicate m t) (omega (arith, same, less)) ∙ drop-replicate (n - length times) m t in
+      let following : drop n (times ++ replicate m t) ≡ replicate (m - (n - length times)) t = drop_both n times (replicate m t) (omega (arith, same, less)) ∙ drop-replicate (n - length times) m t in
       let others : stamped w h (replicate (m - (n - length times)) t) new ≡ at_time t (hosts_in new) =
       stamped_new [] (m - (n - length times)) t [] (bytes_in new ++ rest) rest new refl (omega (arith, sizes, same, long, less)) (message-empty (message_limit Two) w h) all.1 refl in
-      rw (last, behind, others) (sym (at_time_append t (given Two w h p.message p.bytes) (hosts_in new)))
+      rw (last, following, others) (sym (at_time_append t (given Two w h p.message p.bytes) (hosts_in new)))
 
   -- a block of this time ends
   pub block_stamped : (times : List ℕ) (at n t : ℕ) (parts new : List (Part Message)) (lead since rest : List ℕ) → length (bytes_in parts) + length lead ≡ length times - at
@@ -104,11 +104,11 @@ module _ (w h : ℕ) where
       let size : length ts ≡ k + length lead = length-drop at times ∙ sym timed in
       let tail : drop at (times ++ replicate n t) ≡ ts ++ replicate m t = times_left in
       let front : stamped w h (ts ++ replicate m t) parts ≡ stamped w h ts parts = stamped_front ts (replicate m t) parts each (omega (arith, size)) in
-      let behind : drop k (ts ++ replicate m t) ≡ drop k ts ++ replicate m t = drop-append-le k ts (replicate m t) (omega (arith, size)) in
+      let following : drop k (ts ++ replicate m t) ≡ drop k ts ++ replicate m t = drop-append-le k ts (replicate m t) (omega (arith, size)) in
       let new_ones : stamped w h (drop k ts ++ replicate m t) new ≡ at_time t (hosts_in new) =
       stamped_new (drop k ts) m t lead since rest new (omega (arith, length-drop k ts, size)) long waits all e in
       ap (λ z. stamped w h z (parts ++ new)) tail ∙ stamped_append (ts ++ replicate m t) parts new
-      ∙ rw (front, behind, new_ones) refl
+      ∙ rw (front, following, new_ones) refl
     where
       times_left : drop at (times ++ replicate n t) ≡ drop at times ++ replicate (n - (at - length times)) t
       times_left = elim (cases_lt (length times) at) [

@@ -7,7 +7,7 @@ use Rattle.terms.specs.Number.{u32_at}
 use Rattle.client_wire.specs.Stream.{Part, Reads}
 use Rattle.terms.specs.declared.wire_fault.WireFault.{WireFault}
 
--- the data of a block, whatever pads them, and the time behind them in milliseconds
+-- the data of a block, whatever pads them, and the time after them in milliseconds
 pub record Block : Type 0 where
   pub content : List ℕ
   pub padding : List ℕ
@@ -19,7 +19,7 @@ padding_length n = (4 - n % 4) % 4
 
 -- a block whose data have this length
 unfoldable pub rest_of_block : ℕ → List ℕ → Reading Block WireFault
-rest_of_block n bytes = field n bytes >>= λ content behind. field (padding_length n) behind >>= λ padding last.
+rest_of_block n bytes = field n bytes >>= λ content following. field (padding_length n) following >>= λ padding last.
     field 4 last >>= λ time rest. Got (record { content = content; padding = padding; time = u32_at time 0 }) rest
 
 -- A block: the length of its data in four bytes, the data, the padding, and the time in four bytes.

@@ -104,7 +104,7 @@ pub record Hears {T : Type 0} (keeps : T → List Stamped → List Host → Type
 abbrev pub Stands : {T : Type 0} → (T → List Stamped → List Host → Type 0) → Stream T → List ℕ → List ℕ → Type 0
 Stands keeps c times s = MatchOption c.reader (Opens keeps c times s) (λ r. Hears keeps c r times s)
 
--- The reader of a file stands behind these bytes of it: whole blocks, of whose data and times the
+-- The reader of a file stands after these bytes of it: whole blocks, of whose data and times the
 -- reader of the stream stands.
 pub record IsBetween {T : Type 0} (keeps : T → List Stamped → List Host → Type 0) (c : Stream T) (seen : List ℕ) : Type 0 where
   pub blocks : List (Part Block)
@@ -119,12 +119,12 @@ pub record Came {T : Type 0} (keeps : T → List Stamped → List Host → Type 
   pub count : length content ≡ n
   pub heard : (times s : List ℕ) → Stands keeps c times s → Stands keeps d times (s ++ content)
 
--- the reader failed; or the file ends, with at least `least` bytes behind here and fewer than `most`
+-- the reader failed; or the file ends, with at least `least` bytes after here and fewer than `most`
 abbrev pub IsStop : ℕ → ℕ → Option (List ℕ) → FbsFault → Type 0
 IsStop least most rest f =
     (f ≡ faults.Read) ⊎ ((f ≡ faults.Truncated) × IfSome rest (λ bytes. (least ≤ length bytes) × (length bytes < most)))
 
--- what stands behind so many bytes of data came: padding, and this time
+-- what follows so many bytes of data came: padding, and this time
 pub record IsTimed (old new : Option (List ℕ)) (n time : ℕ) : Type 0 where
   pub bytes : List ℕ
   pub consumed : Consumes old new bytes

@@ -49,7 +49,7 @@ pub record IsSummary (file : List ℕ) (s : Said) : Type 0 where
   pub laid : Laid file blocks []
   pub tells : Tells (data_of blocks) (times_of blocks) s
 
--- an opening, and the first fault of the messages behind it
+-- an opening, and the first fault of the messages after it
 pub record MessageFault (stream : List ℕ) (f : WireFault) : Type 0 where
   pub opening : Opening
   pub body : List ℕ
@@ -67,11 +67,11 @@ pub record Waits (stream : List ℕ) : Type 0 where
   pub waits : message_at (message_limit Two) opening.width opening.height rest ≡ More
 
 -- A front of the file, also one that ends inside a block, has data of which P holds. So what is in
--- the data comes before whatever stands behind them in the file.
+-- the data comes before whatever follows them in the file.
 pub record InFront (file : List ℕ) (P : List ℕ → Type 0) : Type 0 where
   pub front : List ℕ
-  pub behind : List ℕ
-  pub is : file ≡ front ++ behind
+  pub following : List ℕ
+  pub is : file ≡ front ++ following
   pub blocks : List (Part Block)
   pub tail : List ℕ
   pub laid : Laid front blocks tail

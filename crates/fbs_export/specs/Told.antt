@@ -6,7 +6,7 @@ use Rattle.keyed_entries.specs.declared.entry.Stamped.{Stamped}
 use Rattle.fbs_export.specs.declared.stream.Told.{Told}
 use Rattle.fbs_export.specs.Summary.{Said, Tells, IsSummary}
 
--- what is told, with these messages in the tally's place
+-- what is told, with these messages instead of the tally
 abbrev pub said_of : {T : Type 0} → Told T → List Stamped → Said
 said_of told messages = record {
   opening = record { width = told.size.width; height = told.size.height; name = told.name.items };

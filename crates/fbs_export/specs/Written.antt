@@ -6,12 +6,12 @@ use Rattle.key_index.specs.Indexed.{Numbers, start_in}
 -- a beginning of the text was written
 pub record WroteFront (old new : Option (List ℕ)) (text : List ℕ) : Type 0 where
   pub front : List ℕ
-  pub behind : List ℕ
-  pub is : text ≡ front ++ behind
+  pub following : List ℕ
+  pub is : text ≡ front ++ following
   pub wrote : Appends old new front
 
 -- The block is there, and the end lies before its start, or beyond the messages that count. The
--- block that is the number of blocks begins behind the last message.
+-- block that is the number of blocks begins after the last message.
 pub record IsBadEnd (numbers : Numbers) (block to : ℕ) : Type 0 where
   pub block_is_there : block ≤ length numbers.starts
   pub outside : (to < start_in numbers block) ⊎ (numbers.committed < to)

@@ -136,7 +136,7 @@ fn number_of(bytes: &[u8]) -> u32
     read_u32(bytes, 0)
 }
 
-// Takes the length that begins a block: none where the file has ended.
+// Takes the length that begins a block: `None` if the file has ended.
 fn read_length<R: Read>(file: &mut R) -> Result<Option<u32>, FbsFault>
     ensures some { IfOk result (λ length. IfSome length (λ n. Consumes (R.remaining file.old) (R.remaining file.new) (u32_bytes n))) }
     ensures none { IfOk result (λ length. IsNone length → Consumes (R.remaining file.old) (R.remaining file.new) [] × IsAtEnd (R.remaining file.new)) }
@@ -153,7 +153,7 @@ fn read_length<R: Read>(file: &mut R) -> Result<Option<u32>, FbsFault>
     Ok(Some(number_of(&head)))
 }
 
-// Takes the padding behind so many bytes of data, and the block's time.
+// Takes the padding after so many bytes of data, and the block's time.
 fn read_time<R: Read>(file: &mut R, length: u32) -> Result<u32, FbsFault>
     ensures timed { IfOk result (IsTimed (R.remaining file.old) (R.remaining file.new) length) }
     ensures fault { IfErr result (IsStop 0 (padding_length length + 4) (R.remaining file.old)) }

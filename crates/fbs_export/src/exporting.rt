@@ -191,9 +191,9 @@ fn write_file<D: Disk, W: Write>(
 }
 
 /// The number of the first message of an export from the start of a block on, below number `to`.
-/// The block that is the number of blocks begins at the end. `NoBlock` is answered exactly where
-/// there are fewer blocks; else `BadEnd` exactly where `to` lies before that start, or beyond the
-/// number of messages that count.
+/// The block that is the number of blocks begins at the end. `NoBlock` is answered exactly if there
+/// are fewer blocks; else `BadEnd` exactly if `to` lies before that start, or beyond the number of
+/// messages that count.
 pub fn first_exported<D: Disk>(index: &Indexed<D>, block: u64, to: u64) -> Result<u64, ExportFault>
     ensures first { IfOk result (λ first. (block ≤ length index.now.numbers.starts) × (first ≡ start_in index.now.numbers block) × (first ≤ to) × (to ≤ index.now.numbers.committed)) }
     ensures no_block { (result ≡ Err ExportFault.NoBlock) ↔ (length index.now.numbers.starts < block) }
@@ -216,7 +216,7 @@ pub fn first_exported<D: Disk>(index: &Indexed<D>, block: u64, to: u64) -> Resul
 /// Writes the messages from the start of a block on, below number `to`, as an FBS file, with the
 /// opening and the screen that they are painted over; gives their number. The recording may be of
 /// either format, of which the file says nothing. Refused before anything is written as by
-/// [`first_exported`]. Where the device or the writer fails, or memory runs out, a beginning of the
+/// [`first_exported`]. If the device or the writer fails, or memory runs out, a beginning of the
 /// file was written; a write that takes nothing is a writer's fault. The recording is only read, a
 /// message at a time.
 pub fn export<D: Disk, W: Write>(

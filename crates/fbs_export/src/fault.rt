@@ -74,7 +74,7 @@ pub enum ExportFault {
     /// The recording has fewer blocks.
     #[error("no such block")]
     NoBlock = 1,
-    /// The end lies before the block's start, or behind the last message.
+    /// The end lies before the block's start, or after the last message.
     #[error("no such end")]
     BadEnd,
     /// The device failed.

@@ -22,8 +22,8 @@ pub struct Name {
     pub kept: Vec<u8>,
 }
 
-/// Where in the opening a stream stands: the bytes in front of the name, and once these are whole,
-/// the name.
+/// How much of the opening a stream has brought: the bytes in front of the name, and once these are
+/// whole, the name.
 #[derive(Drop)]
 pub struct OpeningReader {
     pub alloc: Global,
@@ -31,14 +31,14 @@ pub struct OpeningReader {
     pub name: Option<Name>,
 }
 
-/// What stands in front of the name is whole behind so many bytes of a piece.
+/// What stands in front of the name is whole after so many bytes of a piece.
 #[derive(Clone, Copy)]
 pub struct Begun {
     pub taken: usize,
     pub announced: Announced,
 }
 
-/// The opening is whole behind so many bytes of a piece, for a screen of this size.
+/// The opening is whole after so many bytes of a piece, for a screen of this size.
 #[derive(Clone, Copy)]
 pub struct Whole {
     pub taken: usize,

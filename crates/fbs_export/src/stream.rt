@@ -19,7 +19,7 @@ use rfb_wire::{HostMessage, ServerReader};
 use std::alloc::Global;
 use terms::{NoMemory, ScreenSize, WireFault};
 
-/// What is read of a stream: its opening, and once this is whole, the messages behind it, in format
+/// What is read of a stream: its opening, and once this is whole, the messages after it, in format
 /// 2, which a tally is told. Those of the block that comes wait for its time.
 #[derive(Drop)]
 pub struct Stream<T> {
@@ -133,7 +133,7 @@ impl<T: Tally> Stream<T> {
         Ok(())
     }
 
-    /// What the stream tells, where it ends behind a block.
+    /// What the stream tells, if it ends after a block.
     pub fn finish(self) -> Result<Told<T>, FbsFault>
         ensures ok { IfOk result (λ told. (times s : List ℕ) → length times ≡ length s → Stands T.stands_for self times s → IsTold T.stands_for s times told) }
         ensures fault { IfErr result (λ f. (f ≡ FbsFault.Truncated) × ((times s : List ℕ) → Stands T.stands_for self times s → opening_at s ≡ More)) }

@@ -4,7 +4,7 @@ use key_index::Stamped;
 use std::marker::Model;
 use terms::ScreenSize;
 
-/// What a file says: the size of the screen in places, the name, of a longer one its first 1,024
+/// What a file says: the size of the screen in pixels, the name, of a longer one its first 1,024
 /// bytes, the recorded messages, which are of format 2, with their times in milliseconds, and the
 /// number of bytes of an unfinished last message.
 #[derive(Drop)]
@@ -27,7 +27,7 @@ impl Model for Summary {
     } };
 }
 
-/// What a file says, its messages counted: the size of the screen in places, the number of recorded
+/// What a file says, its messages counted: the size of the screen in pixels, the number of recorded
 /// messages, and the number of bytes of an unfinished last message.
 #[derive(Clone, Copy, Debug, PartialEq, Eq)]
 pub struct Counted {

@@ -14,7 +14,7 @@ use terms::NoMemory;
 /// What is kept of messages that become whole one by one. Those that wait for their time get it
 /// together, all the same. After an error nothing is said of what it stands for.
 pub trait Tally: Drop {
-    /// It stands for messages that have their times, and behind them messages that wait.
+    /// It stands for messages that have their times, and after them messages that wait.
     ghost stands_for: { Self → List Entry → List Host → Type 0 };
 
     /// Takes the next message, which then waits.

@@ -1,6 +1,6 @@
 //! The command `digest`.
 
-use crate::behind::behind_end;
+use crate::after_end::after_end;
 use crate::command::Work;
 use crate::recording::{open_file, open_recording};
 use crate::refusal::{DigestFault, Ended, Refusal};
@@ -20,7 +20,7 @@ pub struct Chaining<'a> {
 }
 
 // The digest of a block: a recording of format 1 has none.
-fn digest_of(index: &mut Indexed<FileDisk>, block: u64) -> Result<[u8; 32], Refusal> {
+fn digest_of(index: &mut Indexed<FileDisk>, block: u64) -> Result<[u8; 32], Refusal<'static>> {
     if block >= index.blocks() {
         return Err(Refusal::Digest(DigestFault::NotFound));
     }
@@ -31,11 +31,11 @@ fn digest_of(index: &mut Indexed<FileDisk>, block: u64) -> Result<[u8; 32], Refu
     }
 }
 
-// The last block whose digest is this one, or, where none is asked for, the last of all.
+// The last block whose digest is this one, or, if none is asked for, the last of all.
 fn found(
     index: &mut Indexed<FileDisk>,
     wanted: Option<[u8; 32]>,
-) -> Result<(u64, [u8; 32]), Refusal> {
+) -> Result<(u64, [u8; 32]), Refusal<'static>> {
     if index.last_digest().is_none() {
         return Err(Refusal::Digest(DigestFault::NoDigests));
     }
@@ -49,9 +49,9 @@ fn found(
 }
 
 impl<R: Files<File = File> + AllocGlobal, O: Write> Work<'_, R, O> {
-    /// Writes the number and the digest of the block that is asked for, and notes what stands behind
-    /// the recording's end.
-    pub fn digest(&mut self, what: &Chaining<'_>) -> Result<(), Ended> {
+    /// Writes the number and the digest of the block that is asked for, and notes what follows the
+    /// recording's end.
+    pub fn digest<'a>(&mut self, what: &Chaining<'a>) -> Result<(), Ended<'a>> {
         let file = open_file(self.rt, what.recording)?;
         let again = file.try_clone()?;
         let mut index = open_recording(self.rt, file, self.progress)?;
@@ -61,7 +61,7 @@ impl<R: Files<File = File> + AllocGlobal, O: Write> Work<'_, R, O> {
             Err(_) => return Err(Ended::Failed(std::io::ErrorKind::OutOfMemory.into())),
         };
         writeln!(self.out, "block {block} digest {digits}")?;
-        self.behind = behind_end(self.rt, again, &index)?;
+        self.after_end = after_end(self.rt, again, &index)?;
         Ok(())
     }
 }

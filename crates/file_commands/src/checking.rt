@@ -1,6 +1,6 @@
 //! The commands `check` and `fbs-check`.
 
-use crate::behind::behind_end;
+use crate::after_end::after_end;
 use crate::command::Work;
 use crate::recording::{open_file, open_recording};
 use crate::refusal::{Ended, Refusal};
@@ -13,8 +13,8 @@ use terms::ScreenSize;
 
 impl<R: Files<File = File> + AllocGlobal, O: Write> Work<'_, R, O> {
     /// Opens the recording at a path, and writes its size, and how many messages and blocks count;
-    /// notes what stands behind its end.
-    pub fn check(&mut self, path: &str) -> Result<(), Ended> {
+    /// notes what follows its end.
+    pub fn check<'a>(&mut self, path: &'a str) -> Result<(), Ended<'a>> {
         let file = open_file(self.rt, path)?;
         let again = file.try_clone()?;
         let index = open_recording(self.rt, file, self.progress)?;
@@ -25,17 +25,17 @@ impl<R: Files<File = File> + AllocGlobal, O: Write> Work<'_, R, O> {
             self.out,
             "recording {width} {height} messages {messages} blocks {blocks}"
         )?;
-        self.behind = behind_end(self.rt, again, &index)?;
+        self.after_end = after_end(self.rt, again, &index)?;
         Ok(())
     }
 }
 
 // What the FBS file at a path says.
-fn counted<R: Files<File = File> + AllocGlobal>(
+fn counted<'a, R: Files<File = File> + AllocGlobal>(
     rt: &R,
-    path: &str,
+    path: &'a str,
     progress: Progress,
-) -> Result<Counted, Ended> {
+) -> Result<Counted, Ended<'a>> {
     let alloc = rt.alloc();
     let inner = open_file(rt, path)?;
     let progress = progress.through(inner.metadata()?.len());
@@ -46,7 +46,7 @@ fn counted<R: Files<File = File> + AllocGlobal>(
 impl<R: Files<File = File> + AllocGlobal, O: Write> Work<'_, R, O> {
     /// Reads the FBS file at a path, and writes its size, how many messages it has, and how many bytes of
     /// an unfinished last one.
-    pub fn fbs_check(&mut self, path: &str) -> Result<(), Ended> {
+    pub fn fbs_check<'a>(&mut self, path: &'a str) -> Result<(), Ended<'a>> {
         let Counted {
             size: ScreenSize { width, height },
             messages,

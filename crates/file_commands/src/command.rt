@@ -1,12 +1,12 @@
 //! The commands on files, and how one is run.
 
-use crate::behind::Behind;
+use crate::after_end::AfterEnd;
 use crate::chaining::Chaining;
 use crate::exporting::Extract;
 use crate::framing::Filming;
 use crate::migrating::Migration;
 use crate::picturing::Scene;
-use crate::refusal::{Ended, LeftOut, Places, answer};
+use crate::refusal::{Ended, LeftOut, answer};
 use crate::salvaging::Salvaging;
 use crate::timing::Timing;
 use file_disk::Progress;
@@ -33,23 +33,23 @@ pub enum FileCommand<'a> {
     /// recording is read twice.
     Times(Timing<'a>),
     /// `picture` writes the screen at a moment of a recording as a picture. A file is created, or
-    /// emptied where it is there, only once there is such a screen; one that can't be written, and the
+    /// emptied if it is there, only once there is such a screen; one that can't be written, and the
     /// recording itself, are refused as a file.
     Picture(Scene<'a>),
-    /// `frames` writes the screens of a recording as PPM pictures one behind the other, so many a
+    /// `frames` writes the screens of a recording as PPM pictures one after the other, so many a
     /// second of the recording.
     Frames(Filming<'a>),
     /// `export` writes a part of a recording as an FBS file, and prints how many messages it has.
-    /// That file is created, or emptied where it is there, only once it is known that there are such
-    /// a block and such an end; one that can't be, and the recording itself, are refused as a file.
+    /// That file is created, or emptied if it is there, only once it is known that there are such a
+    /// block and such an end; one that can't be, and the recording itself, are refused as a file.
     Export(Extract<'a>),
     /// `migrate` writes a recording of format 1 again in format 2, and prints how many messages it
     /// has. The new file is created only once it is known that the recording can be migrated; one
     /// with bytes is refused, and stays as it is.
     Migrate(Migration<'a>),
-    /// `salvage` writes the blocks of a recording before its first fault into a new one, as they are,
-    /// also those behind its end if that is asked for, and prints how many messages they have. What is
-    /// left out is said on standard error. The new file is as that of `migrate`.
+    /// `salvage` writes the blocks of a recording before its first fault into a new one, as they
+    /// are, also those after its end if that is asked for, and prints how many messages they have.
+    /// What is left out is said on standard error. The new file is as that of `migrate`.
     Salvage(Salvaging<'a>),
     /// `fbs-check` prints the size of the FBS file at a path, how many messages it has, and how many
     /// bytes of an unfinished last one.
@@ -74,33 +74,11 @@ impl<'a> FileCommand<'a> {
         }
     }
 
-    // The files that its words name.
-    fn places(&self) -> Places<'a> {
-        let (source, out) = match self {
-            FileCommand::List(path)
-            | FileCommand::Check(path)
-            | FileCommand::Info(path)
-            | FileCommand::FbsCheck(path) => (*path, ""),
-            FileCommand::Digest(what) => (what.recording, ""),
-            FileCommand::Times(what) => (what.recording, ""),
-            FileCommand::Picture(what) => (what.recording, what.out.unwrap_or("")),
-            FileCommand::Frames(what) => (what.recording, ""),
-            FileCommand::Export(what) => (what.recording, what.out),
-            FileCommand::Migrate(what) => (what.recording, what.out),
-            FileCommand::Salvage(what) => (what.recording, what.out),
-        };
-        Places {
-            source,
-            out,
-            listen: "",
-        }
-    }
-
     // Does it.
     fn carry_out<R: Files<File = File> + AllocGlobal, O: Write>(
         &self,
         work: &mut Work<'_, R, O>,
-    ) -> Result<(), Ended> {
+    ) -> Result<(), Ended<'a>> {
         match self {
             FileCommand::List(path) => work.list(path),
             FileCommand::Check(path) => work.check(path),
@@ -122,19 +100,19 @@ impl<'a> FileCommand<'a> {
 pub struct Work<'a, R, O> {
     /// The system, with its files.
     pub rt: &'a R,
-    /// Where long work is told of.
+    /// What tells of long work.
     pub progress: Progress,
-    /// Where the command prints.
+    /// What the command prints to.
     pub out: &'a mut O,
     /// What it leaves out, to be told on standard error.
     pub left_out: Option<LeftOut>,
-    /// What it found behind the end of a recording, to be told there too.
-    pub behind: Option<Behind>,
+    /// What it found after the end of a recording, to be told there too.
+    pub after_end: Option<AfterEnd>,
 }
 
 /// Runs a command: what it prints is written to `out`, and long work told of to a person. Answers
-/// whether it is done; else a line on `err` says why it is refused, and where `is_verbose` a second one
-/// what the system said. An error is of the two writers, or of memory.
+/// whether it is done; else a line on `err` says why it is refused, and if `is_verbose` a second
+/// one what the system said. An error is of the two writers, or of memory.
 pub fn run<R: Files<File = File> + AllocGlobal, O: Write, E: Write>(
     rt: &R,
     command: &FileCommand<'_>,
@@ -148,16 +126,15 @@ pub fn run<R: Files<File = File> + AllocGlobal, O: Write, E: Write>(
         progress,
         out,
         left_out: None,
-        behind: None,
+        after_end: None,
     };
     let outcome = command.carry_out(&mut work);
     let word = command.word();
-    if let Some(behind) = work.behind {
-        writeln!(err, "recorderd: {word} {behind}")?;
+    if let Some(after_end) = work.after_end {
+        writeln!(err, "recorderd: {word} {after_end}")?;
     }
     if let Some(left_out) = work.left_out {
         writeln!(err, "recorderd: {word} {left_out}")?;
     }
-    let places = is_verbose.then_some(command.places());
-    answer(word, outcome, places, err)
+    answer(word, outcome, is_verbose, err)
 }

@@ -12,7 +12,7 @@ use std::fs::File;
 use std::io::{BufWriter, Write};
 use std::rt::Files;
 
-/// What is exported of which recording, and where to.
+/// What is exported of which recording, and to which file.
 #[derive(Clone, Copy)]
 pub struct Extract<'a> {
     /// The recording's file.
@@ -32,7 +32,7 @@ fn write_part(
     what: &Extract<'_>,
     inner: File,
     progress: Progress,
-) -> Result<u64, Ended> {
+) -> Result<u64, Ended<'static>> {
     let mut writer = BufWriter::new(alloc, Watched { inner, progress })?;
     let exported = fbs_export::export(alloc, index, what.from_block, what.to, &mut writer);
     let count = exported.map_err(Refusal::Export)?;
@@ -43,11 +43,11 @@ fn write_part(
 }
 
 // Writes a part of a recording as an FBS file: how many messages it has.
-fn exported<R: Files<File = File> + AllocGlobal>(
+fn exported<'a, R: Files<File = File> + AllocGlobal>(
     rt: &R,
-    what: &Extract<'_>,
+    what: &Extract<'a>,
     progress: Progress,
-) -> Result<u64, Ended> {
+) -> Result<u64, Ended<'a>> {
     let alloc = rt.alloc();
     let file = open_file(rt, what.recording)?;
     let metadata = file.metadata()?;
@@ -59,7 +59,7 @@ fn exported<R: Files<File = File> + AllocGlobal>(
 
 impl<R: Files<File = File> + AllocGlobal, O: Write> Work<'_, R, O> {
     /// Writes a part of a recording as an FBS file, and tells how many messages it has.
-    pub fn export(&mut self, what: &Extract<'_>) -> Result<(), Ended> {
+    pub fn export<'a>(&mut self, what: &Extract<'a>) -> Result<(), Ended<'a>> {
         let count = exported(self.rt, what, self.progress)?;
         self.progress.end();
         Ok(writeln!(self.out, "exported {count}")?)

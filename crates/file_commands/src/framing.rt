@@ -7,7 +7,7 @@ use crate::recording::open_path;
 use crate::refusal::Ended;
 use file_disk::{FileDisk, Progress, Watched};
 use key_index::Indexed;
-use pictures::{Film, write_frames};
+use pictures::{Film, video_end, write_frames};
 use std::alloc::Global;
 use std::fs::File;
 use std::io::{BufWriter, Write};
@@ -30,9 +30,7 @@ pub struct Filming<'a> {
 impl Filming<'_> {
     // The film of a recording whose last message came at this time.
     fn film(&self, last: u32) -> Film {
-        // No two frames are further apart.
-        let apart = 1000 / u32::from(self.rate) + 1;
-        let end = last.saturating_add(apart).max(self.from);
+        let end = video_end(self.from, self.rate, last);
         Film {
             from: self.from,
             to: self.to.unwrap_or(end),
@@ -48,7 +46,7 @@ fn write_film<O: Write>(
     film: &Film,
     out: &mut O,
     progress: Progress,
-) -> Result<(), Ended> {
+) -> Result<(), Ended<'static>> {
     let mut frames = BufWriter::new(
         alloc,
         Watched {
@@ -61,8 +59,8 @@ fn write_film<O: Write>(
 }
 
 impl<R: Files<File = File> + AllocGlobal, O: Write> Work<'_, R, O> {
-    /// Writes the frames of a recording as PPM pictures, one behind the other.
-    pub fn frames(&mut self, what: &Filming<'_>) -> Result<(), Ended> {
+    /// Writes the frames of a recording as PPM pictures, one after the other.
+    pub fn frames<'a>(&mut self, what: &Filming<'a>) -> Result<(), Ended<'a>> {
         let mut index = open_path(self.rt, what.recording, self.progress)?;
         let film = what.film(index.last_time());
         write_film(self.rt.alloc(), &mut index, &film, self.out, self.progress)

@@ -33,7 +33,7 @@ impl<R: Files<File = File> + AllocGlobal, O: Write> Work<'_, R, O> {
     /// Writes a line for the recording at a path: its format, its size, how many messages count, the
     /// time of the last one, how many bytes its file has, whether it is being written, the host's
     /// name, and the path.
-    pub fn info(&mut self, path: &str) -> Result<(), Ended> {
+    pub fn info<'a>(&mut self, path: &'a str) -> Result<(), Ended<'a>> {
         let file = open_file(self.rt, path)?;
         let is_written = is_being_written(&file);
         let bytes = file.metadata()?.len();

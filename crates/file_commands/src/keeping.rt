@@ -7,25 +7,28 @@ use file_disk::{FileDisk, SystemError, create_exclusively, sync_folder};
 use std::fs::File;
 use std::rt::Files;
 
-/// A new file, open for reading and writing, for its owner alone. Refused where the path is taken, or
+/// A new file, open for reading and writing, for its owner alone. Refused if the path is taken, or
 /// can't be.
-pub fn create_new<R: Files<File = File>>(files: &R, path: &str) -> Result<FileDisk, Refusal> {
+pub fn create_new<'a, R: Files<File = File>>(
+    files: &R,
+    path: &'a str,
+) -> Result<FileDisk, Refusal<'a>> {
     match create_exclusively(files, path) {
         Ok(file) => Ok(FileDisk::new(file)),
-        Err(error) => Err(Refusal::File(FileFault::Make(SystemError::of(&error)))),
+        Err(error) => Err(Refusal::File(FileFault::Make(path, SystemError::of(&error)))),
     }
 }
 
 /// Writes the bytes of a recording into its new file, and brings them and the file's name onto the
-/// device. Refused where that fails.
-pub fn keep<R: Files<File = File>>(
+/// device. Refused if that fails.
+pub fn keep<'a, R: Files<File = File>>(
     files: &R,
-    path: &str,
+    path: &'a str,
     disk: &mut FileDisk,
     bytes: &[u8],
-) -> Result<(), Refusal> {
+) -> Result<(), Refusal<'a>> {
     if disk.write_at(0, bytes).is_err() || disk.sync().is_err() {
-        return Err(Refusal::File(FileFault::Device));
+        return Err(Refusal::File(FileFault::Device(path)));
     }
-    name_kept(sync_folder(files, path)).map_err(Refusal::File)
+    name_kept(sync_folder(files, path), path).map_err(Refusal::File)
 }

@@ -1,7 +1,7 @@
 //! The commands on recordings and FBS files in files of the operating system.
 #![tactic(auto)]
 
-mod behind;
+mod after_end;
 mod chaining;
 mod checking;
 mod command;
@@ -24,14 +24,14 @@ mod timing;
 pub use chaining::Chaining;
 pub use command::{FileCommand, run};
 pub use exporting::Extract;
-pub use file_fault::{FaultOf, FileFault, Role};
+pub use file_fault::FileFault;
 pub use framing::Filming;
 pub use keeping::{create_new, keep};
 pub use migrating::Migration;
 pub use pictures::PictureFormat;
 pub use picturing::{Moment, Scene, screen_of};
 pub use recording::open_path;
-pub use refusal::{DigestFault, Ended, LeftOut, Places, Refusal, answer, refuse};
+pub use refusal::{DigestFault, Ended, LeftOut, Refusal, answer, refuse};
 pub use salvaging::Salvaging;
 pub use surveying::{Stretch, StretchSink, survey};
 pub use timing::Timing;

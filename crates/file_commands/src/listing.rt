@@ -28,7 +28,7 @@ fn write_blocks<O: Write>(index: &Indexed<FileDisk>, out: &mut O) -> io::Result<
 
 impl<R: Files<File = File> + AllocGlobal, O: Write> Work<'_, R, O> {
     /// Writes a line for each block that counts of the recording at a path.
-    pub fn list(&mut self, path: &str) -> Result<(), Ended> {
+    pub fn list<'a>(&mut self, path: &'a str) -> Result<(), Ended<'a>> {
         let index = open_path(self.rt, path, self.progress)?;
         let mut lines = BufWriter::new(self.rt.alloc(), &mut *self.out)?;
         write_blocks(&index, &mut lines)?;

@@ -13,7 +13,7 @@ use std::fs::File;
 use std::io::Write;
 use std::rt::Files;
 
-/// Which recording is migrated, and where to.
+/// Which recording is migrated, and to which file.
 #[derive(Clone, Copy)]
 pub struct Migration<'a> {
     /// The recording's file, of format 1.
@@ -27,7 +27,7 @@ fn migrated_to(
     alloc: Global,
     index: &mut Indexed<FileDisk>,
     target: FileDisk,
-) -> Result<u64, Refusal> {
+) -> Result<u64, Refusal<'static>> {
     match migrate(alloc, index, target) {
         Ok(migrated) => Ok(migrated.committed()),
         Err(refused) => Err(Refusal::Migrate(refused.fault)),
@@ -35,25 +35,25 @@ fn migrated_to(
 }
 
 // Writes a recording of format 1 again in format 2: how many messages it has.
-fn migrated<R: Files<File = File> + AllocGlobal>(
+fn migrated<'a, R: Files<File = File> + AllocGlobal>(
     rt: &R,
-    what: &Migration<'_>,
+    what: &Migration<'a>,
     progress: Progress,
-) -> Result<u64, Ended> {
+) -> Result<u64, Ended<'a>> {
     let alloc = rt.alloc();
     let mut index = open_path(rt, what.recording, progress)?;
     may_be_migrated(&index).map_err(Refusal::Migrate)?;
     let file = open_target(rt, what.out, what.recording)?;
-    demand_no_recording(&file)?;
+    demand_no_recording(&file, what.out)?;
     let target = FileDisk::new(file).watched(progress);
     let count = migrated_to(alloc, &mut index, target)?;
-    name_kept(sync_folder(rt, what.out))?;
+    name_kept(sync_folder(rt, what.out), what.out)?;
     Ok(count)
 }
 
 impl<R: Files<File = File> + AllocGlobal, O: Write> Work<'_, R, O> {
     /// Writes a recording of format 1 again in format 2, and tells how many messages it has.
-    pub fn migrate(&mut self, what: &Migration<'_>) -> Result<(), Ended> {
+    pub fn migrate<'a>(&mut self, what: &Migration<'a>) -> Result<(), Ended<'a>> {
         let count = migrated(self.rt, what, self.progress)?;
         self.progress.end();
         Ok(writeln!(self.out, "migrated {count}")?)

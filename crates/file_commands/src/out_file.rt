@@ -3,7 +3,7 @@
 ghost use Rattle.std.specs.Prelude.{◌↔◌, ◌≤◌, IsTrue, length};
 ghost use Rattle.file_commands.specs.Fronts.{IsFrontOfRecording};
 
-use crate::file_fault::{FileFault, Role, opened, written};
+use crate::file_fault::{FileFault, opened, written};
 use crate::source_file::demand_file;
 use file_disk::{SystemError, create_exclusively};
 use std::fs::{File, Metadata, OpenOptions, Permissions};
@@ -27,10 +27,12 @@ fn is_front_of_recording(front: &[u8]) -> bool
 }
 
 /// Refuses an open file that holds a recording. Fewer bytes than tell one are none.
-pub fn demand_no_recording(file: &File) -> Result<(), FileFault> {
+pub fn demand_no_recording<'a>(file: &File, path: &'a str) -> Result<(), FileFault<'a>> {
     let mut front = [0; FRONT];
     match file.read_exact_at(&mut front, 0) {
-        Ok(()) if is_front_of_recording(front.as_slice()) => Err(FileFault::HoldsRecording),
+        Ok(()) if is_front_of_recording(front.as_slice()) => {
+            Err(FileFault::HoldsRecording(path))
+        }
         _ => Ok(()),
     }
 }
@@ -55,60 +57,60 @@ fn make_like<R: Files<File = File>>(
 
 // Empties the file that is there. The recording itself is refused, under whatever name, and so is
 // what holds another one: so it is asked of the open file, before it is emptied.
-fn empty<R: Files<File = File>>(
+fn empty<'a, R: Files<File = File>>(
     files: &R,
-    path: &str,
+    path: &'a str,
     recording: &Metadata,
-) -> Result<File, FileFault> {
+) -> Result<File, FileFault<'a>> {
     // A pipe that is open for reading, too, is never at its end.
-    let is_file = opened(fs::metadata(files, path), Role::Out)?.is_file();
+    let is_file = opened(fs::metadata(files, path), path)?.is_file();
     let there = OpenOptions::new()
         .read(is_file)
         .write(true)
         .open(files, path);
-    let file = opened(there, Role::Out)?;
-    let metadata = opened(file.metadata(), Role::Out)?;
+    let file = opened(there, path)?;
+    let metadata = opened(file.metadata(), path)?;
     if is_same_file(&metadata, recording) {
-        return Err(FileFault::Itself);
+        return Err(FileFault::Itself(path));
     }
     if metadata.is_file() {
-        demand_no_recording(&file)?;
-        written(file.set_len(0))?;
+        demand_no_recording(&file, path)?;
+        written(file.set_len(0), path)?;
     }
     Ok(file)
 }
 
-/// Opens a file to be written, which is made, or emptied where it is there. A new one has the
+/// Opens a file to be written, which is made, or emptied if it is there. A new one has the
 /// recording's mode.
-pub fn open_out<R: Files<File = File>>(
+pub fn open_out<'a, R: Files<File = File>>(
     files: &R,
-    path: &str,
+    path: &'a str,
     recording: &Metadata,
-) -> Result<File, FileFault> {
+) -> Result<File, FileFault<'a>> {
     match make_like(files, path, recording) {
         Ok(file) => Ok(file),
         Err(error) if error.kind() == io::ErrorKind::AlreadyExists => {
             empty(files, path, recording)
         }
-        Err(error) => Err(FileFault::Make(SystemError::of(&error))),
+        Err(error) => Err(FileFault::Make(path, SystemError::of(&error))),
     }
 }
 
 /// A file to be read and written: a new one with the mode of the file at another path, or one that
 /// is there and stays as it is.
-pub fn open_target<R: Files<File = File>>(
+pub fn open_target<'a, R: Files<File = File>>(
     files: &R,
-    path: &str,
-    like: &str,
-) -> Result<File, FileFault> {
-    let recording = opened(fs::metadata(files, like), Role::Source)?;
+    path: &'a str,
+    like: &'a str,
+) -> Result<File, FileFault<'a>> {
+    let recording = opened(fs::metadata(files, like), like)?;
     match make_like(files, path, &recording) {
         Ok(file) => return Ok(file),
         Err(error) if error.kind() == io::ErrorKind::AlreadyExists => {}
-        Err(error) => return Err(FileFault::Make(SystemError::of(&error))),
+        Err(error) => return Err(FileFault::Make(path, SystemError::of(&error))),
     }
-    let found = opened(fs::metadata(files, path), Role::Out)?;
-    demand_file(&found, Role::Out)?;
+    let found = opened(fs::metadata(files, path), path)?;
+    demand_file(&found, path)?;
     let there = OpenOptions::new().read(true).write(true).open(files, path);
-    opened(there, Role::Out)
+    opened(there, path)
 }

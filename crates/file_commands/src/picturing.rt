@@ -19,13 +19,13 @@ use std::rt::Files;
 /// A moment of a recording.
 #[derive(Clone, Copy, Debug, PartialEq, Eq)]
 pub enum Moment {
-    /// Behind so many messages.
+    /// After so many messages.
     Count(u64),
     /// So many milliseconds after the recording's start.
     Time(u32),
 }
 
-/// Which screen of which recording is shown, and where to.
+/// Which screen of which recording is shown, and in which file.
 #[derive(Clone, Copy)]
 pub struct Scene<'a> {
     /// The recording's file.
@@ -55,7 +55,7 @@ pub fn screen_of(
     alloc: Global,
     index: &mut Indexed<FileDisk>,
     moment: Moment,
-) -> Result<Screen, Refusal> {
+) -> Result<Screen, Refusal<'static>> {
     match count_of(index, moment).and_then(|count| screen_at(alloc, index, count)) {
         Ok(screen) => Ok(screen),
         Err(fault) => Err(Refusal::Screen(fault)),
@@ -63,27 +63,27 @@ pub fn screen_of(
 }
 
 // Writes a picture into a file, created or emptied. What can't be written is refused as a file.
-fn write_file<R: Files<File = File> + AllocGlobal>(
+fn write_file<'a, R: Files<File = File> + AllocGlobal>(
     rt: &R,
-    path: &str,
+    path: &'a str,
     recording: &Metadata,
     screen: &Screen,
     what: Scene<'_>,
     progress: Progress,
-) -> Result<(), Ended> {
+) -> Result<(), Ended<'a>> {
     let alloc = rt.alloc();
     let inner = open_out(rt, path, recording)?;
     let mut writer = BufWriter::new(alloc, Watched { inner, progress })?;
     let painted = write_picture(alloc, screen, what.format, &mut writer);
-    Ok(written(painted.and_then(|()| writer.flush()))?)
+    Ok(written(painted.and_then(|()| writer.flush()), path)?)
 }
 
 // The screen that is asked for, and which file it was read from.
-fn screen_in<R: Files<File = File> + AllocGlobal>(
+fn screen_in<'a, R: Files<File = File> + AllocGlobal>(
     rt: &R,
-    what: &Scene<'_>,
+    what: &Scene<'a>,
     progress: Progress,
-) -> Result<(Screen, Metadata), Ended> {
+) -> Result<(Screen, Metadata), Ended<'a>> {
     let alloc = rt.alloc();
     let file = open_file(rt, what.recording)?;
     let metadata = file.metadata()?;
@@ -94,7 +94,7 @@ fn screen_in<R: Files<File = File> + AllocGlobal>(
 
 impl<R: Files<File = File> + AllocGlobal, O: Write> Work<'_, R, O> {
     /// Writes the screen at a moment of a recording as a picture.
-    pub fn picture(&mut self, what: &Scene<'_>) -> Result<(), Ended> {
+    pub fn picture<'a>(&mut self, what: &Scene<'a>) -> Result<(), Ended<'a>> {
         let (rt, progress) = (self.rt, self.progress);
         let (screen, recording) = screen_in(rt, what, progress)?;
         match what.out {

@@ -12,24 +12,24 @@ use std::fs::File;
 use std::rt::Files;
 
 /// The file, opened for reading alone. What is no file isn't opened.
-pub fn open_file<R: Files<File = File>>(files: &R, path: &str) -> Result<File, Refusal> {
+pub fn open_file<'a, R: Files<File = File>>(files: &R, path: &'a str) -> Result<File, Refusal<'a>> {
     open_source(files, path).map_err(Refusal::File)
 }
 
 /// The recording at a path, opened for reading alone.
-pub fn open_path<R: Files<File = File> + AllocGlobal>(
+pub fn open_path<'a, R: Files<File = File> + AllocGlobal>(
     rt: &R,
-    path: &str,
+    path: &'a str,
     progress: Progress,
-) -> Result<Box<Indexed<FileDisk>>, Refusal>
+) -> Result<Box<Indexed<FileDisk>>, Refusal<'a>>
     ensures ready { IfOk result (λ i. i.value.numbers.state ≡ State.Ready) }
 {
     let file = open_file(rt, path)?;
     open_recording(rt, file, progress)
 }
 
-// A value in a box, where there is memory for it.
-fn boxed<T: Drop>(alloc: Global, value: T) -> Result<Box<T>, Refusal>
+// A value in a box, if there is memory for it.
+fn boxed<T: Drop>(alloc: Global, value: T) -> Result<Box<T>, Refusal<'static>>
     ensures { IfOk result (λ boxed. boxed.value ≡ value) }
 {
     Box::new(alloc, value).map_err(|_| Refusal::Recording(IndexFault::NoMemory))
@@ -41,7 +41,7 @@ pub fn open_recording<R: Files<File = File> + AllocGlobal>(
     rt: &R,
     file: File,
     progress: Progress,
-) -> Result<Box<Indexed<FileDisk>>, Refusal>
+) -> Result<Box<Indexed<FileDisk>>, Refusal<'static>>
     ensures ready { IfOk result (λ i. i.value.numbers.state ≡ State.Ready) }
 {
     let alloc = rt.alloc();

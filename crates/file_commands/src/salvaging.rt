@@ -3,7 +3,7 @@
 ghost use Rattle.std.specs.Prelude.{◌≤◌};
 ghost use Rattle.recording_bytes.specs.declared.format.TheConstants.{LONGEST_FILE};
 
-use crate::behind::{Behind, behind_gate};
+use crate::after_end::{AfterEnd, after_gate};
 use crate::command::Work;
 use crate::file_fault::name_kept;
 use crate::out_file::open_target;
@@ -20,15 +20,15 @@ use std::fs::File;
 use std::io::Write;
 use std::rt::Files;
 
-/// Which recording is salvaged, and where to.
+/// Which recording is salvaged, and to which file.
 #[derive(Clone, Copy)]
 pub struct Salvaging<'a> {
     /// The recording's file.
     pub recording: &'a str,
     /// The file that is written, which has no bytes or isn't there yet.
     pub out: &'a str,
-    /// Whether blocks are written, too, that go on with the digests behind the recording's end.
-    pub behind: bool,
+    /// Whether blocks are written, too, that go on with the digests after the recording's end.
+    pub with_hidden: bool,
 }
 
 // The whole blocks of a file that may show a gate open.
@@ -43,7 +43,11 @@ struct Source {
 }
 
 // The whole blocks that reads of a file give.
-fn blocks_of(alloc: Global, file: ShownFile, progress: Progress) -> Result<SourceBlocks, Refusal> {
+fn blocks_of(
+    alloc: Global,
+    file: ShownFile,
+    progress: Progress,
+) -> Result<SourceBlocks, Refusal<'static>> {
     let disk = DiskOfFile::over(file).watched(progress);
     let no_memory = Refusal::Recording(IndexFault::NoMemory);
     match WholeBlocks::open(alloc, disk) {
@@ -52,23 +56,23 @@ fn blocks_of(alloc: Global, file: ShownFile, progress: Progress) -> Result<Sourc
     }
 }
 
-// What is salvaged of a recording. In format 1 nothing tells which bytes behind its end are blocks;
+// What is salvaged of a recording. In format 1 nothing tells which bytes after its end are blocks;
 // in format 2 those are that go on with the digests, once the gate at the end is shown open.
-fn open_source<R: Files<File = File> + AllocGlobal>(
+fn open_source<'a, R: Files<File = File> + AllocGlobal>(
     rt: &R,
-    what: &Salvaging<'_>,
+    what: &Salvaging<'a>,
     progress: Progress,
-) -> Result<Source, Ended> {
+) -> Result<Source, Ended<'a>> {
     let alloc = rt.alloc();
     let file = open_file(rt, what.recording)?;
     let length = file.metadata()?.len();
     let as_it_is = ShownFile::new(OsFile::to_read(rt, file.try_clone()?));
     let mut blocks = blocks_of(alloc, as_it_is, progress)?;
-    if what.behind && blocks.header().format() == Format::One {
+    if what.with_hidden && blocks.header().format() == Format::One {
         return Err(Refusal::Digest(DigestFault::NoDigests).into());
     }
     let gate = blocks.gate();
-    if what.behind && blocks.fault().is_none() && gate.saturating_add(1) < length {
+    if what.with_hidden && blocks.fault().is_none() && gate.saturating_add(1) < length {
         let opened = OsFile::to_read(rt, file.try_clone()?);
         let shown = ShownFile::with_byte(opened, gate, OPEN_GATE);
         let all = blocks_of(alloc, shown, progress)?;
@@ -83,22 +87,23 @@ fn open_source<R: Files<File = File> + AllocGlobal>(
     })
 }
 
-// What was salvaged: how many messages; and what is left out, or stands behind the end.
+// What was salvaged: how many messages; and what is left out, or follows the end.
 #[derive(Drop)]
 struct Outcome {
     messages: u64,
     left_out: Option<LeftOut>,
-    behind: Option<Behind>,
+    after_end: Option<AfterEnd>,
 }
 
-// What is left out of a file of this length, whose recording has this fault, or stands behind its end.
+// What is left out of a file of this length, whose recording has this fault, or what follows its
+// end.
 fn outcome_of<R: Files<File = File> + AllocGlobal>(
     rt: &R,
     salvaged: &Salvaged<FileDisk>,
     length: u64,
     fault: Option<IndexFault>,
     file: File,
-) -> Result<Outcome, Refusal>
+) -> Result<Outcome, Refusal<'static>>
     requires { salvaged.now.journal.end ≤ LONGEST_FILE }
 {
     let journal = &salvaged.journal;
@@ -108,14 +113,14 @@ fn outcome_of<R: Files<File = File> + AllocGlobal>(
         after: salvaged.last_time,
         fault,
     });
-    let behind = match left_out {
+    let after_end = match left_out {
         Some(_) => Ok(None),
-        None => behind_gate(rt, file, journal.header(), &journal.last_digest(), gate),
+        None => after_gate(rt, file, journal.header(), &journal.last_digest(), gate),
     };
     Ok(Outcome {
         messages: salvaged.messages,
         left_out,
-        behind: behind?,
+        after_end: after_end?,
     })
 }
 
@@ -124,7 +129,7 @@ fn salvaged<R: Files<File = File> + AllocGlobal>(
     rt: &R,
     source: Source,
     target: FileDisk,
-) -> Result<Outcome, Refusal> {
+) -> Result<Outcome, Refusal<'static>> {
     let Source {
         mut blocks,
         length,
@@ -141,19 +146,19 @@ fn salvaged<R: Files<File = File> + AllocGlobal>(
 
 impl<R: Files<File = File> + AllocGlobal, O: Write> Work<'_, R, O> {
     /// Writes the blocks of a recording before its first fault into a new one, tells how many
-    /// messages they have, and notes what is left out, or what stands behind its end.
-    pub fn salvage(&mut self, what: &Salvaging<'_>) -> Result<(), Ended> {
+    /// messages they have, and notes what is left out, or what follows its end.
+    pub fn salvage<'a>(&mut self, what: &Salvaging<'a>) -> Result<(), Ended<'a>> {
         let source = open_source(self.rt, what, self.progress)?;
         let file = open_target(self.rt, what.out, what.recording)?;
         let target = FileDisk::new(file).watched(self.progress);
         let Outcome {
             messages,
             left_out,
-            behind,
+            after_end,
         } = salvaged(self.rt, source, target)?;
-        name_kept(sync_folder(self.rt, what.out))?;
+        name_kept(sync_folder(self.rt, what.out), what.out)?;
         self.left_out = left_out;
-        self.behind = behind;
+        self.after_end = after_end;
         self.progress.end();
         Ok(writeln!(self.out, "salvaged {messages}")?)
     }

@@ -24,7 +24,7 @@ pub struct Stretch {
     pub bytes: u64,
 }
 
-/// Where stretches are written to.
+/// What stretches are written to.
 pub trait StretchSink {
     /// Takes the next stretch, in the order of time.
     fn stretch(&mut self, stretch: Stretch) -> io::Result<()>;
@@ -52,7 +52,7 @@ impl Stretch {
         }
     }
 
-    // Whether a time falls into it, where stretches are so many milliseconds long.
+    // Whether a time falls into it, if stretches are so many milliseconds long.
     fn has(&self, time: u32, span: u32) -> bool
         requires { 0 < span }
     {
@@ -61,7 +61,7 @@ impl Stretch {
 }
 
 // The messages of a block.
-fn block_messages(index: &mut Indexed<FileDisk>, block: u64) -> Result<Vec<Stamped>, Ended>
+fn block_messages(index: &mut Indexed<FileDisk>, block: u64) -> Result<Vec<Stamped>, Ended<'static>>
     requires { block < length index.old.numbers.starts }
     ensures numbers { index.new.numbers ≡ index.old.numbers }
 {
@@ -106,7 +106,7 @@ pub fn survey<S: StretchSink>(
     index: &mut Indexed<FileDisk>,
     span: u32,
     sink: &mut S,
-) -> Result<(), Ended>
+) -> Result<(), Ended<'static>>
     requires { 0 < span }
 {
     let mut current = None;

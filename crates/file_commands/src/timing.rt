@@ -40,7 +40,7 @@ impl<O: Write> StretchSink for Lines<'_, O> {
 
 impl<R: Files<File = File> + AllocGlobal, O: Write> Work<'_, R, O> {
     /// Writes a line for each stretch of a recording's time in which a message came.
-    pub fn times(&mut self, what: &Timing<'_>) -> Result<(), Ended> {
+    pub fn times<'a>(&mut self, what: &Timing<'a>) -> Result<(), Ended<'a>> {
         let mut index = open_path(self.rt, what.recording, self.progress)?;
         let mut writer = BufWriter::new(self.rt.alloc(), &mut *self.out)?;
         survey(&mut index, what.every, &mut Lines { out: &mut writer })?;

@@ -4,14 +4,17 @@ ghost use Rattle.std.specs.Prelude.{◌≡◌, Ok, IsErr, MatchResult};
 ghost use Rattle.disk.specs.Contents.{CountsFailure};
 
 use crate::last_error::LastError;
+use crate::os_file::OsFile;
 use crate::progress::Progress;
 use crate::system_file::SystemFile;
 use crate::tally::Tally;
 use crate::whole::{read_whole, sync_whole, write_whole};
 use crate::written::Written;
 use disk::{Disk, DiskFault};
+use std::fs::File;
 use std::io;
 use std::marker::Model;
+use std::rt::Files;
 
 /// An open file as a disk: what each call of the disk is made of are the calls of a [`SystemFile`].
 /// Reads and writes go on if the system took or gave less than was asked for, and are tried again if a
@@ -29,6 +32,9 @@ pub struct DiskOfFile<F: SystemFile> {
     // How many bytes were read, for who asks meanwhile.
     tally: Option<Tally>,
 }
+
+/// A disk of a file of the operating system.
+pub type FileDisk = DiskOfFile<OsFile>;
 
 /// Contracts see the file, and the number of calls that failed.
 impl<F: SystemFile> Model for DiskOfFile<F> {
@@ -103,6 +109,22 @@ impl<F: SystemFile> DiskOfFile<F> {
     }
 }
 
+impl FileDisk {
+    /// A file of the operating system, as it is. It is written only if `write_at` is called.
+    pub fn new(file: File) -> FileDisk
+        ensures { result.failures ≡ 0 }
+    {
+        DiskOfFile::over(OsFile::new(file))
+    }
+
+    /// The same of a file that is open for reading alone.
+    pub fn to_read<R: Files<File = File> + AllocGlobal>(rt: &R, file: File) -> FileDisk
+        ensures { result.failures ≡ 0 }
+    {
+        DiskOfFile::over(OsFile::to_read(rt, file))
+    }
+}
+
 impl<F: SystemFile> Disk for DiskOfFile<F> {
     ghost is_modelled = { F.is_modelled };
 
@@ -117,20 +139,20 @@ impl<F: SystemFile> Disk for DiskOfFile<F> {
         self.counted(outcome)
     }
 
-    fn read_at(&mut self, place: u64, buffer: &mut [u8]) -> Result<(), DiskFault> {
-        let end = place + buffer.len() as u64;
+    fn read_at(&mut self, offset: u64, buffer: &mut [u8]) -> Result<(), DiskFault> {
+        let end = offset + buffer.len() as u64;
         self.progress.reach(buffer.len(), end);
         if let Some(tally) = &self.tally {
             tally.add(buffer.len());
         }
-        let outcome = read_whole(&mut self.file, place, buffer);
+        let outcome = read_whole(&mut self.file, offset, buffer);
         self.counted(outcome)
     }
 
-    fn write_at(&mut self, place: u64, bytes: &[u8]) -> Result<(), DiskFault> {
-        let outcome = write_whole(&mut self.file, place, bytes);
+    fn write_at(&mut self, offset: u64, bytes: &[u8]) -> Result<(), DiskFault> {
+        let outcome = write_whole(&mut self.file, offset, bytes);
         if let (Ok(()), Some(written)) = (&outcome, &self.written) {
-            written.note(place + bytes.len() as u64);
+            written.note(offset + bytes.len() as u64);
         }
         self.counted(outcome)
     }

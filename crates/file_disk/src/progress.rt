@@ -6,9 +6,9 @@ use std::io::{IsTerminal, Read, Stderr, Write};
 /// How many bytes a command goes over between two lines: a short one says nothing.
 const STEP: u64 = 64 << 20;
 
-/// Says how many MiB a command has gone over, on standard error, and only where that is a terminal; of
-/// a file whose length is known also how many it has, and how many are left. What is said there next
-/// stands in its place, once it is taken back: the line ends with a carriage return alone.
+/// Says how many MiB a command has gone over, on standard error, and only if that is a terminal; of
+/// a file whose length is known also how many it has, and how many are left. What is said there
+/// next replaces it, once it is taken back: the line ends with a carriage return alone.
 #[derive(Clone, Copy)]
 pub struct Progress {
     terminal: Option<Stderr>,
@@ -42,12 +42,12 @@ impl Progress {
     }
 
     // Says that it has come so far.
-    fn tell(&mut self, place: u64) {
+    fn tell(&mut self, offset: u64) {
         let Some(terminal) = &mut self.terminal else {
             return;
         };
-        let mib = place >> 20;
-        let _told = if place <= self.length {
+        let mib = offset >> 20;
+        let _told = if offset <= self.length {
             let all = self.length >> 20;
             let left = all - mib;
             write!(terminal, "\x1b[K{mib} of {all} MiB, {left} left\r")
@@ -56,20 +56,20 @@ impl Progress {
         };
     }
 
-    /// Goes on by so many bytes, which end at this place of the file. Where they can't be told of, that
-    /// ends nothing.
-    pub fn reach(&mut self, bytes: usize, place: u64) {
+    /// Goes on by so many bytes, which end at this offset of the file. If they can't be told of,
+    /// that ends nothing.
+    pub fn reach(&mut self, bytes: usize, offset: u64) {
         self.passed = self.passed.saturating_add(bytes as u64);
         if self.passed.saturating_sub(self.told) >= STEP {
             self.told = self.passed;
-            self.tell(place);
+            self.tell(offset);
         }
     }
 
     /// The same of bytes that follow on those before.
     pub fn pass(&mut self, bytes: usize) {
-        let place = self.passed.saturating_add(bytes as u64);
-        self.reach(bytes, place);
+        let offset = self.passed.saturating_add(bytes as u64);
+        self.reach(bytes, offset);
     }
 
     /// Takes back what was said.

@@ -42,8 +42,8 @@ impl SystemFile for ShownFile {
     fn read_some(&mut self, offset: u64, buffer: &mut [u8]) -> Result<usize, CallFault> {
         let count = self.file.read_some(offset, buffer)?;
         if let Some((at, byte)) = self.shown {
-            let place = at.checked_sub(offset);
-            if let Some(shown) = place.and_then(|place| buffer[..count].get_mut(place as usize)) {
+            let index = at.checked_sub(offset);
+            if let Some(shown) = index.and_then(|index| buffer[..count].get_mut(index as usize)) {
                 *shown = byte;
             }
         }

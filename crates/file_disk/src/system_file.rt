@@ -27,8 +27,8 @@ impl From<io::Error> for CallFault {
 }
 
 /// A file of a system, by the four calls that a disk is made of, in the words of POSIX.1-2017 for
-/// `fstat`, `pread`, `pwrite` and `fdatasync`. Each does what it can at once: fewer bytes than it was
-/// asked for, or nothing where a signal came.
+/// `fstat`, `pread`, `pwrite` and `fdatasync`. Each does what it can at once: fewer bytes than it
+/// was asked for, or nothing if a signal came.
 ///
 /// Contracts see each moment of the file so far, as those of a disk. Each clause has as its premise
 /// that the system keeps the rules for files of this type (`is_modelled`).

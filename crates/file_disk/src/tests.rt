@@ -9,10 +9,10 @@ use disk::{Disk, MemoryDisk};
 use std::alloc::{AllocError, Global};
 use std::test::Fail;
 
-/// What Linux answers where a device is full: ENOSPC.
+/// What Linux answers when a device is full: ENOSPC.
 const FULL: i32 = 28;
 
-/// What it answers where it failed: EIO.
+/// What it answers when it failed: EIO.
 const FAILED: i32 = 5;
 
 // A disk over an empty file whose calls take these turns.
@@ -71,7 +71,7 @@ fn a_full_device_is_told(rt: HostRuntime) -> Result<(), Fail> {
 }
 
 #[test]
-fn a_read_behind_the_end_fails(rt: HostRuntime) -> Result<(), Fail> {
+fn a_read_after_the_end_fails(rt: HostRuntime) -> Result<(), Fail> {
     let mut file = ScriptedFile::new(MemoryDisk::new(rt.alloc()), Vec::new(rt.alloc()));
     let mut read = [0; 2];
     assert!(rt; read_whole(&mut file, 7, &mut read).is_err());

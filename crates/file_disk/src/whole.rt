@@ -7,7 +7,7 @@ ghost use Rattle.disk.specs.History.{present, GoesOn};
 use crate::system_file::{CallFault, SystemFile};
 use std::io;
 
-/// Fills the buffer with the bytes from this offset on. `UnexpectedEof` where the file ends before.
+/// Fills the buffer with the bytes from this offset on. `UnexpectedEof` if the file ends before.
 pub fn read_whole<F: SystemFile>(file: &mut F, offset: u64, buffer: &mut [u8]) -> io::Result<()>
     requires fits { offset + length buffer.old < 2 ^ 64 }
     ensures read { F.is_modelled → OnOk result (buffer.new ≡ take (length buffer.old) (drop offset (present (F.history file.old)).now)) }
@@ -28,7 +28,7 @@ pub fn read_whole<F: SystemFile>(file: &mut F, offset: u64, buffer: &mut [u8]) -
     Err(io::ErrorKind::Interrupted.into())
 }
 
-/// Writes all these bytes at this offset. `WriteZero` where the system takes none.
+/// Writes all these bytes at this offset. `WriteZero` if the system takes none.
 pub fn write_whole<F: SystemFile>(file: &mut F, offset: u64, bytes: &[u8]) -> io::Result<()>
     requires fits { offset + length bytes.now < 2 ^ 64 }
     requires within { F.is_modelled → offset ≤ length (present (F.history file.old)).now }

@@ -13,11 +13,11 @@ use Rattle.pixel_format.proofs.Covering.{in_is, is_in, not_in}
 use Rattle.hextile.specs.declared.cover.Part.{Part}
 use Rattle.hextile.specs.Encoded.{IsPart, IsUniform, IsCover, ShownUpto, part_picture}
 
--- the place of an index
+-- the pixel of an index
 pub index_of : (w k : ℕ) → k / w * w + k % w ≡ k
 index_of w k = omega (arith, div-add-mod k w, mul_comm (k / w) w)
 
--- a place that is shown rightly
+-- a pixel that is shown rightly
 pub goes_on : (f : Format) (w h : ℕ) (colors : List Color) (background : Color) (parts : List Part) (shown : List Color) (k : ℕ) → nth shown k ≡ nth colors k
     → ShownUpto f w h colors background parts shown k → ShownUpto f w h colors background parts shown (k + 1)
 goes_on f w h colors background parts shown k here s = record {
@@ -88,9 +88,9 @@ all_shown f w h colors background parts shown size s = record {
       ∙ sym (ap (λ n. part_picture background (reverse parts) (i % w) n) r_is) ∙ sym (s.picture i less) ∙ s.right i less;
 }
 
--- ---- the places of a part
+-- ---- the pixels of a part
 
--- a run of places is a row of a part
+-- a run of pixels is a row of a part
 run_at : (w row x n i : ℕ) → x + n ≤ w → row * w + x ≤ i → i < row * w + x + n → (i / w ≡ row) × (i % w ≡ i - row * w)
 run_at w row x n i fits from to =
     let c = i - row * w in
@@ -98,7 +98,7 @@ run_at w row x n i fits from to =
     let at : row * w + c ≡ i = omega arith in
     (ap (λ k. k / w) (sym at) ∙ div-mul-add row w c across, ap (λ k. k % w) (sym at) ∙ mod-mul-add row w c across)
 
--- a place beside a row of a part is in the part with that row where it is in the part without it
+-- a pixel beside a row of a part is in the part with that row if it is in the part without it
 same_rows : (w x y v done i : ℕ) → x + v ≤ w → (nat_le ((y + done) * w + x) i && nat_lt i ((y + done) * w + x + v)) ≡ false
     → covers x y v done (i % w) (i / w) ≡ covers x y v (done + 1) (i % w) (i / w)
 same_rows w x y v done i fits off = elim (cases_Bool (covers x y v (done + 1) (i % w) (i / w))) [

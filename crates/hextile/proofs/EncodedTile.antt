@@ -17,7 +17,7 @@ use Rattle.hextile.specs.declared.writing.Known.{Known}
 use Rattle.hextile.specs.Grammar.{Tile, Raw, Parts}
 use Rattle.hextile.specs.Data.{background_of, foreground_of, IsAllowed, IsHead, AreRaw, AreParts}
 use Rattle.hextile.specs.Picture.{first_covering}
-use Rattle.hextile.specs.Encoded.{shown_if, drawn, part_picture, has_parts, is_colored, count_if, mask_number, mask_for, tile_bytes, parts_tile_bytes, IsPart, IsCover, IsKnown, ShowsTile, IsMaskFor, known_behind, IsWritten}
+use Rattle.hextile.specs.Encoded.{shown_if, drawn, part_picture, has_parts, is_colored, count_if, mask_number, mask_for, tile_bytes, parts_tile_bytes, IsPart, IsCover, IsKnown, ShowsTile, IsMaskFor, known_past, IsWritten}
 
 -- ---- pictures
 
@@ -105,7 +105,7 @@ facts known before m background ink parts is mask =
     }
 
 known_is : (known : Known) (before : List Tile) (m : Mask) (background : Color) (ink : Option Color) (parts : List Part) (colored : Bool) → IsKnown before known
-    → TileFacts known before m background ink parts → IsKnown (tile_of m background (unwrap_or ink background) parts ∷ before) (known_behind known background ink colored)
+    → TileFacts known before m background ink parts → IsKnown (tile_of m background (unwrap_or ink background) parts ∷ before) (known_past known background ink colored)
 known_is known before m background ink parts true is t = record { background = λ color e. absurd (cc); foreground = λ color e. absurd (cc) }
 known_is known before m background (Some ink) parts false is t = record {
   background = λ color e. t.back ∙ e;
@@ -206,7 +206,7 @@ pub parts_shown : (f : Format) (w h : ℕ) (colors : List Color) (known : Known)
     → IsKnown before known → IsMaskFor known background ink (length parts) m → ((color : Color) → ink ≡ Some color → All (λ (s : Part). s.color ≡ color) parts)
     → IsCover f w h colors background parts → IsWritten f w h m background (unwrap_or ink background) parts bytes
     → bytes ≡ parts_tile_bytes f m background (unwrap_or ink background) parts
-    → ShowsTile f w h colors before (known_behind known background ink m.colored) bytes
+    → ShowsTile f w h colors before (known_past known background ink m.colored) bytes
 parts_shown f w h colors known before m background ink parts bytes is mask have cover written bytes_are =
     let fg = unwrap_or ink background in
     let t = facts known before m background ink parts is mask in
@@ -267,7 +267,7 @@ pub parts_tile_shown : (f : Format) (w h : ℕ) (colors : List Color) (known aft
     → IsKnown before known → IsMaskFor known background ink count m → IfSome ink (λ color. All (λ (s : Part). s.color ≡ color) parts)
     → IsCover f w h colors background items → (All (IsPart f w h) again → Appends (IsWritten f w h m background foreground again) old new)
     → new ≡ old ++ parts_tile_bytes f m background foreground again
-    → after ≡ known_behind known background ink m.colored → Appends (ShowsTile f w h colors before after) old new
+    → after ≡ known_past known background ink m.colored → Appends (ShowsTile f w h colors before after) old new
 parts_tile_shown f w h colors known after before m background foreground ink parts again items count old new same same_again count_is foreground_is is mask all cover written bytes_are after_is =
     let have : IfSome ink (λ color. All (λ (s : Part). s.color ≡ color) items) = subst (λ (z : List Part). IfSome ink (λ color. All (λ (s : Part). s.color ≡ color) z)) same all in
     let appended = written (subst (λ (z : List Part). All (IsPart f w h) z) (sym same_again) cover.parts_are) in

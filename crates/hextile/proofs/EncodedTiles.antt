@@ -1,4 +1,4 @@
--- Tiles that show their places show the rectangle.
+-- Tiles that show their pixels show the rectangle.
 use Rattle.std.proofs.Common.{◌≡◌, ℕ, ◌+◌, ◌*◌, ◌/◌, ◌%◌, ◌<◌, ◌≤◌, inl, inr, List, [], ◌∷◌, ◌++◌, length, take, get_or, refl, sym, ap, subst, ◌∙◌, append_assoc, length-append, arith}
 use Rattle.std.specs.Prelude.{None, All}
 use Rattle.std.specs.List.{flat_map}
@@ -19,7 +19,7 @@ use Rattle.hextile.specs.Grammar.{Tile}
 use Rattle.hextile.specs.Data.{IsTile, AreTiles, onto}
 use Rattle.hextile.specs.Picture.{latest_picture, tiles_picture}
 use Rattle.hextile.specs.Encoded.{tile_bytes, AreTileColors, IsKnown, ShowsTile, Shows}
-use Rattle.hextile.proofs.Tiling.{in_its_tile, number_within, place_inside}
+use Rattle.hextile.proofs.Tiling.{in_its_tile, number_within, index_inside}
 use Rattle.hextile.proofs.PaintedTiles.{upto_same, upto_other}
 
 -- ---- one tile more
@@ -45,7 +45,7 @@ tiles_more f w h before (s ∷ ts) t number body first count are is = (
   tiles_more f w h (s ∷ before) ts t number are.1 first (omega (arith, count)) are.4 is,
 )
 
--- Tiles that are written, and show their places.
+-- Tiles that are written, and show their pixels.
 pub record Written (f : Format) (w h : ℕ) (colors : List Color) (number : ℕ) (known : Known) (bytes : List ℕ) : Type 0 where
   pub tiles : List Tile
   pub count : length tiles ≡ number
@@ -68,30 +68,30 @@ none_written f w h colors old = record {
   };
 }
 
--- a place stands within its tile
-place_within : (w h column row number : ℕ) → column < w → row < h → tile_number w column row ≡ number
+-- a pixel lies within its tile
+index_within : (w h column row number : ℕ) → column < w → row < h → tile_number w column row ≡ number
     → (column % 16 < tile_width w number) × (row % 16 < tile_height w h number)
-place_within w h column row number across down it =
-    let place = in_its_tile w h column row number across down it in
-    let inside = in_is (tile_left w number) (tile_top w number) (tile_width w number) (tile_height w h number) column row place.covered in
-    (omega (arith, inside.left, inside.right, place.across), omega (arith, inside.top, inside.bottom, place.down))
+index_within w h column row number across down it =
+    let index = in_its_tile w h column row number across down it in
+    let inside = in_is (tile_left w number) (tile_top w number) (tile_width w number) (tile_height w h number) column row index.covered in
+    (omega (arith, inside.left, inside.right, index.across), omega (arith, inside.top, inside.bottom, index.down))
 
--- a place of the tile has the colour of the rectangle's place
-place_color : (w h : ℕ) (colors tile : List Color) (number column row : ℕ) → column < w → row < h → tile_number w column row ≡ number
+-- a pixel of the tile has the colour of the rectangle's pixel
+color_there : (w h : ℕ) (colors tile : List Color) (number column row : ℕ) → column < w → row < h → tile_number w column row ≡ number
     → AreTileColors colors w (tile_left w number) (tile_top w number) (tile_width w number) tile (tile_width w number * tile_height w h number)
     → column % 16 < tile_width w number → row % 16 < tile_height w h number
     → rows_of tile (tile_width w number) (column % 16) (row % 16) ≡ rows_of colors w column row
-place_color w h colors tile number column row across down it are wide high =
+color_there w h colors tile number column row across down it are wide high =
     let tw = tile_width w number in
     let th = tile_height w h number in
     let i = column % 16 in
     let j = row % 16 in
-    let place = in_its_tile w h column row number across down it in
-    let inside = in_is (tile_left w number) (tile_top w number) tw th column row place.covered in
+    let index = in_its_tile w h column row number across down it in
+    let inside = in_is (tile_left w number) (tile_top w number) tw th column row index.covered in
     let left = inside.left in
     let top = inside.top in
-    let x : tile_left w number + i ≡ column = omega (arith, place.across, left) in
-    let y : tile_top w number + j ≡ row = omega (arith, place.down, top) in
+    let x : tile_left w number + i ≡ column = omega (arith, index.across, left) in
+    let y : tile_top w number + j ≡ row = omega (arith, index.down, top) in
     are (j * tw + i) (mul-add-lt j tw i th high wide)
     ∙ ap (λ n. nth colors ((tile_top w number + n) * w + (tile_left w number + (j * tw + i) % tw))) (div-mul-add j tw i wide)
     ∙ ap (λ n. nth colors ((tile_top w number + j) * w + (tile_left w number + n))) (mod-mul-add j tw i wide)
@@ -128,8 +128,8 @@ one_written f w h colors tile taken number known after tw th old between new les
             ∙ elim (cases_eq (tile_number w column row) number) [
               | inl it ↦
                   let n = tile_number w column row in
-                  let wide : column % 16 < tile_width w number = (place_within w h column row number across down it).0 in
-                  let high : row % 16 < tile_height w h number = (place_within w h column row number across down it).1 in
+                  let wide : column % 16 < tile_width w number = (index_within w h column row number across down it).0 in
+                  let high : row % 16 < tile_height w h number = (index_within w h column row number across down it).1 in
                   let fits : row % 16 * tile_width w number + column % 16 < tw * th =
                   rw (tw_is, th_is) (mul-add-lt (row % 16) (tile_width w number) (column % 16) (tile_height w h number) high wide) in
                   ap (λ (z : List Tile). latest_picture (tile_width w n) z (column % 16) (row % 16)) (upto_same n t latest (length_is ∙ sym it))
@@ -139,7 +139,7 @@ one_written f w h colors tile taken number known after tw th old between new les
                   ∙ ap (λ k. rows_of taken k (column % 16) (row % 16)) tw_is
                   ∙ ap (λ z. rows_of z (tile_width w number) (column % 16) (row % 16)) taken_is
                   ∙ get_or-take (tw * th) tile (row % 16 * tile_width w number + column % 16) black fits
-                  ∙ place_color w h colors tile number column row across down it
+                  ∙ color_there w h colors tile number column row across down it
                   (subst (λ (k : ℕ). AreTileColors colors w (tile_left w number) (tile_top w number) (tile_width w number) tile (tile_width w number * k)) th_is
                   (subst (λ (k : ℕ). AreTileColors colors w (tile_left w number) (tile_top w number) k tile (k * th)) tw_is colors_are)) wide high
               | inr other ↦
@@ -165,9 +165,9 @@ all_written f w h colors number known old new is a =
       };
     }
 
--- a tile has at most 256 places
-pub few_places : (w h n : ℕ) → w ≤ 16 → h ≤ 16 → n ≡ 256 → w * h ≤ n
-few_places w h n wide high all = rw all (mul-le-mul wide high)
+-- a tile has at most 256 pixels
+pub few_pixels : (w h n : ℕ) → w ≤ 16 → h ≤ 16 → n ≡ 256 → w * h ≤ n
+few_pixels w h n wide high all = rw all (mul-le-mul wide high)
 
 -- the colours of a tile keep to what the rectangle's colours keep to
 pub tile_within : (f : Format) (w h : ℕ) (colors tile : List Color) (number tw th : ℕ) → number < tile_count w h → tw ≡ tile_width w number → th ≡ tile_height w h number
@@ -176,7 +176,7 @@ pub tile_within : (f : Format) (w h : ℕ) (colors tile : List Color) (number tw
 tile_within f w h colors tile number tw th less tw_is th_is size are fits within = λ k d in_it.
     let short : k < tw * th = omega (arith, length-take-le (tw * th) tile fits, in_it) in
     let at : (tile_top w number + k / tw) * w + (tile_left w number + k % tw) < length colors =
-    rw size (place_inside w h number tw th k less tw_is th_is short) in
+    rw size (index_inside w h number tw th k less tw_is th_is short) in
     let is : get_or (take (tw * th) tile) k d ≡ nth colors ((tile_top w number + k / tw) * w + (tile_left w number + k % tw)) =
     get_or-take (tw * th) tile k d short ∙ get_or_default tile k d black (omega (arith, short, fits)) ∙ are k short in
     subst (λ (z : Color). IsWithin f z) (sym is) (within ((tile_top w number + k / tw) * w + (tile_left w number + k % tw)) black at)

@@ -76,8 +76,8 @@ pixels_again f [] bytes none = refl
 pixels_again f (color ∷ colors) bytes are =
     let p = pixel_bytes f in
     let front : take p bytes ≡ are.0 = rw are.2 (take_at are.0 are.1 p are.3.size) in
-    let behind : drop p bytes ≡ are.1 = rw are.2 (drop_at are.0 are.1 p are.3.size) in
-    rw (front, behind, ← are.3.color_is, pixels_again f colors are.1 are.4) refl
+    let following : drop p bytes ≡ are.1 = rw are.2 (drop_at are.0 are.1 p are.3.size) in
+    rw (front, following, ← are.3.color_is, pixels_again f colors are.1 are.4) refl
 
 -- ---- a tile's head
 
@@ -131,12 +131,12 @@ head_again f m background foreground count head is =
     let number = count_size m.subrectangles count is.number is.count_is in
     let all : length head ≡ length is.first + (length is.second + length is.number) =
     ap length is.head_is ∙ length-append is.first (is.second ++ is.number) ∙ ap (λ n. length is.first + n) (length-append is.second is.number) in
-    let behind : drop a head ≡ is.second ++ is.number = ap (drop a) is.head_is ∙ drop_at is.first (is.second ++ is.number) a first in
+    let following : drop a head ≡ is.second ++ is.number = ap (drop a) is.head_is ∙ drop_at is.first (is.second ++ is.number) a first in
     let fronts : length (is.first ++ is.second) ≡ a + b = length-append is.first is.second ∙ omega (arith, first, second) in
     record {
       whole = omega (arith, all, first, second, number);
       background_is = ap (color_if f m.background) is.head_is ∙ pixel_again f m.background background is.first (is.second ++ is.number) is.background_is;
-      foreground_is = ap (color_if f m.foreground) behind ∙ pixel_again f m.foreground foreground is.second is.number is.foreground_is;
+      foreground_is = ap (color_if f m.foreground) following ∙ pixel_again f m.foreground foreground is.second is.number is.foreground_is;
       count_is = ap (λ z. cond m.subrectangles (slice_index z (a + b)) 0) (is.head_is ∙ sym (append_assoc is.first is.second is.number))
           ∙ count_again m.subrectangles (a + b) count (is.first ++ is.second) is.number fronts is.count_is;
     }
@@ -174,11 +174,11 @@ pub bytes_subrectangle : (f : Format) (colored : Bool) (s : Subrectangle) (bytes
 unfolding subrectangle_of
 bytes_subrectangle f colored s bytes b =
     let pixel = pixel_size f colored s.color b.pixel b.color_is in
-    let behind : drop (pixel_if f colored) bytes ≡ b.corner ∷ b.size ∷ [] =
+    let following : drop (pixel_if f colored) bytes ≡ b.corner ∷ b.size ∷ [] =
     ap (drop (pixel_if f colored)) b.bytes_are ∙ drop_at b.pixel (b.corner ∷ b.size ∷ []) (pixel_if f colored) pixel in
     let color : color_if f colored bytes ≡ s.color =
     ap (color_if f colored) b.bytes_are ∙ pixel_again f colored s.color b.pixel (b.corner ∷ b.size ∷ []) b.color_is in
-    rw (behind, color, ← b.x_is, ← b.y_is, ← b.w_is, ← b.h_is) refl
+    rw (following, color, ← b.x_is, ← b.y_is, ← b.w_is, ← b.h_is) refl
 
 pub inside_is : (w h : ℕ) (s : Subrectangle) → LiesWithin w h s → is_inside w h s ≡ true
 unfolding is_inside

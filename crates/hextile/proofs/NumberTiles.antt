@@ -9,7 +9,7 @@ use Rattle.pixel_format.proofs.Numbers.{color_nth}
 use Rattle.hextile.specs.Tiles.{tile_count, tile_left, tile_top, tile_width, tile_height}
 use Rattle.hextile.specs.Encoded.{AreTileColors}
 use Rattle.hextile.specs.Numbered.{AreTileNumbers}
-use Rattle.hextile.proofs.Tiling.{place_inside}
+use Rattle.hextile.proofs.Tiling.{index_inside}
 
 pub color_if : (f : Format) (b : Bool) (m n : ℕ) → number_color f (cond b m n) ≡ cond b (number_color f m) (number_color f n)
 color_if f true m n = refl
@@ -39,11 +39,11 @@ numbers_taken f tile n fits are = λ k d in_it.
     let short : k < n = omega (arith, length-take-le n tile fits, in_it) in
     subst (IsNumber f) (sym (get_or-take n tile k d short ∙ get_or_default tile k d 0 (omega (arith, short, fits)))) (are k short)
 
--- the pixels of a tile are numbers where the rectangle's are
+-- the pixels of a tile are numbers if the rectangle's are
 pub numbers_within : (f : Format) (w h : ℕ) (numbers tile : List ℕ) (number tw th : ℕ) → number < tile_count w h → tw ≡ tile_width w number → th ≡ tile_height w h number
     → length numbers ≡ h * w → AreTileNumbers numbers w (tile_left w number) (tile_top w number) tw tile (tw * th)
     → All (IsNumber f) numbers → AreNumbersUpto f tile (tw * th)
 numbers_within f w h numbers tile number tw th less tw_is th_is size are within = λ k short.
     let at : (tile_top w number + k / tw) * w + (tile_left w number + k % tw) < length numbers =
-    rw size (place_inside w h number tw th k less tw_is th_is short) in
+    rw size (index_inside w h number tw th k less tw_is th_is short) in
     subst (IsNumber f) (sym (are k short)) (within ((tile_top w number + k / tw) * w + (tile_left w number + k % tw)) 0 at)

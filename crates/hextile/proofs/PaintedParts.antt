@@ -46,7 +46,7 @@ next_part f colored w h count bytes ss rest e =
     let last = d.then in
     let all : ss ≡ b.value ∷ d.value = cc in
     let end_is : d.rest ≡ rest = cc in
-    let behind : drop n bytes ≡ b.rest = sym k.rest_is ∙ rest_is in
+    let following : drop n bytes ≡ b.rest = sym k.rest_is ∙ rest_is in
     record {
       part = b.value;
       others = d.value;
@@ -54,7 +54,7 @@ next_part f colored w h count bytes ss rest e =
       enough = k.enough;
       is = ap (subrectangle_of f colored) (sym k.is) ∙ part_is;
       within = subst (λ (z : Subrectangle). LiesWithin w h z) part_is (within_is w h (subrectangle_of f colored a.value) g.0);
-      left = ap (subrectangles_at f colored w h count) behind ∙ d.first ∙ ap (λ z. Got d.value z) end_is;
+      left = ap (subrectangles_at f colored w h count) following ∙ d.first ∙ ap (λ z. Got d.value z) end_is;
     }
 
 -- Which of the subrectangles are painted, and the bytes of those that are left.

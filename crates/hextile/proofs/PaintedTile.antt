@@ -109,7 +109,7 @@ parts_painted x y w h background foreground t a b parts width height old between
     ∙ parts_laid x y w h background foreground (reverse parts) old column row p.within
     ∙ ap (λ (z : Tile). laid_over x y w h (tile_picture w background foreground z) old column row) (sym is)
 
--- what stands behind a mask, as the code takes it
+-- what follows a mask, as the code takes it
 pub code_body : (f : Format) (named : Named) (w h : ℕ) (bytes : List ℕ) (m : Mask) (t : Tile) (rest : List ℕ) → m ≡ mask_of (slice_index bytes 0)
     → tile_at f named w h bytes ≡ Got t rest → body_at f m w h (take (length bytes - 1) (drop 1 bytes)) ≡ Got t rest
 code_body f named w h bytes m t rest is e =

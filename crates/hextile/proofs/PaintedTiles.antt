@@ -1,4 +1,4 @@
--- Painting tile by tile gives each place the picture of the tile in which it lies.
+-- Painting tile by tile gives each pixel the picture of the tile in which it lies.
 use Rattle.std.proofs.Common.{◌≡◌, ℕ, suc, ◌+◌, ◌-◌, ◌%◌, ◌<◌, inl, inr, true, cond, List, [], ◌∷◌, length, refl, sym, ap, ◌∙◌, arith}
 use Rattle.std.specs.Prelude.{unwrap_or, nat_lt, ◌&&◌, None, Some}
 use Rattle.std.proofs.lemmas.Bool.{cases_Bool, cases_eq, cases_lt, lt-ltb, le-ltb, eq-eqb, ne_eqb}
@@ -18,11 +18,11 @@ use Rattle.hextile.specs.Painting.{carried}
 use Rattle.hextile.proofs.Tiling.{in_its_tile, not_in_other, number_within, tile_across, tile_down}
 use Rattle.hextile.proofs.TilesRead.{data_again}
 
--- the running colours behind these tiles, the latest of which stands first
-abbrev pub colors_behind : List Tile → TileColors
-colors_behind latest = record { background = unwrap_or (background_of latest) black; foreground = unwrap_or (foreground_of latest) black }
+-- the running colours after these tiles, the latest of which stands first
+abbrev pub colors_after : List Tile → TileColors
+colors_after latest = record { background = unwrap_or (background_of latest) black; foreground = unwrap_or (foreground_of latest) black }
 
-pub colors_more : (latest : List Tile) (t : Tile) → carried (colors_behind latest) t ≡ colors_behind (t ∷ latest)
+pub colors_more : (latest : List Tile) (t : Tile) → carried (colors_after latest) t ≡ colors_after (t ∷ latest)
 colors_more latest (Raw colors) = refl
 colors_more latest (Parts None None parts) = refl
 colors_more latest (Parts None (Some b) parts) = refl
@@ -41,7 +41,7 @@ pub record TilesProgress (f : Format) (x y w h : ℕ) (tiles : List Tile) (numbe
   pub number_is : length latest ≡ number
   pub named : Named
   pub are : tiles_at f w h named (tile_count w h - number) rest ≡ Got others []
-  pub colors_are : colors ≡ colors_behind latest
+  pub colors_are : colors ≡ colors_after latest
   pub shows : Agree width height new (tiles_upto x y w h number latest old)
 
 none_upto : (x y w h column row : ℕ) (old : Picture) → old column row ≡ tiles_upto x y w h 0 [] old column row
@@ -106,7 +106,7 @@ upto_other number t latest other = ap (λ b. cond b (t ∷ latest) (upto number 
 
 -- one tile more is painted
 pub tile_laid : (x y w h number : ℕ) (latest : List Tile) (t : Tile) (colors : TileColors) (old between : Picture) (column row : ℕ) → length latest ≡ number
-    → number < tile_count w h → 0 < w → colors ≡ colors_behind (t ∷ latest)
+    → number < tile_count w h → 0 < w → colors ≡ colors_after (t ∷ latest)
     → between column row ≡ tiles_upto x y w h number latest old column row
     → laid_over (x + tile_left w number) (y + tile_top w number) (tile_width w number) (tile_height w h number)
     (tile_picture (tile_width w number) colors.background colors.foreground t) between column row
@@ -125,11 +125,11 @@ tile_laid x y w h number latest t colors old between column row number_is less s
           let at = tile_number w (column - x) (row - y) in
           elim (cases_eq at number) [
             | inl it ↦
-                let place = in_its_tile w h (column - x) (row - y) number across down it in
-                let across_is : column - (x + left) ≡ (column - x) % 16 = omega (arith, place.across) in
-                let down_is : row - (y + top) ≡ (row - y) % 16 = omega (arith, place.down) in
+                let index = in_its_tile w h (column - x) (row - y) number across down it in
+                let across_is : column - (x + left) ≡ (column - x) % 16 = omega (arith, index.across) in
+                let down_is : row - (y + top) ≡ (row - y) % 16 = omega (arith, index.down) in
                 let next : nat_lt at (number + 1) ≡ true = lt-ltb at (number + 1) (omega (arith, it)) in
-                rw (same, place.covered, here, next)
+                rw (same, index.covered, here, next)
                 (ap (λ (z : TileColors). tile_picture tw z.background z.foreground t (column - (x + left)) (row - (y + top))) colors_are
                 ∙ ap (λ c. latest_picture tw (t ∷ latest) c (row - (y + top))) across_is
                 ∙ ap (λ r. latest_picture tw (t ∷ latest) ((column - x) % 16) r) down_is
@@ -150,16 +150,16 @@ tile_laid x y w h number latest t colors old between column row number_is less s
 
 pub tiles_go : (f : Format) (x y w h : ℕ) (tiles : List Tile) (number : ℕ) (rest after : List ℕ) (colors new_colors : TileColors) (width height : ℕ) (old between new : Picture)
     → number < tile_count w h → 0 < w → TilesProgress f x y w h tiles number rest colors width height old between
-    → ((named : Named) (t : Tile) (behind : List ℕ) → tile_at f named (tile_width w number) (tile_height w h number) rest ≡ Got t behind → after ≡ behind)
-    → ((named : Named) (t : Tile) (behind : List ℕ) → tile_at f named (tile_width w number) (tile_height w h number) rest ≡ Got t behind → new_colors ≡ carried colors t)
-    → ((named : Named) (t : Tile) (behind : List ℕ) → tile_at f named (tile_width w number) (tile_height w h number) rest ≡ Got t behind
+    → ((named : Named) (t : Tile) (following : List ℕ) → tile_at f named (tile_width w number) (tile_height w h number) rest ≡ Got t following → after ≡ following)
+    → ((named : Named) (t : Tile) (following : List ℕ) → tile_at f named (tile_width w number) (tile_height w h number) rest ≡ Got t following → new_colors ≡ carried colors t)
+    → ((named : Named) (t : Tile) (following : List ℕ) → tile_at f named (tile_width w number) (tile_height w h number) rest ≡ Got t following
     → Agree width height new (laid_over (x + tile_left w number) (y + tile_top w number) (tile_width w number) (tile_height w h number)
     (tile_picture (tile_width w number) new_colors.background new_colors.foreground t) between))
     → TilesProgress f x y w h tiles (number + 1) after new_colors width height old new
 tiles_go f x y w h tiles number rest after colors new_colors width height old between new less some p rest_is colors_are painted =
     let next = next_tile f w h number p.named rest p.others less p.are in
-    let behind = rest_is p.named next.tile next.rest next.is in
-    let colors_behind_it : new_colors ≡ colors_behind (next.tile ∷ p.latest) =
+    let following = rest_is p.named next.tile next.rest next.is in
+    let colors_after_it : new_colors ≡ colors_after (next.tile ∷ p.latest) =
     colors_are p.named next.tile next.rest next.is ∙ ap (λ (z : TileColors). carried z next.tile) p.colors_are ∙ colors_more p.latest next.tile in
     let number_is = p.number_is in
     record {
@@ -168,11 +168,11 @@ tiles_go f x y w h tiles number rest after colors new_colors width height old be
       all = p.all ∙ ap (λ (z : List Tile). onto z p.latest) next.all;
       number_is = omega arith;
       named = named_with p.named next.tile;
-      are = ap (λ z. tiles_at f w h (named_with p.named next.tile) (tile_count w h - (number + 1)) z) behind ∙ next.are;
-      colors_are = colors_behind_it;
+      are = ap (λ z. tiles_at f w h (named_with p.named next.tile) (tile_count w h - (number + 1)) z) following ∙ next.are;
+      colors_are = colors_after_it;
       shows = λ column row across down.
           painted p.named next.tile next.rest next.is column row across down
-          ∙ tile_laid x y w h number p.latest next.tile new_colors old between column row number_is less some colors_behind_it (p.shows column row across down);
+          ∙ tile_laid x y w h number p.latest next.tile new_colors old between column row number_is less some colors_after_it (p.shows column row across down);
     }
 
 -- all of them are painted

@@ -7,7 +7,7 @@ use Rattle.terms.specs.Reading.{Got, Bad, ◌>>=◌, field, guard}
 use Rattle.terms.proofs.Readings.{field_got, field-whole, true_or_false, field_front, one_number}
 use Rattle.terms.proofs.Refusals.{bind_bad, field_never_bad, got_never_bad, guard_bad}
 use Rattle.terms.proofs.Measured.{measured_bad}
-use Rattle.terms.proofs.Listed.{StopsIn, stops_here, stops_behind}
+use Rattle.terms.proofs.Listed.{StopsIn, stops_here, stops_after}
 use Rattle.hextile.specs.declared.fields.Subrectangle.{Subrectangle}
 use Rattle.hextile.specs.declared.fields.Named.{Named}
 use Rattle.hextile.specs.declared.fault.Measure.TheVariants as answers
@@ -59,7 +59,7 @@ subrectangles_bad f colored w h (suc count) bytes e =
       | inr b ↦
           let r = subrectangle_read f colored w h bytes b.value b.rest b.first in
           elim (bind_bad (subrectangles_at f colored w h count b.rest) (λ others end. Got (b.value ∷ others) end) Refused b.then) [
-            | inl bad ↦ stops_behind (AreSubrectangles f colored w h) (Leaves f colored w h) b.value count bytes r.first b.rest r.bytes_are
+            | inl bad ↦ stops_after (AreSubrectangles f colored w h) (Leaves f colored w h) b.value count bytes r.first b.rest r.bytes_are
                 (subrectangles_bad f colored w h count b.rest bad) (λ others body are. (r.first, body, refl, r.is, r.within, are))
             | inr d ↦ absurd (got_never_bad _ _ _ d.then)
           ]

@@ -16,7 +16,7 @@ use Rattle.hextile.specs.declared.measuring.Measuring.TheVariants as stages
 use Rattle.hextile.specs.Tiles.{tiles_across, tile_count}
 use Rattle.hextile.specs.Grammar.{Tile, Raw, Parts, Fault, Refused, mask_of, is_allowed, pixel_if, color_if, head_bytes, subrectangle_bytes, background_in, foreground_in, count_in, subrectangle_of, is_inside, subrectangle_at, subrectangles_at, raw_at, parts_at, body_at, tile_at, named_with, tiles_at, colors_of, data_at}
 use Rattle.hextile.specs.declared.fault.Measure.TheVariants as answers
-use Rattle.hextile.specs.Measuring.{named_by, width_of, height_of, wants_of, judged, behind, body_left, parts_left, resume, go_on, measured}
+use Rattle.hextile.specs.Measuring.{named_by, width_of, height_of, wants_of, judged, following, body_left, parts_left, resume, go_on, measured}
 
 -- ---- readings
 
@@ -81,18 +81,18 @@ pub mask_refused : (f : Format) (tile : Position) (byte : List ℕ) (more : List
 unfolding resume tiles_at tile_at
 mask_refused f tile byte more whole forbidden = rw (field-whole {E = Fault} 1 byte more whole, forbidden) refl
 
--- ---- behind a mask
+-- ---- after a mask
 
 pub raw_left : (f : Format) (tile : Position) (m : Mask) (more : List ℕ) → m.raw ≡ true → body_left f tile m more ≡ resume f (stages.Pixels tile) more
-unfolding body_left body_at raw_at resume behind
+unfolding body_left body_at raw_at resume following
 raw_left f tile m more raw =
     rw raw (made (λ pixels. Raw (colors_of f (width_of tile * height_of tile) pixels)) (field (width_of tile * height_of tile * pixel_bytes f) more)
     (λ t rest. judged (tiles_at f tile.w tile.h (named_with tile.named t) tile.more rest)))
 
-pub head_left : (f : Format) (tile behind_it : Position) (m : Mask) (more : List ℕ) → m.raw ≡ false → behind_it ≡ record tile { named = named_by tile.named m }
-    → body_left f tile m more ≡ (field (head_bytes f m) more >>= λ head rest. parts_left f behind_it m.colored (count_in f m head) rest)
-unfolding body_left body_at parts_at parts_left behind count_in background_in foreground_in
-head_left f tile behind_it m more raw is =
+pub head_left : (f : Format) (tile after_it : Position) (m : Mask) (more : List ℕ) → m.raw ≡ false → after_it ≡ record tile { named = named_by tile.named m }
+    → body_left f tile m more ≡ (field (head_bytes f m) more >>= λ head rest. parts_left f after_it m.colored (count_in f m head) rest)
+unfolding body_left body_at parts_at parts_left following count_in background_in foreground_in
+head_left f tile after_it m more raw is =
     rw (raw, is)
     (made_both (λ head parts. Parts (background_in f m head) (foreground_in f m head) parts) (field (head_bytes f m) more)
     (λ head rest. subrectangles_at f m.colored (width_of tile) (height_of tile) (count_in f m head) rest)
@@ -101,22 +101,22 @@ head_left f tile behind_it m more raw is =
     same_next (subrectangles_at f m.colored (width_of tile) (height_of tile) (count_in f m head) rest) _ _ (λ parts after.
     ap (λ (n : Named). judged (tiles_at f tile.w tile.h n tile.more after)) (named_in f tile.named m head parts))))
 
--- no fields behind the mask
-pub none_left : (f : Format) (tile : Position) (more : List ℕ) (colored : Bool) → parts_left f tile colored 0 more ≡ behind f tile more
+-- no fields after the mask
+pub none_left : (f : Format) (tile : Position) (more : List ℕ) (colored : Bool) → parts_left f tile colored 0 more ≡ following f tile more
 unfolding parts_left subrectangles_at
 none_left f tile more colored = refl
 
-pub nothing_left : (f : Format) (tile behind_it : Position) (m : Mask) (more : List ℕ) → m.raw ≡ false → behind_it ≡ record tile { named = named_by tile.named m }
-    → m.background ≡ false → m.foreground ≡ false → m.subrectangles ≡ false → body_left f tile m more ≡ behind f behind_it more
+pub nothing_left : (f : Format) (tile after_it : Position) (m : Mask) (more : List ℕ) → m.raw ≡ false → after_it ≡ record tile { named = named_by tile.named m }
+    → m.background ≡ false → m.foreground ≡ false → m.subrectangles ≡ false → body_left f tile m more ≡ following f after_it more
 unfolding count_in field
-nothing_left f tile behind_it m more raw is background foreground subrectangles =
-    head_left f tile behind_it m more raw is
-    ∙ rw (background, foreground, subrectangles, le-ltb (length more) 0 (omega arith)) (none_left f behind_it more m.colored)
+nothing_left f tile after_it m more raw is background foreground subrectangles =
+    head_left f tile after_it m more raw is
+    ∙ rw (background, foreground, subrectangles, le-ltb (length more) 0 (omega arith)) (none_left f after_it more m.colored)
 
 -- ---- whole fields
 
 pub pixels_whole : (f : Format) (tile : Position) (pixels more : List ℕ) → length pixels ≡ width_of tile * height_of tile * pixel_bytes f
-    → resume f (stages.Pixels tile) (pixels ++ more) ≡ behind f tile more
+    → resume f (stages.Pixels tile) (pixels ++ more) ≡ following f tile more
 unfolding resume
 pixels_whole f tile pixels more whole = rw (field-whole {E = Fault} (width_of tile * height_of tile * pixel_bytes f) pixels more whole) refl
 
@@ -133,7 +133,7 @@ unfolding parts_left subrectangles_at
 part_inside f tile colored others bytes more whole inside =
     rw (subrectangle_whole f colored (width_of tile) (height_of tile) bytes more whole, inside)
     (made (λ (ss : List Subrectangle). subrectangle_of f colored bytes ∷ ss) (subrectangles_at f colored (width_of tile) (height_of tile) others more)
-    (λ parts rest. behind f tile rest))
+    (λ parts rest. following f tile rest))
 
 pub part_outside : (f : Format) (tile : Position) (colored : Bool) (others : ℕ) (bytes more : List ℕ) → length bytes ≡ subrectangle_bytes f colored
     → is_inside (width_of tile) (height_of tile) (subrectangle_of f colored bytes) ≡ false
@@ -158,10 +158,10 @@ pub no_data : (f : Format) (w h : ℕ) (more : List ℕ) → tile_count w h ≡ 
 unfolding data_at tiles_at
 no_data f w h more none = rw none refl
 
-pub no_places : (w h : ℕ) → (w ≡ 0) ⊎ (h ≡ 0) → tile_count w h ≡ 0
+pub no_pixels : (w h : ℕ) → (w ≡ 0) ⊎ (h ≡ 0) → tile_count w h ≡ 0
 unfolding tiles_across
-no_places w h (inl none) = rw none (mul-zero _)
-no_places w h (inr none) = rw none (zero-mul _)
+no_pixels w h (inl none) = rw none (mul-zero _)
+no_pixels w h (inr none) = rw none (zero-mul _)
 
 -- the length of what is whole is that of what is judged whole
 pub measured_judged : {A : Type 0} (size : ℕ) (r : Reading A Fault) → measured size (judged r) ≡ measured size r
@@ -174,11 +174,11 @@ pub head_whole : (f : Format) (head : TileHead) (first more : List ℕ) → leng
 unfolding resume
 head_whole f head first more whole = rw (field-whole {E = Fault} (head_bytes f head.mask) first more whole) refl
 
--- ---- fields one behind the other
+-- ---- fields one after the other
 
 -- bytes that are split in two
-pub parts_of : (n : ℕ) (bytes front behind : List ℕ) → front ≡ take n bytes → behind ≡ drop n bytes → bytes ≡ front ++ behind
-parts_of n bytes front behind e d = rw (e, d) (sym (take-append-drop n bytes))
+pub parts_of : (n : ℕ) (bytes front following : List ℕ) → front ≡ take n bytes → following ≡ drop n bytes → bytes ≡ front ++ following
+parts_of n bytes front following e d = rw (e, d) (sym (take-append-drop n bytes))
 
 pub front_of : (bytes front rest : List ℕ) → bytes ≡ front ++ rest → take (length bytes - length rest) bytes ≡ front
 front_of bytes front rest is =
@@ -197,27 +197,27 @@ parts_inside f tile colored count left front part same some whole inside more =
     ∙ ap (λ n. parts_left f tile colored n (part ++ more)) is
     ∙ part_inside f tile colored (left - 1) part more whole inside
 
-pub parts_outside : (f : Format) (tile : Position) (colored : Bool) (count left : ℕ) (front part behind bytes : List ℕ)
+pub parts_outside : (f : Format) (tile : Position) (colored : Bool) (count left : ℕ) (front part following bytes : List ℕ)
     → ((more : List ℕ) → parts_left f tile colored count (front ++ more) ≡ parts_left f tile colored left more)
-    → bytes ≡ front ++ (part ++ behind)
+    → bytes ≡ front ++ (part ++ following)
     → 0 < left → length part ≡ subrectangle_bytes f colored → is_inside (width_of tile) (height_of tile) (subrectangle_of f colored part) ≡ false
     → (more : List ℕ) → parts_left f tile colored count (bytes ++ more) ≡ Bad Refused
-parts_outside f tile colored count left front part behind bytes same is some whole outside more =
+parts_outside f tile colored count left front part following bytes same is some whole outside more =
     let next : left ≡ suc (left - 1) = omega arith in
     ap (λ z. parts_left f tile colored count (z ++ more)) is
-    ∙ ap (parts_left f tile colored count) (append_assoc front (part ++ behind) more)
-    ∙ same ((part ++ behind) ++ more)
-    ∙ ap (parts_left f tile colored left) (append_assoc part behind more)
-    ∙ ap (λ n. parts_left f tile colored n (part ++ (behind ++ more))) next
-    ∙ part_outside f tile colored (left - 1) part (behind ++ more) whole outside
+    ∙ ap (parts_left f tile colored count) (append_assoc front (part ++ following) more)
+    ∙ same ((part ++ following) ++ more)
+    ∙ ap (parts_left f tile colored left) (append_assoc part following more)
+    ∙ ap (λ n. parts_left f tile colored n (part ++ (following ++ more))) next
+    ∙ part_outside f tile colored (left - 1) part (following ++ more) whole outside
 
--- the fields behind those that are judged
-pub run_more : (f : Format) (first stage : Measuring) (next behind : Option Measuring) (front rest : List ℕ) (n : ℕ) → next ≡ Some stage
+-- the fields after those that are judged
+pub run_more : (f : Format) (first stage : Measuring) (next following : Option Measuring) (front rest : List ℕ) (n : ℕ) → next ≡ Some stage
     → ((more : List ℕ) → resume f first (front ++ more) ≡ go_on f next more)
-    → ((more : List ℕ) → resume f stage (take n rest ++ more) ≡ go_on f behind more)
-    → (more : List ℕ) → resume f first ((front ++ take n rest) ++ more) ≡ go_on f behind more
+    → ((more : List ℕ) → resume f stage (take n rest ++ more) ≡ go_on f following more)
+    → (more : List ℕ) → resume f first ((front ++ take n rest) ++ more) ≡ go_on f following more
 unfolding go_on
-run_more f first stage next behind front rest n is same goes more =
+run_more f first stage next following front rest n is same goes more =
     ap (resume f first) (append_assoc front (take n rest) more)
     ∙ same (take n rest ++ more) ∙ ap (λ s. go_on f s (take n rest ++ more)) is ∙ goes more
 

@@ -110,7 +110,7 @@ raw_read f w h byte before bytes t rest raw e =
       pixels = b.value;
       bytes_are = refl;
       raw = raw;
-      places = pixels_count f (w * h) b.value;
+      pixel_count = pixels_count f (w * h) b.value;
       pixels_are = pixels_are f (w * h) b.value k.1;
     } in
     record {
@@ -147,7 +147,7 @@ parts_read f w h byte before bytes t rest raw allowed e =
       is = subst (λ (z : Tile). IsTile f w h before z (byte ∷ (b.value ++ r.body))) is are;
     }
 
--- behind its mask
+-- after its mask
 body_read : (f : Format) (w h byte : ℕ) (before : List Tile) (bytes : List ℕ) (t : Tile) (rest : List ℕ)
     → is_allowed (names_of before) byte (mask_of byte) ≡ true → body_at f (mask_of byte) w h bytes ≡ Got t rest → TileRead f w h before (byte ∷ bytes) t rest
 unfolding body_at
@@ -195,8 +195,8 @@ pub tile_again : (f : Format) (w h : ℕ) (before : List Tile) (t : Tile) (first
     → tile_at f (names_of before) w h (first ++ more) ≡ Got t more
 unfolding body_at raw_at parts_at
 tile_again f w h before (Raw colors) first more is =
-    let size : length is.pixels ≡ w * h * pixel_bytes f = pixels_size f colors is.pixels is.pixels_are ∙ ap (λ n. n * pixel_bytes f) is.places in
-    let colors_are : colors_of f (w * h) is.pixels ≡ colors = ap (λ n. colors_of f n is.pixels) (sym is.places) ∙ pixels_again f colors is.pixels is.pixels_are in
+    let size : length is.pixels ≡ w * h * pixel_bytes f = pixels_size f colors is.pixels is.pixels_are ∙ ap (λ n. n * pixel_bytes f) is.pixel_count in
+    let colors_are : colors_of f (w * h) is.pixels ≡ colors = ap (λ n. colors_of f n is.pixels) (sym is.pixel_count) ∙ pixels_again f colors is.pixels is.pixels_are in
     ap (λ z. tile_at f (names_of before) w h (z ++ more)) is.bytes_are
     ∙ mask_first f (names_of before) w h is.byte (is.pixels ++ more)
     ∙ rw (

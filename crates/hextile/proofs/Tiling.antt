@@ -1,4 +1,4 @@
--- Where tiles stand, and the places in them.
+-- The areas of tiles, and the pixels in them.
 use Rattle.std.proofs.Common.{◌≡◌, ℕ, zero, suc, ◌+◌, ◌-◌, ◌*◌, ◌/◌, ◌%◌, ◌<◌, ◌≤◌, true, false, mul-zero, zero-mul, sym, ap, ◌∙◌, arith, refl}
 use Rattle.std.proofs.Math.Nat.{mod-lt, div-lt_iff_lt-mul, mul-pos, div-add-mod, mul_comm}
 use Rattle.std.proofs.lemmas.Nat.{div-mul-add, mod-mul-add, mul-add-lt}
@@ -7,22 +7,22 @@ use Rattle.pixel_format.proofs.Covering.{is_in, not_in}
 use Rattle.hextile.specs.Tiles.{tiles_across, tile_count, tile_number, tile_left, tile_top, tile_width, tile_height}
 
 -- a column of tiles begins within the rectangle
-pub column_within : (places column : ℕ) → column < tiles_across places → column * 16 < places
+pub column_within : (pixel_count column : ℕ) → column < tiles_across pixel_count → column * 16 < pixel_count
 unfolding tiles_across
-column_within places column less = omega arith
+column_within pixel_count column less = omega arith
 
-pub some_across : (places : ℕ) → 0 < places → 0 < tiles_across places
+pub some_across : (pixel_count : ℕ) → 0 < pixel_count → 0 < tiles_across pixel_count
 unfolding tiles_across
-some_across places some = omega arith
+some_across pixel_count some = omega arith
 
--- a rectangle that has a tile has places
-pub some_places : (w h number : ℕ) → number < tile_count w h → (0 < w) × (0 < h)
+-- a rectangle that has a tile has pixels
+pub some_pixels : (w h number : ℕ) → number < tile_count w h → (0 < w) × (0 < h)
 unfolding tiles_across
-some_places zero h number less = absurd (omega (arith, mul-zero ((h + 15) / 16)))
-some_places (suc w) zero number less = absurd (omega (arith, zero-mul ((suc w + 15) / 16)))
-some_places (suc w) (suc h) number less = (omega arith, omega arith)
+some_pixels zero h number less = absurd (omega (arith, mul-zero ((h + 15) / 16)))
+some_pixels (suc w) zero number less = absurd (omega (arith, zero-mul ((suc w + 15) / 16)))
+some_pixels (suc w) (suc h) number less = (omega arith, omega arith)
 
--- the same of a tile, where the rectangle has so many columns of them
+-- the same of a tile, if the rectangle has so many columns of them
 pub left_in : (w number columns : ℕ) → columns ≡ tiles_across w → 0 < w → number % columns * 16 < w
 left_in w number columns is some =
     rw is (column_within w (number % tiles_across w) (mod-lt number (some_across w some)))
@@ -38,7 +38,7 @@ pub record Corner (w h x y : ℕ) : Type 0 where
 
 pub corner_in : (w h number columns : ℕ) → columns ≡ tiles_across w → number < tile_count w h → Corner w h (number % columns * 16) (number / columns * 16)
 corner_in w h number columns is less =
-    let some = some_places w h number less in
+    let some = some_pixels w h number less in
     record { left = left_in w number columns is some.0; top = top_in w h number columns is some.0 less }
 
 pub left_within : (w number : ℕ) → 0 < w → tile_left w number < w
@@ -49,7 +49,7 @@ pub top_within : (w h number : ℕ) → 0 < w → number < tile_count w h → ti
 unfolding tile_top
 top_within w h number some less = top_in w h number (tiles_across w) refl some less
 
--- a rectangle that has places has tiles, and its tiles have places
+-- a rectangle that has pixels has tiles, and its tiles have pixels
 pub some_tiles : (w h : ℕ) → 0 < w → 0 < h → 0 < tile_count w h
 some_tiles w h across down = mul-pos (some_across h down) (some_across w across)
 
@@ -59,20 +59,20 @@ some_width w number some = let left = left_within w number some in omega arith
 pub some_height : (w h number : ℕ) → 0 < w → number < tile_count w h → 0 < tile_height w h number
 some_height w h number some less = let top = top_within w h number some less in omega arith
 
--- ---- places
+-- ---- pixels
 
--- the columns and rows of tiles in which places of a rectangle stand
-tile_column_within : (places column : ℕ) → column < places → column / 16 < tiles_across places
+-- the columns and rows of tiles in which pixels of a rectangle lie
+tile_column_within : (pixel_count column : ℕ) → column < pixel_count → column / 16 < tiles_across pixel_count
 unfolding tiles_across
-tile_column_within places column less = omega arith
+tile_column_within pixel_count column less = omega arith
 
-pub left_of_place : (w column row : ℕ) → column < w → tile_left w (tile_number w column row) ≡ column / 16 * 16
+pub left_of_pixel : (w column row : ℕ) → column < w → tile_left w (tile_number w column row) ≡ column / 16 * 16
 unfolding tile_left tile_number
-left_of_place w column row across = ap (λ n. n * 16) (mod-mul-add (row / 16) (tiles_across w) (column / 16) (tile_column_within w column across))
+left_of_pixel w column row across = ap (λ n. n * 16) (mod-mul-add (row / 16) (tiles_across w) (column / 16) (tile_column_within w column across))
 
-pub top_of_place : (w column row : ℕ) → column < w → tile_top w (tile_number w column row) ≡ row / 16 * 16
+pub top_of_pixel : (w column row : ℕ) → column < w → tile_top w (tile_number w column row) ≡ row / 16 * 16
 unfolding tile_top tile_number
-top_of_place w column row across = ap (λ n. n * 16) (div-mul-add (row / 16) (tiles_across w) (column / 16) (tile_column_within w column across))
+top_of_pixel w column row across = ap (λ n. n * 16) (div-mul-add (row / 16) (tiles_across w) (column / 16) (tile_column_within w column across))
 
 pub number_within : (w h column row : ℕ) → column < w → row < h → tile_number w column row < tile_count w h
 unfolding tile_number
@@ -80,7 +80,7 @@ number_within w h column row across down =
     rw (mul_comm (tiles_across h) (tiles_across w))
     (mul-add-lt (row / 16) (tiles_across w) (column / 16) (tiles_across h) (tile_column_within h row down) (tile_column_within w column across))
 
--- the tile of a place covers it, and there it stands at the rests by 16
+-- the tile of a pixel covers it, and there it lies at the rests by 16
 pub record IsInTile (w h column row number : ℕ) : Type 0 where
   pub covered : covers (tile_left w number) (tile_top w number) (tile_width w number) (tile_height w h number) column row ≡ true
   pub across : column - tile_left w number ≡ column % 16
@@ -88,8 +88,8 @@ pub record IsInTile (w h column row number : ℕ) : Type 0 where
 
 pub in_its_tile : (w h column row number : ℕ) → column < w → row < h → tile_number w column row ≡ number → IsInTile w h column row number
 in_its_tile w h column row number across down is =
-    let left : tile_left w number ≡ column / 16 * 16 = ap (tile_left w) (sym is) ∙ left_of_place w column row across in
-    let top : tile_top w number ≡ row / 16 * 16 = ap (tile_top w) (sym is) ∙ top_of_place w column row across in
+    let left : tile_left w number ≡ column / 16 * 16 = ap (tile_left w) (sym is) ∙ left_of_pixel w column row across in
+    let top : tile_top w number ≡ row / 16 * 16 = ap (tile_top w) (sym is) ∙ top_of_pixel w column row across in
     record {
       covered = is_in (tile_left w number) (tile_top w number) (tile_width w number) (tile_height w h number) column row
           (record { left = omega (arith, left); right = omega (arith, left); top = omega (arith, top); bottom = omega (arith, top) });
@@ -127,11 +127,11 @@ tile_across w number some = let left = left_within w number some in omega arith
 pub tile_down : (w h number : ℕ) → 0 < w → number < tile_count w h → tile_top w number + tile_height w h number ≤ h
 tile_down w h number some less = let top = top_within w h number some less in omega arith
 
--- the places of a tile, row by row, stand in the rectangle
-pub place_inside : (w h number tw th k : ℕ) → number < tile_count w h → tw ≡ tile_width w number → th ≡ tile_height w h number → k < tw * th
+-- the pixels of a tile, row by row, lie in the rectangle
+pub index_inside : (w h number tw th k : ℕ) → number < tile_count w h → tw ≡ tile_width w number → th ≡ tile_height w h number → k < tw * th
     → (tile_top w number + k / tw) * w + (tile_left w number + k % tw) < h * w
-place_inside w h number tw th k less tw_is th_is short =
-    let some = some_places w h number less in
+index_inside w h number tw th k less tw_is th_is short =
+    let some = some_pixels w h number less in
     let wide : 0 < tw = rw tw_is (some_width w number some.0) in
     let across : tile_left w number + k % tw < w = let m = mod-lt k wide in let t = tile_across w number some.0 in omega (arith, tw_is) in
     let down : tile_top w number + k / tw < h =

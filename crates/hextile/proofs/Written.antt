@@ -165,8 +165,8 @@ parts_tile_appended f w h m background foreground parts byte count old first bet
 pub raw_tile_appended : (f : Format) (w h : ℕ) (colors : List Color) (old first new : List ℕ) → length colors ≡ w * h → first ≡ old ++ 1 ∷ []
     → Appends (ArePixels f colors) first new → Appends (AreRaw f w h colors) old new
 unfolding mask_of
-raw_tile_appended f w h colors old first new places added pixels = record {
+raw_tile_appended f w h colors old first new pixel_count added pixels = record {
   bytes = 1 ∷ pixels.bytes;
   is = joined old (1 ∷ []) pixels.bytes first new added pixels.is;
-  are = record { byte = 1; pixels = pixels.bytes; bytes_are = refl; raw = refl; places = places; pixels_are = pixels.are };
+  are = record { byte = 1; pixels = pixels.bytes; bytes_are = refl; raw = refl; pixel_count = pixel_count; pixels_are = pixels.are };
 }

@@ -29,7 +29,7 @@ foreground_of (Parts background (Some color) parts ∷ before) = Some color
 abbrev pub IsNamed : Option Color → Type 0
 IsNamed named = (color : Color) × (named ≡ Some color)
 
--- What a mask of a tile that isn't raw has to keep to, behind the tiles before it, the latest of
+-- What a mask of a tile that isn't raw has to keep to, after the tiles before it, the latest of
 -- which stands first.
 pub record IsAllowed (before : List Tile) (byte : ℕ) (m : Mask) : Type 0 where
   pub known : byte < 32
@@ -67,7 +67,7 @@ pub record AreBytesOf (f : Format) (colored : Bool) (s : Subrectangle) (bytes : 
   pub w_is : s.w ≡ size / 16 + 1
   pub h_is : s.h ≡ size % 16 + 1
 
--- subrectangles one behind the other, all within the tile
+-- subrectangles one after the other, all within the tile
 abbrev pub AreSubrectangles : Format → Bool → ℕ → ℕ → List Subrectangle → List ℕ → Type 0
 AreSubrectangles f colored w h [] bytes = bytes ≡ []
 AreSubrectangles f colored w h (s ∷ others) bytes =
@@ -85,7 +85,7 @@ pub record IsHead (f : Format) (m : Mask) (background foreground : Option Color)
   pub foreground_is : IsPixelIf f m.foreground foreground second
   pub count_is : IsCountIf m.subrectangles count number
 
--- ---- tiles of w by h, behind those before them, the latest of which stands first
+-- ---- tiles of w by h, after earlier ones, the latest of which stands first
 
 -- bytes of a raw tile
 pub record AreRaw (f : Format) (w h : ℕ) (colors : List Color) (bytes : List ℕ) : Type 0 where
@@ -93,7 +93,7 @@ pub record AreRaw (f : Format) (w h : ℕ) (colors : List Color) (bytes : List �
   pub pixels : List ℕ
   pub bytes_are : bytes ≡ byte ∷ pixels
   pub raw : (mask_of byte).raw ≡ true
-  pub places : length colors ≡ w * h
+  pub pixel_count : length colors ≡ w * h
   pub pixels_are : ArePixels f colors pixels
 
 -- bytes of any other tile
@@ -113,7 +113,7 @@ IsTile f w h before (Parts background foreground parts) bytes = AreParts f w h b
 
 -- ---- rectangles of w by h
 
--- tiles one behind the other; each has the number of those before it
+-- tiles one after the other; each has the number of those before it
 abbrev pub AreTiles : Format → ℕ → ℕ → List Tile → List Tile → List ℕ → Type 0
 AreTiles f w h before [] bytes = bytes ≡ []
 AreTiles f w h before (t ∷ others) bytes =
@@ -135,7 +135,7 @@ abbrev pub onto : List Tile → List Tile → List Tile
 onto [] before = before
 onto (t ∷ others) before = onto others (t ∷ before)
 
--- the bytes begin with a mask that may not stand behind these tiles
+-- the bytes begin with a mask that may not follow these tiles
 pub record HasForbidden (before : List Tile) (bytes : List ℕ) : Type 0 where
   pub byte : ℕ
   pub more : List ℕ
@@ -164,7 +164,7 @@ pub record HasOutside (f : Format) (w h : ℕ) (before : List Tile) (bytes : Lis
   pub field_is : AreBytesOf f (mask_of byte).colored outside field
   pub leaves : LiesWithin w h outside → ⊥
 
--- Behind some of the rectangle's tiles stands a mask that may not stand there, or a tile with a
+-- After some of the rectangle's tiles stands a mask that may not stand there, or a tile with a
 -- subrectangle that leaves it.
 pub record IsRefused (f : Format) (w h : ℕ) (bytes : List ℕ) : Type 0 where
   pub tiles : List Tile

@@ -59,7 +59,7 @@ tile_bytes f (Raw colors) = 1 ∷ flat_map (pixel_of f) colors
 tile_bytes f (Parts background foreground parts) = mask_number (mask_for background foreground parts)
     ∷ (pixel_if f background ++ (pixel_if f foreground ++ (count_if parts ++ flat_map (part_bytes f) parts)))
 
--- bytes are data of a rectangle whose picture is the colours, at every place
+-- bytes are data of a rectangle whose picture is the colours, at every pixel
 pub record Shows (f : Format) (w h : ℕ) (colors : List Color) (bytes : List ℕ) : Type 0 where
   pub tiles : List Tile
   pub is : IsData f w h bytes tiles
@@ -69,11 +69,11 @@ pub record Shows (f : Format) (w h : ℕ) (colors : List Color) (bytes : List �
 -- ---- how the encoder goes on
 
 -- the first so many colours of a tile of width tw are those of the rectangle, whose rows have w
--- places
+-- pixels
 abbrev pub AreTileColors : List Color → ℕ → ℕ → ℕ → ℕ → List Color → ℕ → Type 0
 AreTileColors colors w left top tw tile count = (k : ℕ) → k < count → nth tile k ≡ nth colors ((top + k / tw) * w + (left + k % tw))
 
--- a part lies within a tile of w by h, all of whose places that it covers have its colour, which
+-- a part lies within a tile of w by h, all of whose pixels that it covers have its colour, which
 -- keeps to the format's maxima
 pub record IsPart (f : Format) (w h : ℕ) (s : Part) : Type 0 where
   pub columns : s.x + s.w ≤ w
@@ -96,7 +96,7 @@ pub record IsCover (f : Format) (w h : ℕ) (colors : List Color) (background : 
   pub parts_are : All (IsPart f w h) parts
   pub picture : Agree w h (part_picture background (reverse parts)) (rows_of colors w)
 
--- What is shown after some places: the picture of the parts, and the colours of those places.
+-- What is shown after some pixels: the picture of the parts, and the colours of those pixels.
 pub record ShownUpto (f : Format) (w h : ℕ) (colors : List Color) (background : Color) (parts : List Part) (shown : List Color) (k : ℕ) : Type 0 where
   pub parts_are : All (IsPart f w h) parts
   pub picture : (i : ℕ) → i < length colors → nth shown i ≡ part_picture background (reverse parts) (i % w) (i / w)
@@ -115,7 +115,7 @@ pub record IsKnown (before : List Tile) (known : Known) : Type 0 where
   pub background : (color : Color) → known.background ≡ Some color → background_of before ≡ Some color
   pub foreground : (color : Color) → known.foreground ≡ Some color → foreground_of before ≡ Some color
 
--- bytes are a tile behind others, that shows the colours
+-- bytes are a tile after others, that shows the colours
 pub record ShowsTile (f : Format) (w h : ℕ) (colors : List Color) (before : List Tile) (known : Known) (bytes : List ℕ) : Type 0 where
   pub tile : Tile
   pub is : IsTile f w h before tile bytes
@@ -125,7 +125,7 @@ pub record ShowsTile (f : Format) (w h : ℕ) (colors : List Color) (before : Li
 
 -- ---- a tile of parts
 
--- A mask for so many parts over a background, where `ink` is the one colour that they have, if they
+-- A mask for so many parts over a background, with `ink` for the one colour that they have, if they
 -- have one. Only what is known isn't named.
 pub record IsMaskFor (known : Known) (background : Color) (ink : Option Color) (count : ℕ) (m : Mask) : Type 0 where
   pub raw : m.raw ≡ false
@@ -138,11 +138,11 @@ pub record IsMaskFor (known : Known) (background : Color) (ink : Option Color) (
   pub colored : m.colored ≡ true → ink ≡ None
   pub plain : m.colored ≡ false → m.subrectangles ≡ true → (color : Color) × (ink ≡ Some color)
 
--- what is known behind a tile of parts
-abbrev pub known_behind : Known → Color → Option Color → Bool → Known
-known_behind known background ink true = record { background = None; foreground = None }
-known_behind known background (Some color) false = record { background = Some background; foreground = Some color }
-known_behind known background None false = record { background = Some background; foreground = known.foreground }
+-- what is known after a tile of parts
+abbrev pub known_past : Known → Color → Option Color → Bool → Known
+known_past known background ink true = record { background = None; foreground = None }
+known_past known background (Some color) false = record { background = Some background; foreground = Some color }
+known_past known background None false = record { background = Some background; foreground = known.foreground }
 
 -- and its bytes
 abbrev pub parts_tile_bytes : Format → Mask → Color → Color → List Part → List ℕ

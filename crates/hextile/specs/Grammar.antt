@@ -10,7 +10,7 @@ use Rattle.hextile.specs.declared.fields.Mask.{Mask}
 use Rattle.hextile.specs.declared.fields.Named.{Named}
 use Rattle.hextile.specs.Tiles.{tile_count, tile_width, tile_height}
 
--- What a tile says: the colour of each of its places, by rows; or the background and the foreground
+-- What a tile says: the colour of each of its pixels, by rows; or the background and the foreground
 -- that it names, and subrectangles in their order.
 pub data Tile : Type 0 where
   Raw : List Color → Tile
@@ -35,7 +35,7 @@ mask_of byte = record {
   colored = bit byte 16;
 }
 
--- The mask may stand behind tiles that named these colours. That of a raw tile always may.
+-- The mask may follow tiles that named these colours. That of a raw tile always may.
 unfoldable pub is_allowed : Named → ℕ → Mask → Bool
 is_allowed named byte m = m.raw || (nat_lt byte 32 && not (m.foreground && m.colored) && (named.background || m.background)
     && (not m.subrectangles || m.colored || named.foreground || m.foreground))
@@ -55,8 +55,8 @@ unfoldable pub colors_of : Format → ℕ → List ℕ → List Color
 colors_of f zero bytes = []
 colors_of f (suc count) bytes = pixel_color f (take (pixel_bytes f) bytes) ∷ colors_of f count (drop (pixel_bytes f) bytes)
 
--- Behind the mask of a tile that isn't raw stand the background's pixel, the foreground's, and the
--- number of subrectangles, each where the mask says so.
+-- After the mask of a tile that isn't raw come the background's pixel, the foreground's, and the
+-- number of subrectangles, each if the mask says so.
 abbrev pub head_bytes : Format → Mask → ℕ
 head_bytes f m = pixel_if f m.background + pixel_if f m.foreground + (if m.subrectangles then 1 else 0)
 
@@ -69,8 +69,8 @@ foreground_in f m head = color_if f m.foreground (drop (pixel_if f m.background)
 unfoldable pub count_in : Format → Mask → List ℕ → ℕ
 count_in f m head = if m.subrectangles then slice_index head (pixel_if f m.background + pixel_if f m.foreground) else 0
 
--- A subrectangle is a pixel, where it has a colour of its own, and then two bytes: x and y, and
--- width and height less one. Its corner counts from the tile's corner.
+-- A subrectangle is a pixel, if it has a colour of its own, and then two bytes: x and y, and width
+-- and height less one. Its corner counts from the tile's corner.
 abbrev pub subrectangle_bytes : Format → Bool → ℕ
 subrectangle_bytes f colored = pixel_if f colored + 2
 
@@ -93,7 +93,7 @@ unfoldable pub subrectangle_at : Format → Bool → ℕ → ℕ → List ℕ �
 subrectangle_at f colored w h bytes = field (subrectangle_bytes f colored) bytes >>= λ whole rest.
     guard (is_inside w h (subrectangle_of f colored whole)) Refused (Got (subrectangle_of f colored whole) rest)
 
--- so many subrectangles, one behind the other
+-- so many subrectangles, one after the other
 unfoldable pub subrectangles_at : Format → Bool → ℕ → ℕ → ℕ → List ℕ → Reading (List Subrectangle) Fault
 subrectangles_at f colored w h zero bytes = Got [] bytes
 subrectangles_at f colored w h (suc count) bytes = subrectangle_at f colored w h bytes >>= λ first rest.
@@ -107,11 +107,11 @@ parts_at f m w h bytes = field (head_bytes f m) bytes >>= λ head rest.
     subrectangles_at f m.colored w h (count_in f m head) rest >>= λ parts after.
     Got (Parts (background_in f m head) (foreground_in f m head) parts) after
 
--- a tile behind its mask
+-- a tile after its mask
 unfoldable pub body_at : Format → Mask → ℕ → ℕ → List ℕ → Reading Tile Fault
 body_at f m w h bytes = if m.raw then raw_at f w h bytes else parts_at f m w h bytes
 
--- a tile behind tiles that named these colours
+-- a tile after tiles that named these colours
 unfoldable pub tile_at : Format → Named → ℕ → ℕ → List ℕ → Reading Tile Fault
 tile_at f named w h bytes = field 1 bytes >>= λ mask rest.
     guard (is_allowed named (slice_index mask 0) (mask_of (slice_index mask 0))) Refused

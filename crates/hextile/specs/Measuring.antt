@@ -12,7 +12,7 @@ use Rattle.hextile.specs.declared.measuring.Measuring.TheVariants as stages
 use Rattle.hextile.specs.Tiles.{tile_count, tile_width, tile_height}
 use Rattle.hextile.specs.Grammar.{Fault, head_bytes, subrectangle_bytes, count_in, body_at, subrectangles_at, named_with, tiles_at}
 
--- which colours are named behind a mask that isn't a raw tile's
+-- which colours are named after a mask that isn't a raw tile's
 abbrev pub named_by : Named → Mask → Named
 named_by named m = record { background = named.background || m.background; foreground = named.foreground || m.foreground }
 
@@ -37,24 +37,24 @@ wants_of f (stages.Subrectangle tile colored others) = subrectangle_bytes f colo
 abbrev pub judged : {A : Type 0} → Reading A Fault → Reading Unit Fault
 judged r = r >>= λ content rest. Got tt rest
 
--- the tiles behind this one
-unfoldable pub behind : Format → Position → List ℕ → Reading Unit Fault
-behind f tile bytes = judged (tiles_at f tile.w tile.h tile.named tile.more bytes)
+-- the tiles after this one
+unfoldable pub following : Format → Position → List ℕ → Reading Unit Fault
+following f tile bytes = judged (tiles_at f tile.w tile.h tile.named tile.more bytes)
 
--- a tile behind its mask, and the tiles behind it
+-- a tile after its mask, and the tiles after it
 unfoldable pub body_left : Format → Position → Mask → List ℕ → Reading Unit Fault
 body_left f tile m bytes = body_at f m (width_of tile) (height_of tile) bytes >>= λ content rest.
     judged (tiles_at f tile.w tile.h (named_with tile.named content) tile.more rest)
 
--- so many subrectangles of a tile, and the tiles behind it
+-- so many subrectangles of a tile, and the tiles after it
 unfoldable pub parts_left : Format → Position → Bool → ℕ → List ℕ → Reading Unit Fault
 parts_left f tile colored count bytes =
-    subrectangles_at f colored (width_of tile) (height_of tile) count bytes >>= λ parts rest. behind f tile rest
+    subrectangles_at f colored (width_of tile) (height_of tile) count bytes >>= λ parts rest. following f tile rest
 
 -- what the bytes from the next field on are, up to the data's end
 unfoldable pub resume : Format → Measuring → List ℕ → Reading Unit Fault
 resume f (stages.Mask tile) bytes = judged (tiles_at f tile.w tile.h tile.named (suc tile.more) bytes)
-resume f (stages.Pixels tile) bytes = field (width_of tile * height_of tile * pixel_bytes f) bytes >>= λ pixels rest. behind f tile rest
+resume f (stages.Pixels tile) bytes = field (width_of tile * height_of tile * pixel_bytes f) bytes >>= λ pixels rest. following f tile rest
 resume f (stages.Head head) bytes = field (head_bytes f head.mask) bytes >>= λ first rest.
     parts_left f head.tile head.mask.colored (count_in f head.mask first) rest
 resume f (stages.Subrectangle tile colored others) bytes = parts_left f tile colored (suc others) bytes

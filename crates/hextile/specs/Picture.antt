@@ -1,4 +1,4 @@
--- The picture of a Hextile rectangle (RFC 6143, section 7.7.4). Places count from the rectangle's
+-- The picture of a Hextile rectangle (RFC 6143, section 7.7.4). Pixels count from the rectangle's
 -- corner, and in a tile from the tile's.
 use Rattle.std.specs.Prelude.{ℕ, ◌+◌, ◌*◌, ◌%◌, Bool, List, [], ◌∷◌, length, reverse, slice_index_or, unwrap_or, nat_eq, if◌then◌else◌}
 use Rattle.pixel_format.specs.declared.Color.{Color}
@@ -8,18 +8,18 @@ use Rattle.hextile.specs.Grammar.{Tile, Raw, Parts}
 use Rattle.hextile.specs.Tiles.{tile_number, tile_width}
 use Rattle.hextile.specs.Data.{background_of, foreground_of, onto}
 
--- the subrectangle covers the place
+-- the subrectangle covers the pixel
 abbrev pub is_covered : Subrectangle → ℕ → ℕ → Bool
 is_covered s column row = covers s.x s.y s.w s.h column row
 
--- the colour of the first of these subrectangles that covers the place, else the background
+-- the colour of the first of these subrectangles that covers the pixel, else the background
 abbrev pub first_covering : Color → Color → List Subrectangle → Picture
 first_covering background foreground [] column row = background
 first_covering background foreground (s ∷ others) column row =
     if is_covered s column row then unwrap_or s.color foreground else first_covering background foreground others column row
 
 -- The picture of a tile of width w, over this background and with this foreground: its pixels, or
--- the colour of the last subrectangle that covers the place, else the background.
+-- the colour of the last subrectangle that covers the pixel, else the background.
 abbrev pub tile_picture : ℕ → Color → Color → Tile → Picture
 tile_picture w background foreground (Raw colors) column row = slice_index_or colors (row * w + column) black
 tile_picture w background foreground (Parts named other parts) column row = first_covering background foreground (reverse parts) column row
@@ -36,7 +36,7 @@ abbrev pub upto : ℕ → List Tile → List Tile
 upto number [] = []
 upto number (t ∷ before) = if nat_eq number (length before) then t ∷ before else upto number before
 
--- the picture of tiles of a rectangle of width w, the latest of which stands first: at each place
+-- the picture of tiles of a rectangle of width w, the latest of which stands first: at each pixel
 -- that of the tile in which it lies
 abbrev pub tiles_picture : ℕ → List Tile → Picture
 tiles_picture w latest column row =

@@ -41,8 +41,7 @@ impl Default for Part {
     }
 }
 
-/// The pixels of a tile's places as numbers, by rows, from those of a rectangle whose rows have w
-/// places.
+/// The pixels of a tile as numbers, by rows, from those of a rectangle whose rows have w pixels.
 pub(crate) fn tile_numbers(numbers: &[u32], w: u16, area: TileArea) -> [u32; 256]
     requires across { 0 < area.w }
     requires columns { area.x + area.w ≤ w }
@@ -66,26 +65,27 @@ pub(crate) fn tile_numbers(numbers: &[u32], w: u16, area: TileArea) -> [u32; 256
 /// Which colour is a tile's background.
 #[derive(Clone, Copy)]
 pub(crate) struct Background {
-    /// The index of a colour that most of the places have, if one colour has more than half of them.
-    pub place: usize,
-    /// All of the places have it.
+    /// The index of a colour that most of the pixels have, if one colour has more than half of
+    /// them.
+    pub index: usize,
+    /// All of the pixels have it.
     pub is_only: bool,
 }
 
 /// Chooses a tile's background.
 pub(crate) fn choose_background(numbers: &[u32]) -> Background
     requires { 0 < length numbers.now }
-    ensures place { result.place < length numbers.now }
-    ensures only { result.is_only ≡ true → (k : ℕ) → k < length numbers.now → slice_index numbers.now k ≡ slice_index numbers.now result.place }
+    ensures index { result.index < length numbers.now }
+    ensures only { result.is_only ≡ true → (k : ℕ) → k < length numbers.now → slice_index numbers.now k ≡ slice_index numbers.now result.index }
 {
     let run = end_of_number(numbers, 0, numbers[0]);
     Background {
-        place: most_voted(numbers, run),
+        index: most_voted(numbers, run),
         is_only: run == numbers.len(),
     }
 }
 
-// How many places from an index on, at most so many, have the pixel.
+// How many pixels from an index on, at most so many, have the number.
 fn run_length(numbers: &[u32], start: usize, most: u8, number: u32) -> u8
     requires { start + most ≤ length numbers.now }
     ensures most { result ≤ most }
@@ -100,7 +100,7 @@ fn run_length(numbers: &[u32], start: usize, most: u8, number: u32) -> u8
     most
 }
 
-// The part of one colour whose upper left corner is a place of a tile of w by h: as wide as its row
+// The part of one colour whose upper left corner is a pixel of a tile of w by h: as wide as its row
 // lets it be, and then as high as it can be.
 fn grow(format: &PixelFormat, w: u8, h: u8, numbers: &[u32], column: u8, row: u8) -> Part
     requires column { column < w }
@@ -138,7 +138,7 @@ fn grow(format: &PixelFormat, w: u8, h: u8, numbers: &[u32], column: u8, row: u8
     }
 }
 
-// Gives so many places from an index on a pixel.
+// Gives so many pixels, from an index on, a number.
 fn show_run(shown: &mut [u32], start: usize, count: u8, number: u32)
     requires { start + count ≤ length shown.old }
     ensures { (k : ℕ) → k < length shown.old
@@ -149,7 +149,7 @@ fn show_run(shown: &mut [u32], start: usize, count: u8, number: u32)
     }
 }
 
-// Gives the places of a part a pixel, in a tile of width w, row by row.
+// Gives the pixels of a part a number, in a tile of width w, row by row.
 fn show(shown: &mut [u32], w: u8, part: Part, number: u32)
     requires width { 0 < w }
     requires across { 0 < part.w }
@@ -165,25 +165,25 @@ fn show(shown: &mut [u32], w: u8, part: Part, number: u32)
     }
 }
 
-// Whether one part more may do for a tile of so many places. Where parts have several colours, each
+// Whether one part more may do for a tile of so many pixels. If parts have several colours, each
 // takes a pixel and two bytes, and some of them are longer than the tile's pixels.
-fn has_room(format: &PixelFormat, places: usize, parts: &Parts) -> bool
-    requires { places ≤ 256 }
+fn has_room(format: &PixelFormat, pixel_count: usize, parts: &Parts) -> bool
+    requires { pixel_count ≤ 256 }
     ensures { IsTrue result → length parts.now.items < 255 }
 {
     if parts.is_full() {
         return false;
     }
-    let few = places * format.bytes() / (format.bytes() + 2);
+    let few = pixel_count * format.bytes() / (format.bytes() + 2);
     match parts.as_slice() {
         [first, .., last] if parts.len() >= few => same(first.color, last.color),
         _ => true,
     }
 }
 
-// Sees to it that a place is shown, by a part more where it isn't. Answers whether there was room
-// for it.
-fn show_place(
+// Sees to it that a pixel is shown, by a part more if it isn't. Answers whether there was room for
+// it.
+fn show_pixel(
     format: &PixelFormat,
     w: u8,
     h: u8,
@@ -196,7 +196,7 @@ fn show_place(
     requires numbers { length numbers.now ≡ w * h }
     requires most { length numbers.now ≤ 256 }
     requires shown { length numbers.now ≤ length shown.old }
-    requires place { k < length numbers.now }
+    requires index { k < length numbers.now }
     ensures { IsTrue result → (background : Color) → All (IsNumber format.now) numbers.now
         → ShownUpto format.now w h (colors_of format.now numbers.now) background parts.old.items (colors_of format.now shown.old) k
         → ShownUpto format.now w h (colors_of format.now numbers.now) background parts.new.items (colors_of format.now shown.new) (k + 1) }
@@ -236,16 +236,16 @@ fn parts_over(
         → IsCover format.now w h (colors_of format.now numbers.now) (number_color format.now background) parts.new.items }
 {
     for k in 0..numbers.len() {
-        if !show_place(format, w, h, numbers, k, parts, shown) {
+        if !show_pixel(format, w, h, numbers, k, parts, shown) {
             return false;
         }
     }
     true
 }
 
-/// Leaves those parts in the list, of one pixel each, that, over the background, give every place of
-/// a tile of w by h its pixel. Answers `false` where they would be too many. Where the background is
-/// the only pixel there are none.
+/// Leaves those parts in the list, of one number each, that, over the background, give every pixel
+/// of a tile of w by h its number. Answers `false` if they would be too many. If the background is
+/// the only number there are none.
 pub(crate) fn cover(
     format: &PixelFormat,
     w: u8,

@@ -6,7 +6,7 @@ ghost use Rattle.terms.specs.Appending.{Appends, AppendsIf, Grows};
 ghost use Rattle.hextile.specs.declared.cover.Part.{Part};
 ghost use Rattle.hextile.specs.Grammar.{Tile};
 ghost use Rattle.pixel_format.specs.Number.{IsNumber, colors_of};
-ghost use Rattle.hextile.specs.Encoded.{IsMaskFor, known_behind, IsKnown, ShowsTile, Shows};
+ghost use Rattle.hextile.specs.Encoded.{IsMaskFor, known_past, IsKnown, ShowsTile, Shows};
 
 use crate::cover::{Part, Parts, choose_background, cover, tile_numbers};
 use crate::fields::{Mask, pixel_size};
@@ -64,9 +64,9 @@ fn mask_for(known: Known, background: Color, ink: Option<Color>, count: usize) -
     }
 }
 
-// What the next tile need not name behind a tile of parts.
+// What the next tile need not name after a tile of parts.
 fn known_after(known: Known, background: Color, ink: Option<Color>, colored: bool) -> Known
-    ensures { result ≡ known_behind known background ink colored }
+    ensures { result ≡ known_past known background ink colored }
 {
     if colored {
         return NOTHING_KNOWN;
@@ -109,7 +109,7 @@ fn append_tile(
     ensures grows { Grows bytes.old.items bytes.new.items }
 {
     let chosen = choose_background(numbers);
-    let number = numbers[chosen.place];
+    let number = numbers[chosen.index];
     if cover(format, w, h, numbers, number, chosen.is_only, room) {
         let background = format.color_of(number);
         let parts = room.as_slice();
@@ -143,13 +143,13 @@ fn append_tiles(
     for number in 0..count_tiles(w, h) {
         let area = tile_area(w, h, number);
         let tile = tile_numbers(numbers, w, area);
-        let places = area.w as usize * area.h as usize;
+        let pixel_count = area.w as usize * area.h as usize;
         known = append_tile(
             format,
             known,
             area.w,
             area.h,
-            &tile[..places],
+            &tile[..pixel_count],
             &mut room,
             bytes,
         )?;
@@ -171,10 +171,9 @@ fn encode_numbers(format: &PixelFormat, pixels: Pixels, bytes: &mut Vec<u8>) -> 
 /// Appends data of a rectangle of w by h that has these colours, by rows from the top and each from
 /// the left, in a format to whose maxima they keep (RFC 6143, section 7.7.4). Which form a tile
 /// has, and which colours it names, isn't promised, but tested: each tile is the shorter one of
-/// subrectangles over a background, which have the foreground's colour where they have one colour,
-/// and of pixels. A background and a foreground are named where the tile before didn't have them,
-/// and in the first tile behind a raw or coloured one. Running out of memory leaves `bytes` as it
-/// was.
+/// subrectangles over a background, which have the foreground's colour if they have one colour, and
+/// of pixels. A background and a foreground are named if the tile before didn't have them, and in
+/// the first tile after a raw or coloured one. Running out of memory leaves `bytes` as it was.
 pub fn encode(
     alloc: Global,
     format: &PixelFormat,
@@ -199,7 +198,7 @@ pub fn encode(
 
 /// Appends data of a rectangle that has these pixels, as [`encode`] does of their colours, if they
 /// have fewer bytes than the limit, and answers whether they have. It takes memory for the bytes
-/// alone. Where they haven't, and when memory runs out, `bytes` stays as it was.
+/// alone. If they haven't, and when memory runs out, `bytes` stays as it was.
 pub fn encode_numbers_below(
     format: &PixelFormat,
     pixels: Pixels,

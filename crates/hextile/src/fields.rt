@@ -17,7 +17,7 @@ pub struct Subrectangle {
     pub color: Option<Color>,
 }
 
-/// What a tile's first byte says of the bytes behind it.
+/// What a tile's first byte says of the bytes after it.
 #[derive(Clone, Copy)]
 pub struct Mask {
     /// All pixels of the tile follow, and the other bits play no part.
@@ -53,7 +53,7 @@ pub(crate) fn read_mask(byte: u8) -> Mask
     }
 }
 
-// Whether the mask may stand behind tiles that named these colours.
+// Whether the mask may follow tiles that named these colours.
 #[tactic(auto, unfolding(crate::specs::Grammar::is_allowed))]
 pub(crate) fn may_stand(named: Named, byte: u8, mask: Mask) -> bool
     ensures { result ≡ is_allowed named byte mask }

@@ -1,5 +1,5 @@
 //! The Hextile encoding of rectangles (RFC 6143, section 7.7.4). A rectangle is cut into tiles of
-//! 16 by 16 places. The data of a tile are its pixels, or a background and subrectangles over it.
+//! 16 by 16 pixels. The data of a tile are its pixels, or a background and subrectangles over it.
 #![tactic(auto)]
 
 mod cover;

@@ -32,11 +32,11 @@ ghost use Rattle.terms.specs.Reading.{Bad};
 ghost use Rattle.pixel_format.specs.Format.{Format};
 ghost use Rattle.hextile.specs.Grammar.{Refused, mask_of, head_bytes, subrectangle_bytes, tiles_at, data_at};
 ghost use Rattle.hextile.specs.Data.{AreData, IsRefused};
-ghost use Rattle.hextile.specs.Measuring.{named_by, behind, body_left, parts_left, go_on, resume, wants_of, judged, measured};
+ghost use Rattle.hextile.specs.Measuring.{named_by, following, body_left, parts_left, go_on, resume, wants_of, judged, measured};
 
-// The field behind a tile: the next one's mask.
+// The field after a tile: the next one's mask.
 fn next_tile(tile: Position) -> Option<Measuring>
-    ensures { (format : Format) → (more : List ℕ) → go_on format result more ≡ behind format tile more }
+    ensures { (format : Format) → (more : List ℕ) → go_on format result more ≡ following format tile more }
 {
     if tile.more == 0 {
         return None;
@@ -86,12 +86,12 @@ fn judge_parts(
     let mut left = others as u16 + 1;
     let mut rest = bytes;
     while left > 0 && rest.len() >= size {
-        let (part, behind) = rest.split_at(size);
+        let (part, following) = rest.split_at(size);
         if !is_part_inside(format, colored, part, area.w, area.h) {
             return Err(Measure::Bad);
         }
         left -= 1;
-        rest = behind;
+        rest = following;
     }
     Ok((bytes.len() - rest.len(), next_part(tile, colored, left)))
 }
@@ -111,7 +111,7 @@ fn naming(tile: Position, mask: Mask) -> Position
     }
 }
 
-// The field behind a tile's mask, which may stand there.
+// The field after a tile's mask, which may stand there.
 fn next_field(tile: Position, mask: Mask) -> Option<Measuring>
     ensures { (format : Format) → (more : List ℕ) → go_on format result more ≡ body_left format tile mask more }
 {
@@ -126,8 +126,8 @@ fn next_field(tile: Position, mask: Mask) -> Option<Measuring>
 }
 
 impl Measuring {
-    /// The field with which the data of a rectangle of w by h begin, `None` where it has no places
-    /// and so no data.
+    /// The field with which the data of a rectangle of w by h begin, `None` if it has no pixels and
+    /// so no data.
     pub fn start(w: u16, h: u16) -> Option<Measuring>
         ensures { (format : Format) → (more : List ℕ) → go_on format result more ≡ judged (data_at format w h more) }
     {
@@ -166,8 +166,8 @@ impl Measuring {
         }
     }
 
-    // Judges the field, or the subrectangles of its tile, where the bytes begin with it whole.
-    // Answers how many bytes were judged, and what comes next.
+    // Judges the field, or the subrectangles of its tile, if the bytes begin with it whole. Answers
+    // how many bytes were judged, and what comes next.
     fn front(
         self,
         format: &PixelFormat,
@@ -212,9 +212,8 @@ impl Measuring {
     }
 
     /// Judges the whole fields that the bytes begin with. Answers how many bytes they have, and the
-    /// field behind them, which isn't whole in the bytes, `None` where the data end; and
-    /// `Measure::Bad` where one of them is a mask that may not stand there, or a subrectangle that
-    /// leaves its tile.
+    /// field after them, which isn't whole in the bytes, `None` if the data end; and `Measure::Bad`
+    /// if one of them is a mask that may not stand there, or a subrectangle that leaves its tile.
     pub fn run(
         self,
         format: &PixelFormat,
@@ -232,11 +231,11 @@ impl Measuring {
         let mut rest = bytes;
         let mut next = Some(self);
         while let Some(stage) = next {
-            let Some((taken, behind)) = stage.front(format, rest)? else {
+            let Some((taken, following)) = stage.front(format, rest)? else {
                 break;
             };
             rest = &rest[taken..];
-            next = behind;
+            next = following;
         }
         Ok((bytes.len() - rest.len(), next))
     }

@@ -51,10 +51,10 @@ fn name_colors(format: &PixelFormat, mask: Mask, head: &[u8], colors: TileColors
     requires { length head.now ≡ head_bytes format.now mask }
     ensures { result ≡ named_in_head format.now mask head.now colors }
 {
-    let behind = &head[pixel_size(format, mask.background)..];
+    let following = &head[pixel_size(format, mask.background)..];
     TileColors {
         background: color_or(format, mask.background, head, colors.background),
-        foreground: color_or(format, mask.foreground, behind, colors.foreground),
+        foreground: color_or(format, mask.foreground, following, colors.foreground),
     }
 }
 
@@ -84,7 +84,7 @@ fn paint_pixels<C: Canvas>(format: &PixelFormat, area: TileArea, pixels: &[u8], 
     }
 }
 
-// Paints subrectangles into a tile's area of the canvas, and answers the bytes behind them.
+// Paints subrectangles into a tile's area of the canvas, and answers the bytes after them.
 fn paint_parts<'a, 'b, 'c, C: Canvas>(
     format: &'b PixelFormat,
     area: TileArea,
@@ -112,17 +112,17 @@ fn paint_parts<'a, 'b, 'c, C: Canvas>(
     let size = pixel_size(format, colored) + 2;
     let mut rest = bytes;
     for _ in 0..count {
-        let (field, behind) = rest.split_at(size);
+        let (field, following) = rest.split_at(size);
         let part = read_subrectangle(format, colored, field);
         let (x, y) = (area.x + part.x as u16, area.y + part.y as u16);
         let color = part.color.unwrap_or(foreground);
         canvas.fill(x, y, part.w as u16, part.h as u16, color);
-        rest = behind;
+        rest = following;
     }
     rest
 }
 
-// Paints a tile into its area of the canvas, and answers the bytes behind it.
+// Paints a tile into its area of the canvas, and answers the bytes after it.
 fn paint_tile<'a, 'b, 'c, 'd, C: Canvas>(
     format: &'b PixelFormat,
     area: TileArea,
@@ -180,9 +180,9 @@ fn paint_tile<'a, 'b, 'c, 'd, C: Canvas>(
     )
 }
 
-/// Paints a rectangle of w by h whose upper left corner is the place (x, y) of the canvas, from its
+/// Paints a rectangle of w by h whose upper left corner is the pixel (x, y) of the canvas, from its
 /// data: the bytes that [`measure`](crate::measure) takes whole (RFC 6143, section 7.7.4). The
-/// other places stay as they were. The canvas can have the colours of the format's pixels. It takes
+/// other pixels stay as they were. The canvas can have the colours of the format's pixels. It takes
 /// no memory.
 pub fn paint<C: Canvas>(
     format: &PixelFormat,

@@ -1,11 +1,11 @@
-//! Where a tile stands.
+//! Tiles of a rectangle, and their areas.
 
 ghost use Rattle.std.specs.Prelude.{◌≡◌, ◌<◌, ◌≤◌, ◌+◌, ◌*◌, ◌-◌, ◌||◌, suc, true};
 ghost use Rattle.hextile.specs.Tiles.{tiles_across, tile_count, tile_left, tile_top, tile_width, tile_height};
 
 use crate::fields::{Mask, Named};
 
-/// A tile of a rectangle that has places, and what is known of the tiles around it.
+/// A tile of a rectangle that has pixels, and what is known of the tiles around it.
 #[derive(Clone, Copy)]
 pub struct Position {
     /// The rectangle's width.
@@ -20,7 +20,7 @@ pub struct Position {
     pub ghost down: { 0 < h },
 }
 
-/// A tile of which the fields behind the mask come next: its background's pixel, its foreground's,
+/// A tile of which the fields after the mask come next: its background's pixel, its foreground's,
 /// and the number of its subrectangles, one of them at least.
 #[derive(Clone, Copy)]
 pub struct TileHead {
@@ -38,14 +38,14 @@ pub(crate) struct TileArea {
     pub h: u8,
 }
 
-// How many tiles cover so many places side by side.
+// How many tiles cover so many pixels side by side.
 #[tactic(auto, unfolding(crate::specs::Tiles::tiles_across))]
-fn across(places: u16) -> u32
-    ensures value { result ≡ tiles_across places }
+fn across(pixel_count: u16) -> u32
+    ensures value { result ≡ tiles_across pixel_count }
     ensures most { result ≤ 4096 }
-    ensures some { 0 < places → 0 < result }
+    ensures some { 0 < pixel_count → 0 < result }
 {
-    (places as u32 + 15) / 16
+    (pixel_count as u32 + 15) / 16
 }
 
 /// How many tiles a rectangle of w by h has.
@@ -55,7 +55,7 @@ pub(crate) fn count_tiles(w: u16, h: u16) -> u32
     across(h) * across(w)
 }
 
-/// The area of the tile of this number, in a rectangle of w by h, which has places then.
+/// The area of the tile of this number, in a rectangle of w by h, which has pixels then.
 #[tactic(auto, unfolding(crate::specs::Tiles::tile_left, crate::specs::Tiles::tile_top))]
 pub(crate) fn tile_area(w: u16, h: u16, number: u32) -> TileArea
     requires { number < tile_count w h }

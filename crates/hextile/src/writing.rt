@@ -15,7 +15,7 @@ use crate::fields::Mask;
 use pixel_format::{Color, PixelFormat};
 use terms::NoMemory;
 
-/// The colours that the tiles behind a tile need not name again. That they aren't named is tested
+/// The colours that the tiles after a tile need not name again. That they aren't named is tested
 /// alone; by contract the data show the colours, whichever are named.
 #[derive(Clone, Copy)]
 pub(crate) struct Known {

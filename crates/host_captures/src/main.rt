@@ -1,12 +1,12 @@
 //! Reads what two VNC hosts sent, whole and in pieces, and paints it.
 //!
-//! The first word names a file of Hextile rectangles in the host format, one behind the other: width
-//! and height, of two bytes each with the higher first, and the rectangle's data. For each a line is
-//! printed: width, height, how many bytes the data have, and a number of all its colours.
+//! The first word names a file of Hextile rectangles in the host format, one after the other: width
+//! and height, of two bytes each with the higher first, and the rectangle's data. For each a line
+//! is printed: width, height, how many bytes the data have, and a number of all its colours.
 //!
-//! Each further word names a stream: what a host of 320 by 240 places sent behind its ServerInit.
-//! Printed are the type and length of each recorded message, the colour of some places, and the
-//! SHA-256 of some screens, which are three bytes for each place, red, green and blue, by rows; and
+//! Each further word names a stream: what a host of 320 by 240 pixels sent after its ServerInit.
+//! Printed are the type and length of each recorded message, the colour of some pixels, and the
+//! SHA-256 of some screens, which are three bytes for each pixel, red, green and blue, by rows; and
 //! what a session with such a host makes of a handshake and the stream.
 //!
 //! All of it is compared with what an independent reader and painter made.

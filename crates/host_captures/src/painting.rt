@@ -10,7 +10,7 @@ use rfb_wire::HostMessage;
 use sha2::{Digest, Sha256};
 use std::io;
 
-// A place that is looked at once so many messages are painted.
+// A pixel that is looked at once so many messages are painted.
 struct Sample {
     after: usize,
     x: u16,
@@ -62,7 +62,7 @@ fn channels(color: Color) -> [u8; 3]
     [color.r as u8, color.g as u8, color.b as u8]
 }
 
-// The SHA-256 of a screen: red, green and blue of each place, by rows.
+// The SHA-256 of a screen: red, green and blue of each pixel, by rows.
 fn digest_of(screen: &Screen) -> [u8; 32]
     requires width { screen.now.width ≡ 320 }
     requires height { screen.now.height ≡ 240 }

@@ -19,9 +19,9 @@ struct Rectangle<'a> {
     bytes: &'a [u8],
 }
 
-// The rectangle that bytes begin with; none where there is none, or where the ways of measuring
-// its data differ: with all that stands behind them, with a byte too few, which is to need more,
-// and field by field.
+// The rectangle that bytes begin with; none if there is none, or if the ways of measuring its data
+// differ: with all that follows them, with a byte too few, which is to need more, and field by
+// field.
 fn first_rectangle(bytes: &[u8]) -> Option<Rectangle<'_>>
     ensures whole { IfSome result (λ r. AreData host_format r.w r.h r.bytes.now) }
     ensures size { IfSome result (λ r. 4 + length r.bytes.now ≤ length bytes.now) }

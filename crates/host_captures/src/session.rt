@@ -72,8 +72,8 @@ fn answers_to(alloc: Global, messages: &[HostMessage]) -> io::Result<Vec<u8>> {
     Ok(answers)
 }
 
-// Prints how many messages a session gives, and how many bytes it says, where its bytes come in
-// pieces of this length and it gives these messages and answers.
+// Prints how many messages a session gives, and how many bytes it says, if its bytes come in pieces
+// of this length and it gives these messages and answers.
 fn print_session(
     rt: &HostRuntime,
     bytes: &[u8],
@@ -96,8 +96,8 @@ fn print_session(
     }
 }
 
-/// Prints what a session gives, in one piece and in pieces of 1, 7 and 1,000 bytes, where the
-/// messages are these and a request answers each update.
+/// Prints what a session gives, in one piece and in pieces of 1, 7 and 1,000 bytes, if the messages
+/// are these and a request answers each update.
 pub(crate) fn print_sessions(
     rt: &HostRuntime,
     stream: &[u8],

@@ -46,8 +46,8 @@ pub(crate) fn are_same(first: &[HostMessage], second: &[HostMessage]) -> bool {
     true
 }
 
-/// The messages of a stream that comes as a whole, where they are the same in pieces of 1, 7 and
-/// 1,000 bytes.
+/// The messages of a stream that comes as a whole, if they are the same in pieces of 1, 7 and 1,000
+/// bytes.
 pub(crate) fn messages_in_pieces(
     alloc: Global,
     stream: &[u8],

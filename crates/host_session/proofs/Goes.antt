@@ -140,6 +140,6 @@ rest-goes width height left name f more within = elim (true_or_false (nat_lt (le
       (let s : left ≤ length (f ++ more) = ltb-false (length (f ++ more)) left long in
       let also : nat_lt (length more) (left - length f) ≡ false = le-ltb (length more) (left - length f) (omega (arith, s, length-append f more)) in
       let n : left ≡ length f + (left - length f) = omega (arith, within) in
-      let behind : drop left (f ++ more) ≡ drop (left - length f) more = ap (λ k. drop k (f ++ more)) n ∙ drop-append-add f more (left - length f) in
-      rw (long, also, behind) refl)
+      let following : drop left (f ++ more) ≡ drop (left - length f) more = ap (λ k. drop k (f ++ more)) n ∙ drop-append-add f more (left - length f) in
+      rw (long, also, following) refl)
 ]

@@ -16,7 +16,7 @@ use Rattle.host_session.specs.Conversation.{IsInMessages, WaitsForMore, Unfinish
 use Rattle.host_session.proofs.Sessions.{handshake_is, say_last}
 use Rattle.host_session.specs.declared.expected.ExpectedScreen.{ExpectedScreen}
 
--- the messages of a stream behind its handshake
+-- the messages of a stream after its handshake
 in_messages : (expected : ExpectedScreen) (w h : ℕ) (name stream : List ℕ) (messages : List Host) (tail : List ℕ)
     → (g : Gets expected w h name stream messages tail) → IsInMessages expected stream messages (told_at w h name) g.answers tail
 in_messages expected w h name stream messages tail g =
@@ -34,7 +34,7 @@ waits : (expected : ExpectedScreen) (kept : List ℕ) (r : Reader) (stream : Lis
 waits expected kept r stream messages said is = record {
   answers = is.follows.gets.answers;
   tail = is.tail;
-  behind = in_messages expected r.width r.height kept stream messages is.tail is.follows.gets;
+  following = in_messages expected r.width r.height kept stream messages is.tail is.follows.gets;
   waits = is.waits;
   said_is = is.follows.said_is;
 }
@@ -50,7 +50,7 @@ unfinished_means expected position kept None stream messages said is = refl
 unfinished_means expected position kept (Some r) stream messages said is = record {
   answers = is.follows.gets.answers;
   tail = is.tail;
-  behind = in_messages expected r.width r.height kept stream messages is.tail is.follows.gets;
+  following = in_messages expected r.width r.height kept stream messages is.tail is.follows.gets;
   waits = is.waits;
   count_is = sym (ap length is.stands.is ∙ length-append r.kept is.stands.skipped ∙ ap (λ n. length r.kept + n) is.stands.count);
 }
@@ -65,7 +65,7 @@ ends_means expected kept None stream messages said f is = record {
 ends_means expected kept (Some r) stream messages said (faults.Wire w) is = record {
   answers = is.follows.gets.answers;
   tail = is.tail;
-  behind = in_messages expected r.width r.height kept stream messages is.tail is.follows.gets;
+  following = in_messages expected r.width r.height kept stream messages is.tail is.follows.gets;
   wire = w;
   is = refl;
   fault = is.fault;
@@ -84,5 +84,5 @@ given_means expected kept None stream messages is = is
 given_means expected kept (Some r) stream messages is = record {
   answers = is.gets.answers;
   tail = is.tail;
-  behind = in_messages expected r.width r.height kept stream messages is.tail is.gets;
+  following = in_messages expected r.width r.height kept stream messages is.tail is.gets;
 }

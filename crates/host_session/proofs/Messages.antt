@@ -1,4 +1,4 @@
--- What is heard behind the handshake.
+-- What is heard after the handshake.
 use Rattle.std.proofs.Common.{◌≡◌, ℕ, List, ◌++◌, length, drop, refl, ap, ◌∙◌}
 use Rattle.std.specs.Prelude.{Result, Ok, Err, OnOk, IfErr, None}
 use Rattle.std.proofs.lemmas.List.{drop_at}
@@ -13,7 +13,7 @@ use Rattle.rfb_wire.specs.Reader.{Reader}
 use Rattle.host_session.specs.Session.{requests_after}
 use Rattle.host_session.specs.Listening.{Hears, Answers, ListensToSome}
 
--- the messages behind those that there were
+-- the messages after those that there were
 pub hears : (r : Reader) (rest piece tail : List ℕ) (old new : List Host)
     → Gives (message_at (message_limit r.format) r.width r.height) (given r.format r.width r.height) old new (rest ++ piece) tail
     → Hears r rest piece old new tail
@@ -49,7 +49,7 @@ feed_hears r kept' passed' old new piece U (Err f) goes stops none = λ rest sta
     let g = stops none rest stands in
     record { tail = g.rest; hears = hears r rest piece g.rest old new g.gives }
 
--- what holds unless memory ran out, where it is known of each part unless memory ran out
+-- what holds unless memory ran out, if it is known of each part unless memory ran out
 pub unless_memory_by : (f : WireFault) (Q : Type 0) → (((P : Type 0) → UnlessMemory f P → P) → Q) → UnlessMemory f Q
 unless_memory_by faults.UnknownType Q by = by (λ P p. p)
 unless_memory_by faults.OutsideScreen Q by = by (λ P p. p)

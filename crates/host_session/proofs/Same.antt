@@ -18,18 +18,18 @@ use Rattle.host_session.specs.Session.{requests_after}
 use Rattle.host_session.specs.Conversation.{IsInMessages, IsConversation, IsRefusal}
 use Rattle.host_session.specs.declared.expected.ExpectedScreen.{ExpectedScreen}
 
--- what two readings of a stream behind its handshake share
+-- what two readings of a stream after its handshake share
 record Same (ms ns : List Host) (t k : Told) (a b tail other : List ℕ) : Type 0 where
   pub told : t ≡ k
   pub messages : ms ≡ ns
   pub answers : a ≡ b
   pub tails : tail ≡ other
 
-same_behind : (expected : ExpectedScreen) (stream : List ℕ) (ms ns : List Host) (t k : Told) (a b tail other : List ℕ)
+same_after : (expected : ExpectedScreen) (stream : List ℕ) (ms ns : List Host) (t k : Told) (a b tail other : List ℕ)
     → IsInMessages expected stream ms t a tail → IsInMessages expected stream ns k b other
     → BeginsNone (message_at (message_limit expected.format) t.width t.height) tail → BeginsNone (message_at (message_limit expected.format) k.width k.height) other
     → Same ms ns t k a b tail other
-same_behind expected stream ms ns t k a b tail other x y none empty =
+same_after expected stream ms ns t k a b tail other x y none empty =
     let e = sym x.handshake ∙ y.handshake in
     let heard = ap (λ (z : Talk Told Refusal). z.heard) e in
     let same : t ≡ k = cc in
@@ -71,11 +71,11 @@ pub one_conversation : (expected : ExpectedScreen) (stream said answered : List 
 one_conversation expected stream said answered None None messages others x y =
     (refl, x.none ∙ sym y.none, ap (λ (z : Talk Told Refusal). z.said) (sym x.reads ∙ y.reads))
 one_conversation expected stream said answered None (Some k) messages others x y =
-    let e = ap (λ (z : Talk Told Refusal). z.heard) (sym x.reads ∙ y.behind.handshake) in absurd (cc)
+    let e = ap (λ (z : Talk Told Refusal). z.heard) (sym x.reads ∙ y.following.handshake) in absurd (cc)
 one_conversation expected stream said answered (Some t) None messages others x y =
-    let e = ap (λ (z : Talk Told Refusal). z.heard) (sym x.behind.handshake ∙ y.reads) in absurd (cc)
+    let e = ap (λ (z : Talk Told Refusal). z.heard) (sym x.following.handshake ∙ y.reads) in absurd (cc)
 one_conversation expected stream said answered (Some t) (Some k) messages others x y =
-    let s = same_behind expected stream messages others t k x.answers y.answers x.tail y.tail x.behind y.behind (waits_none expected.format t x.tail x.waits) (waits_none expected.format k y.tail y.waits) in
+    let s = same_after expected stream messages others t k x.answers y.answers x.tail y.tail x.following y.following (waits_none expected.format t x.tail x.waits) (waits_none expected.format k y.tail y.waits) in
     (ap (λ (z : Told). Some z) s.told, s.messages, same_said messages others t k x.answers y.answers x.tail y.tail said answered s x.said_is y.said_is)
 
 pub not_refused : (expected : ExpectedScreen) (stream said answered reason : List ℕ) (told known : Option Told) (messages others : List Host) (f : HostFault)
@@ -83,11 +83,11 @@ pub not_refused : (expected : ExpectedScreen) (stream said answered reason : Lis
 not_refused expected stream said answered reason None None messages others f x y =
     let e = ap (λ (z : Talk Told Refusal). z.heard) (sym x.reads ∙ y.reads) in absurd (cc)
 not_refused expected stream said answered reason None (Some k) messages others f x y =
-    let e = ap (λ (z : Talk Told Refusal). z.heard) (sym x.reads ∙ y.behind.handshake) in absurd (cc)
+    let e = ap (λ (z : Talk Told Refusal). z.heard) (sym x.reads ∙ y.following.handshake) in absurd (cc)
 not_refused expected stream said answered reason (Some t) None messages others f x y =
-    let e = ap (λ (z : Talk Told Refusal). z.heard) (sym x.behind.handshake ∙ y.reads) in absurd (cc)
+    let e = ap (λ (z : Talk Told Refusal). z.heard) (sym x.following.handshake ∙ y.reads) in absurd (cc)
 not_refused expected stream said answered reason (Some t) (Some k) messages others f x y =
-    let s = same_behind expected stream messages others t k x.answers y.answers x.tail y.tail x.behind y.behind (waits_none expected.format t x.tail x.waits) (fault_none expected.format k y.tail y.wire y.fault) in
+    let s = same_after expected stream messages others t k x.answers y.answers x.tail y.tail x.following y.following (waits_none expected.format t x.tail x.waits) (fault_none expected.format k y.tail y.wire y.fault) in
     let e = sym x.waits ∙ same_read expected.format messages others t k x.answers y.answers x.tail y.tail s ∙ y.fault in absurd (cc)
 
 -- one fault
@@ -107,11 +107,11 @@ one_refusal expected stream said answered reason text None None messages others 
     let same : r ≡ s = same_refusal (handshake_at expected stream).heard r s (ap (λ (z : Talk Told Refusal). z.heard) x.reads) (ap (λ (z : Talk Told Refusal). z.heard) y.reads) in
     (refl, x.none ∙ sym y.none, ap (λ (z : Talk Told Refusal). z.said) e, ap (λ (z : Refusal). z.fault) same, ap (λ (z : Refusal). z.reason) same)
 one_refusal expected stream said answered reason text None (Some k) messages others f g x y =
-    let e = ap (λ (z : Talk Told Refusal). z.heard) (sym x.reads ∙ y.behind.handshake) in absurd (cc)
+    let e = ap (λ (z : Talk Told Refusal). z.heard) (sym x.reads ∙ y.following.handshake) in absurd (cc)
 one_refusal expected stream said answered reason text (Some t) None messages others f g x y =
-    let e = ap (λ (z : Talk Told Refusal). z.heard) (sym x.behind.handshake ∙ y.reads) in absurd (cc)
+    let e = ap (λ (z : Talk Told Refusal). z.heard) (sym x.following.handshake ∙ y.reads) in absurd (cc)
 one_refusal expected stream said answered reason text (Some t) (Some k) messages others f g x y =
-    let s = same_behind expected stream messages others t k x.answers y.answers x.tail y.tail x.behind y.behind (fault_none expected.format t x.tail x.wire x.fault) (fault_none expected.format k y.tail y.wire y.fault) in
+    let s = same_after expected stream messages others t k x.answers y.answers x.tail y.tail x.following y.following (fault_none expected.format t x.tail x.wire x.fault) (fault_none expected.format k y.tail y.wire y.fault) in
     let e = sym x.fault ∙ same_read expected.format messages others t k x.answers y.answers x.tail y.tail s ∙ y.fault in
     let wire : x.wire ≡ y.wire = cc in (
       ap (λ (z : Told). Some z) s.told,

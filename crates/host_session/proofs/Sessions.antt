@@ -36,7 +36,7 @@ use Rattle.host_session.specs.declared.expected.ExpectedScreen.{ExpectedScreen}
 abbrev SameScreen : Reader → Reader → Type 0
 SameScreen r after = (after.format ≡ r.format) × (after.width ≡ r.width) × (after.height ≡ r.height)
 
--- messages behind others
+-- messages after others
 gets_more : (expected : ExpectedScreen) (w h : ℕ) (name stream piece : List ℕ) (messages more : List Host) (tail rest : List ℕ)
     → (g : Gets expected w h name stream messages tail)
     → Gives (message_at (message_limit expected.format) w h) (given expected.format w h) [] more (tail ++ piece) rest
@@ -121,7 +121,7 @@ ends_wire : (expected : ExpectedScreen) (name : List ℕ) (r : Reader) (stream :
 ends_wire expected name r stream messages said f w is ends =
     subst (λ (z : HostFault). EndsAfter expected name (Some r) stream messages said z) (sym is) ends
 
--- the messages that two readings of a rest give behind others are the same
+-- the messages that two readings of a rest give after others are the same
 more_is : (old new more other : List Host) → new ≡ old ++ more → new ≡ old ++ other → more ≡ other
 more_is old new more other a b = append_cancel_left old more other (sym a ∙ b)
 
@@ -165,7 +165,7 @@ from_start : (expected : ExpectedScreen) (position : Position) (kept stream said
     → Says (λ said. Leads expected start [] stream said position kept) [] said
 from_start expected position kept stream said leads = record { said = said; due = refl; is = leads }
 
--- what is due is more, also behind what was sent
+-- what is due is more, also after what was sent
 sent_more : (P : List ℕ → Type 0) (sent due later : List ℕ) → Says P due later → Says P (sent ++ due) (sent ++ later)
 sent_more P sent due later s = record {
   said = s.said;
@@ -293,12 +293,12 @@ handshake_stops expected old new f stream piece messages sent due later out bad 
           (subst (λ (z : List Host). EndsInHandshake expected kept (stream ++ piece) z (sent ++ later) f) (sym (append-nil messages)) ends)) bad.fault;
     }
 
--- the stream with the piece, behind the bytes that the handshake took of it
-whole_piece : (stream piece behind : List ℕ) (n : ℕ) → behind ≡ drop n piece → (stream ++ take n piece) ++ behind ≡ stream ++ piece
-whole_piece stream piece behind n is =
-    append_assoc stream (take n piece) behind ∙ ap (λ z. stream ++ (take n piece ++ z)) is ∙ ap (λ z. stream ++ z) (take-append-drop n piece)
+-- the stream with the piece, after the bytes that the handshake took of it
+whole_piece : (stream piece following : List ℕ) (n : ℕ) → following ≡ drop n piece → (stream ++ take n piece) ++ following ≡ stream ++ piece
+whole_piece stream piece following n is =
+    append_assoc stream (take n piece) following ∙ ap (λ z. stream ++ (take n piece ++ z)) is ∙ ap (λ z. stream ++ z) (take-append-drop n piece)
 
--- the session that listens behind the handshake, by the reader that there is
+-- the session that listens after the handshake, by the reader that there is
 begun : (expected : ExpectedScreen) (old mid : Exchange) (r : Reader) (n : ℕ) (stream piece : List ℕ) (messages : List Host) (sent due later : List ℕ)
     → IsWhole expected old mid n piece due later → mid.reader ≡ Some r
     → IsHandshake expected old.handshake.position old.handshake.kept.items stream messages (sent ++ due)
@@ -310,27 +310,27 @@ begun expected old mid r n stream piece messages sent due later w is handshake =
     (listening_begins expected old mid n stream piece messages sent due later w handshake)
 
 -- the rest of the piece in which the handshake ends
-pub rest_goes : (expected : ExpectedScreen) (position : Position) (old mid : Exchange) (r after : Reader) (n : ℕ) (stream piece behind : List ℕ) (messages : List Host) (sent : List ℕ) (out new : List Host) (due then later : List ℕ)
-    → IsWhole expected old mid n piece due then → mid.reader ≡ Some r → behind ≡ drop n piece
+pub rest_goes : (expected : ExpectedScreen) (position : Position) (old mid : Exchange) (r after : Reader) (n : ℕ) (stream piece following : List ℕ) (messages : List Host) (sent : List ℕ) (out new : List Host) (due then later : List ℕ)
+    → IsWhole expected old mid n piece due then → mid.reader ≡ Some r → following ≡ drop n piece
     → SameScreen r after
-    → Listens r after behind out new then later
+    → Listens r after following out new then later
     → IsHandshake expected old.handshake.position old.handshake.kept.items stream messages (sent ++ due)
     → Advances expected position mid.handshake.kept.items (Some after) (stream ++ piece) messages (sent ++ later) out new
-rest_goes expected position old mid r after n stream piece behind messages sent out new due then later w is rest screen goes handshake =
-    subst (λ (z : List ℕ). Advances expected position mid.handshake.kept.items (Some after) z messages (sent ++ later) out new) (whole_piece stream piece behind n rest)
-    (listening_goes expected position mid.handshake.kept.items r after (stream ++ take n piece) behind messages sent out new then later screen goes
+rest_goes expected position old mid r after n stream piece following messages sent out new due then later w is rest screen goes handshake =
+    subst (λ (z : List ℕ). Advances expected position mid.handshake.kept.items (Some after) z messages (sent ++ later) out new) (whole_piece stream piece following n rest)
+    (listening_goes expected position mid.handshake.kept.items r after (stream ++ take n piece) following messages sent out new then later screen goes
     (begun expected old mid r n stream piece messages sent due then w is handshake))
 
-pub rest_stops : (expected : ExpectedScreen) (old mid : Exchange) (r after : Reader) (f : HostFault) (n : ℕ) (stream piece behind : List ℕ) (messages : List Host) (sent : List ℕ) (out new : List Host) (due then later : List ℕ)
-    → IsWhole expected old mid n piece due then → mid.reader ≡ Some r → behind ≡ drop n piece
+pub rest_stops : (expected : ExpectedScreen) (old mid : Exchange) (r after : Reader) (f : HostFault) (n : ℕ) (stream piece following : List ℕ) (messages : List Host) (sent : List ℕ) (out new : List Host) (due then later : List ℕ)
+    → IsWhole expected old mid n piece due then → mid.reader ≡ Some r → following ≡ drop n piece
     → SameScreen r after
-    → ListensToSome r behind out new
-    → UnlessMemory f (StopsListening r f behind out new then later)
+    → ListensToSome r following out new
+    → UnlessMemory f (StopsListening r f following out new then later)
     → IsHandshake expected old.handshake.position old.handshake.kept.items stream messages (sent ++ due)
     → Halts expected mid.handshake.kept.items (Some after) (stream ++ piece) messages (sent ++ later) f out new
-rest_stops expected old mid r after f n stream piece behind messages sent out new due then later w is rest screen some stops handshake =
-    subst (λ (z : List ℕ). Halts expected mid.handshake.kept.items (Some after) z messages (sent ++ later) f out new) (whole_piece stream piece behind n rest)
-    (listening_stops expected mid.handshake.kept.items r after f (stream ++ take n piece) behind messages sent out new then later screen some stops
+rest_stops expected old mid r after f n stream piece following messages sent out new due then later w is rest screen some stops handshake =
+    subst (λ (z : List ℕ). Halts expected mid.handshake.kept.items (Some after) z messages (sent ++ later) f out new) (whole_piece stream piece following n rest)
+    (listening_stops expected mid.handshake.kept.items r after f (stream ++ take n piece) following messages sent out new then later screen some stops
     (begun expected old mid r n stream piece messages sent due then w is handshake))
 
 -- the handshake goes on
@@ -360,7 +360,7 @@ new_stands expected position kept a b =
     subst (λ (z : Position). IsHandshake expected z kept [] [] []) (sym a)
     (subst (λ (z : List ℕ). IsHandshake expected start z [] [] []) (sym b) (at_start expected))
 
--- what holds unless memory ran out, where it is known of each part unless memory ran out
+-- what holds unless memory ran out, if it is known of each part unless memory ran out
 unless_by : (f : HostFault) (Q : Type 0) → (((P : Type 0) → UnlessMemory f P → P) → Q) → UnlessMemory f Q
 unless_by (faults.Wire f) Q by = unless_memory_by f Q by
 unless_by faults.Version Q by = by (λ P p. p)
@@ -369,7 +369,7 @@ unless_by faults.Failed Q by = by (λ P p. p)
 unless_by faults.SizeDiffers Q by = by (λ P p. p)
 unless_by faults.TooLarge Q by = by (λ P p. p)
 
--- what was said in a piece is due behind what was due
+-- what was said in a piece is due after what was due
 pub fed : (s : Session) (stream : List ℕ) (messages : List Host) (sent due said : List ℕ) (old new : List Host)
     → s.due ≡ due ++ said → Advances (expected_of s) s.position s.kept s.reader stream messages ((sent ++ due) ++ said) old new
     → Fed s stream messages sent old new

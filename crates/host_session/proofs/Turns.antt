@@ -37,7 +37,7 @@ field_fails expected position stage kept piece field after n f is whole same bad
       ∙ ap (λ z. resume expected stage (z ++ (drop n piece ++ more))) (sym same) ∙ bad (drop n piece ++ more) ∙ ap (failed f) same;
 }
 
--- one answer behind another
+-- one answer after another
 say_more : (a b : List ℕ) (t : Talk Told Refusal) → say a (say b t) ≡ say (a ++ b) t
 say_more a b t = rw (append_assoc a b t.said) refl
 
@@ -59,8 +59,7 @@ linked : (expected : ExpectedScreen) (old : Position) (before front more rest fi
     → position_at expected old before (front ++ (more ++ rest)) ≡ say first t → t ≡ u → position_at expected old before ((front ++ more) ++ rest) ≡ say first u
 linked expected old before front more rest first one two = ap (position_at expected old before) (append_assoc front more rest) ∙ one ∙ ap (say first) two
 
--- A turn that leads on, and one from there to what is reached behind it, whatever comes: so do
--- both.
+-- A turn that leads on, and one from there to what is reached after it, whatever comes: so do both.
 two_turns : {Q R : List ℕ → Type 0} (expected : ExpectedScreen) (old mid : Position) (before between front more due then later : List ℕ) (reached : List ℕ → Talk Told Refusal)
     → Says (λ said. Leads expected old before front said mid between) due then → Says Q then later
     → ((said : List ℕ) → Q said → (rest : List ℕ) → position_at expected mid between (more ++ rest) ≡ say said (reached rest))

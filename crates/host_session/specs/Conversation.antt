@@ -31,7 +31,7 @@ pub record IsInMessages (expected : ExpectedScreen) (stream : List ℕ) (message
 pub record WaitsForMore (expected : ExpectedScreen) (stream : List ℕ) (messages : List Host) (said : List ℕ) (told : Told) : Type 0 where
   pub answers : List ℕ
   pub tail : List ℕ
-  pub behind : IsInMessages expected stream messages told answers tail
+  pub following : IsInMessages expected stream messages told answers tail
   pub waits : message_at (message_limit expected.format) told.width told.height tail ≡ More
   pub said_is : said ≡ answers ++ requests_after told.width told.height messages
 
@@ -41,11 +41,11 @@ abbrev pub IsConversation : ExpectedScreen → List ℕ → Option Told → List
 IsConversation expected stream None messages said = IsInHandshake expected stream messages said
 IsConversation expected stream (Some told) messages said = WaitsForMore expected stream messages said told
 
--- Behind the messages the stream has so many bytes, of an unfinished message.
+-- After the messages the stream has so many bytes, of an unfinished message.
 pub record HasUnfinished (expected : ExpectedScreen) (stream : List ℕ) (messages : List Host) (told : Told) (count : ℕ) : Type 0 where
   pub answers : List ℕ
   pub tail : List ℕ
-  pub behind : IsInMessages expected stream messages told answers tail
+  pub following : IsInMessages expected stream messages told answers tail
   pub waits : message_at (message_limit expected.format) told.width told.height tail ≡ More
   pub count_is : count ≡ length tail
 
@@ -54,7 +54,7 @@ abbrev pub Unfinished : ExpectedScreen → List ℕ → Option Told → List Hos
 Unfinished expected stream None messages count = count ≡ 0
 Unfinished expected stream (Some told) messages count = HasUnfinished expected stream messages told count
 
--- A stream that is refused in the handshake, with the host's reason where it gives one,
+-- A stream that is refused in the handshake, with the host's reason if it gives one,
 pub record IsRefusedInHandshake (expected : ExpectedScreen) (stream : List ℕ) (messages : List Host) (said : List ℕ) (f : HostFault) (reason : List ℕ) : Type 0 where
   pub reads : handshake_at expected stream ≡ record { said = said; heard = Bad (record { fault = f; reason = reason }) }
   pub none : messages ≡ []
@@ -63,7 +63,7 @@ pub record IsRefusedInHandshake (expected : ExpectedScreen) (stream : List ℕ) 
 pub record IsRefusedInMessages (expected : ExpectedScreen) (stream : List ℕ) (messages : List Host) (said : List ℕ) (told : Told) (f : HostFault) (reason : List ℕ) : Type 0 where
   pub answers : List ℕ
   pub tail : List ℕ
-  pub behind : IsInMessages expected stream messages told answers tail
+  pub following : IsInMessages expected stream messages told answers tail
   pub wire : WireFault
   pub is : f ≡ faults.Wire wire
   pub fault : message_at (message_limit expected.format) told.width told.height tail ≡ Bad wire
@@ -80,7 +80,7 @@ IsRefusal expected stream (Some told) messages said f reason = IsRefusedInMessag
 pub record AreMessages (expected : ExpectedScreen) (stream : List ℕ) (messages : List Host) (told : Told) : Type 0 where
   pub answers : List ℕ
   pub tail : List ℕ
-  pub behind : IsInMessages expected stream messages told answers tail
+  pub following : IsInMessages expected stream messages told answers tail
 
 abbrev pub AreOfStream : ExpectedScreen → List ℕ → Option Told → List Host → Type 0
 AreOfStream expected stream None messages = messages ≡ []

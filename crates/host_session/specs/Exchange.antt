@@ -16,7 +16,7 @@ IsGoingAt p = IsGoing p.reader p.handshake.position p.handshake.kept.items
 abbrev pub StandsAt : ExpectedScreen → Exchange → List ℕ → List Host → List ℕ → Type 0
 StandsAt expected p stream messages said = Stands expected p.handshake.position p.handshake.kept.items p.reader stream messages said
 
--- messages are given, and the session stands behind the piece
+-- messages are given, and the session is after the piece
 pub record Advances (expected : ExpectedScreen) (position : Position) (kept : List ℕ) (reader : Option Reader) (stream : List ℕ) (messages : List Host) (said : List ℕ) (old new : List Host) : Type 0 where
   pub more : List Host
   pub out : new ≡ old ++ more

@@ -20,7 +20,7 @@ pub record Told : Type 0 where
   pub height : ℕ
   pub name : List ℕ
 
--- why a handshake ends, and the host's own reason where it gives one
+-- why a handshake ends, and the host's own reason if it gives one
 pub record Refusal : Type 0 where
   pub fault : HostFault
   pub reason : List ℕ
@@ -36,7 +36,7 @@ version = 82 ∷ 70 ∷ 66 ∷ 32 ∷ 48 ∷ 48 ∷ 51 ∷ 46 ∷ 48 ∷ 48 ∷ 
 abbrev pub text_limit : ℕ
 text_limit = 1024
 
--- the size that is expected, where one is
+-- the size that is expected, if one is
 abbrev pub is_expected : Option ScreenSize → ℕ → ℕ → Bool
 is_expected None width height = true
 is_expected (Some size) width height = nat_eq size.width width && nat_eq size.height height

@@ -1,4 +1,4 @@
--- What becomes of a piece behind a host's handshake.
+-- What becomes of a piece after a host's handshake.
 use Rattle.std.specs.Prelude.{◌≡◌, ℕ, List, [], ◌++◌}
 use Rattle.terms.specs.Reading.{More, Bad}
 use Rattle.terms.specs.declared.wire_fault.WireFault.{WireFault}

@@ -31,8 +31,8 @@ abbrev pub requests_after : ℕ → ℕ → List Host → List ℕ
 requests_after width height messages = flat_map (request_after width height) messages
 
 -- What contracts see of a session: the format of the recording; the size that is expected, if one
--- is; in the handshake what comes next; what is kept of it and, behind the handshake, the host's
--- name; behind the handshake, the reader of its messages; the bytes that are due to the host; and
+-- is; in the handshake what comes next; what is kept of it and, after the handshake, the host's
+-- name; after the handshake, the reader of its messages; the bytes that are due to the host; and
 -- the fault that was met, if one was.
 pub record Session : Type 0 where
   pub format : Format
@@ -51,8 +51,8 @@ expected_of s = record { format = s.format; size = s.expected }
 abbrev pub start : Position
 start = positions.Field stages.Version
 
--- The handshake isn't whole: the stream so far, answered with this, leads to where the session
--- stands.
+-- The handshake isn't whole: the stream so far, answered with this, leads to the session's
+-- position.
 pub record IsHandshake (expected : ExpectedScreen) (position : Position) (kept stream : List ℕ) (messages : List Host) (said : List ℕ) : Type 0 where
   pub leads : Leads expected start [] stream said position kept
   -- nothing is refused so far, and all that is due was said
@@ -101,7 +101,7 @@ pub record EndsListening (expected : ExpectedScreen) (name : List ℕ) (r : Read
   pub follows : Follows expected r.width r.height name stream messages said tail
   pub fault : message_at (message_limit expected.format) r.width r.height tail ≡ Bad f
 
--- Behind the handshake no fault is met but those of the wire.
+-- After the handshake no fault is met but those of the wire.
 abbrev pub EndsAfter : ExpectedScreen → List ℕ → Option Reader → List ℕ → List Host → List ℕ → HostFault → Type 0
 EndsAfter expected kept None stream messages said f = EndsInHandshake expected kept stream messages said f
 EndsAfter expected kept (Some r) stream messages said (faults.Wire f) = EndsListening expected kept r stream messages said f
@@ -111,7 +111,7 @@ EndsAfter expected kept (Some r) stream messages said faults.Failed = ⊥
 EndsAfter expected kept (Some r) stream messages said faults.SizeDiffers = ⊥
 EndsAfter expected kept (Some r) stream messages said faults.TooLarge = ⊥
 
--- The messages are given of the stream, whatever stands behind them.
+-- The messages are given of the stream, whatever follows them.
 pub record GetsSome (expected : ExpectedScreen) (name : List ℕ) (r : Reader) (stream : List ℕ) (messages : List Host) : Type 0 where
   pub tail : List ℕ
   pub gets : Gets expected r.width r.height name stream messages tail
@@ -129,13 +129,13 @@ abbrev pub IsSound : Option HostFault → Option Reader → Position → List �
 IsSound None reader position kept = IsGoing reader position kept
 IsSound (Some f) reader position kept = Unit {0}
 
--- What feed gives: messages behind those that there were. The session has got the piece too.
+-- What feed gives: messages after those that there were. The session has got the piece too.
 pub record Fed (s : Session) (stream : List ℕ) (messages : List Host) (sent : List ℕ) (old new : List Host) : Type 0 where
   pub more : List Host
   pub out : new ≡ old ++ more
   pub after : IsAfter s stream (messages ++ more) sent
 
--- Or it is stopped, and gives the messages before that place. Unless memory ran out, the stream is
+-- Or it is stopped, and gives the messages before that offset. Unless memory ran out, the stream is
 -- refused there, with this fault.
 pub record Stopped (s : Session) (stream : List ℕ) (messages : List Host) (sent : List ℕ) (f : HostFault) (old new : List Host) : Type 0 where
   pub more : List Host

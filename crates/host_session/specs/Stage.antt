@@ -1,4 +1,4 @@
--- Where a session stands in a host's handshake.
+-- How far a session is in a host's handshake.
 use Rattle.std.specs.Prelude.{◌≡◌, ℕ, ◌<◌, ◌≤◌, ◌^◌, min, List, [], ◌∷◌, ◌++◌, length}
 use Rattle.terms.specs.Reading.{Got, Bad}
 use Rattle.host_session.specs.declared.fault.HostFault.{HostFault}
@@ -59,15 +59,15 @@ resume expected stages.Size bytes = size_at expected bytes
 resume expected (stages.Head size) bytes = head_at size.width size.height bytes
 resume expected (stages.Name size n) bytes = name_at size.width size.height n bytes
 
--- what the bytes that come next say, behind those that are kept
+-- what the bytes that come next say, after those that are kept
 abbrev pub position_at : ExpectedScreen → Position → List ℕ → List ℕ → Talk Told Refusal
 position_at expected (positions.Field stage) kept more = resume expected stage (kept ++ more)
 position_at expected (positions.Rest size left) kept more = rest_of_name size.width size.height kept left more
 
--- of a whole field, what is kept behind it
-abbrev pub kept_behind : Position → List ℕ → List ℕ
-kept_behind (positions.Field stage) field = []
-kept_behind (positions.Rest size left) field = field
+-- of a whole field, what is kept after it
+abbrev pub kept_after : Position → List ℕ → List ℕ
+kept_after (positions.Field stage) field = []
+kept_after (positions.Rest size left) field = field
 
 -- what a whole field is answered with
 abbrev pub answer_bytes : Answer → List ℕ
@@ -75,7 +75,7 @@ answer_bytes answers.Nothing = []
 answer_bytes answers.Version = version
 answer_bytes answers.One = 1 ∷ []
 
--- the host's own reason, where it gave one
+-- the host's own reason, if it gave one
 abbrev pub reason_of : HostFault → List ℕ → List ℕ
 reason_of (faults.Wire f) field = []
 reason_of faults.Version field = []
@@ -91,7 +91,7 @@ failed f field = silent (Bad (record { fault = f; reason = reason_of f field }))
 -- this follows from the whole field of a stage, whatever comes
 abbrev pub IsStep : ExpectedScreen → Stage → List ℕ → AfterField → Type 0
 IsStep expected stage field step = (more : List ℕ)
-    → resume expected stage (field ++ more) ≡ say (answer_bytes step.answer) (position_at expected step.position (kept_behind step.position field) more)
+    → resume expected stage (field ++ more) ≡ say (answer_bytes step.answer) (position_at expected step.position (kept_after step.position field) more)
 
 -- or this fault
 abbrev pub IsFault : ExpectedScreen → Stage → List ℕ → HostFault → Type 0
@@ -102,7 +102,7 @@ IsFault expected stage field f = (more : List ℕ) → resume expected stage (fi
 pub record Leads (expected : ExpectedScreen) (old : Position) (before bytes said : List ℕ) (new : Position) (after : List ℕ) : Type 0 where
   pub link : (more : List ℕ) → position_at expected old before (bytes ++ more) ≡ say said (position_at expected new after more)
 
--- They lead to the handshake's end, where this is told.
+-- They lead to the handshake's end, if this is told.
 pub record Ends (expected : ExpectedScreen) (old : Position) (before bytes said : List ℕ) (told : Told) : Type 0 where
   pub link : (more : List ℕ) → position_at expected old before (bytes ++ more) ≡ say said (silent (Got told more))
 

@@ -13,7 +13,7 @@ use pixel_format::RecordedScreen;
 use rfb_wire::{HostMessage, ServerReader};
 use std::alloc::Global;
 
-/// Where a session stands in the stream: in the handshake, or behind it.
+/// How far a session is in the stream: in the handshake, or after it.
 #[derive(Drop)]
 pub struct Exchange {
     pub handshake: Handshake,
@@ -35,8 +35,8 @@ impl Exchange {
         }
     }
 
-    // Takes a piece in the handshake. Where that is whole now, answers how many bytes of the piece
-    // it took.
+    // Takes a piece in the handshake. If that is whole now, answers how many bytes of the piece it
+    // took.
     fn take_handshake(
         &mut self,
         alloc: Global,

@@ -8,6 +8,6 @@ use terms::ScreenSize;
 pub struct ExpectedScreen {
     /// The format of the recording, by whose limits the screen and its messages are judged.
     pub format: Format,
-    /// The size of the screen, where one is expected.
+    /// The size of the screen, if one is expected.
     pub size: Option<ScreenSize>,
 }

@@ -7,11 +7,11 @@ ghost use Rattle.host_session.specs.declared.expected.ExpectedScreen.{ExpectedSc
 
 use crate::expected::ExpectedScreen;
 use crate::fault::HostFault;
-use crate::stage::{Position, Stage, behind};
+use crate::stage::{Position, Stage, following};
 use std::alloc::Global;
 use terms::ScreenSize;
 
-/// Where in the handshake the session stands: what comes next, and the bytes that are kept of it.
+/// How far the session is in the handshake: what comes next, and the bytes that are kept of it.
 #[derive(Drop)]
 pub struct Handshake {
     pub position: Position,
@@ -25,11 +25,11 @@ pub enum Taking {
     Waits,
     /// So many bytes are taken.
     Goes(usize),
-    /// The handshake is whole behind so many bytes, for a screen of this size.
+    /// The handshake is whole after so many bytes, for a screen of this size.
     Whole { taken: usize, size: ScreenSize },
 }
 
-/// A handshake that is whole behind so many bytes of a piece, for a screen of this size.
+/// A handshake that is whole after so many bytes of a piece, for a screen of this size.
 #[derive(Clone, Copy)]
 pub struct Whole {
     pub taken: usize,
@@ -68,7 +68,7 @@ impl Handshake {
         if self.kept.len() < stage.wants() {
             return Ok(Taking::Waits);
         }
-        let step = behind(expected, stage, &self.kept)?;
+        let step = following(expected, stage, &self.kept)?;
         step.answer.write(due)?;
         if let Position::Field(_) = step.position {
             self.kept.clear();

@@ -16,8 +16,8 @@ pub fn a_session_follows_its_stream()
         → IsConversation (expected_of s) stream (told_by s.reader s.kept) messages (sent ++ s.due) }
 {}
 
-/// A session is stopped where its stream is refused, with that fault, and with the host's reason.
-/// Where memory ran out, the messages that it gave are of its stream all the same.
+/// A session is stopped when its stream is refused, with that fault, and with the host's reason. If
+/// memory ran out, the messages that it gave are of its stream all the same.
 pub fn a_stopped_session_follows_its_stream()
     ensures refused { (s : Session) → (stream said : List ℕ)
         → (messages : List Host) → (f : HostFault)

@@ -16,7 +16,7 @@ use std::alloc::Global;
 use std::marker::Model;
 use terms::{NoMemory, ScreenSize, WireFault};
 
-// Makes due what was said in a piece, of which this came; nothing of it where memory ran out.
+// Makes due what was said in a piece, of which this came; nothing of it if memory ran out.
 fn make_due(heard: Result<(), HostFault>, said: &[u8], due: &mut Vec<u8>) -> Result<(), HostFault>
     ensures ok { OnOk result ((heard ≡ Ok tt) × (due.new.items ≡ due.old.items ++ said.now)) }
     ensures err { IfErr result (λ f. UnlessMemory f
@@ -65,8 +65,8 @@ impl Model for HostSession {
 }
 
 impl HostSession {
-    /// A session at the start of a host's stream, for a recording of format 1. Where a size is
-    /// expected, in places, a host of another size is refused.
+    /// A session at the start of a host's stream, for a recording of format 1. If a size is
+    /// expected, in pixels, a host of another size is refused.
     pub fn new(alloc: Global, expected: Option<ScreenSize>) -> HostSession
         ensures after { IsAfter result [] [] [] }
         ensures due { result.due ≡ [] }
@@ -77,8 +77,8 @@ impl HostSession {
         HostSession::in_format(alloc, Format::One, expected)
     }
 
-    /// The same, for a recording of any format. A host is refused where its size is outside the
-    /// limits of that format, or an update has more bytes than they allow.
+    /// The same, for a recording of any format. A host is refused if its size is outside the limits
+    /// of that format, or an update has more bytes than they allow.
     pub fn in_format(alloc: Global, format: Format, expected: Option<ScreenSize>) -> HostSession
         ensures after { IsAfter result [] [] [] }
         ensures due { result.due ≡ [] }
@@ -101,7 +101,7 @@ impl HostSession {
     /// Takes the next piece of the host's stream, and appends each recorded message that is whole
     /// now. A fault is answered at the last byte of the field that holds it, once the messages
     /// before it are appended and are answered; from then on each call answers the same fault and
-    /// does nothing else, also where memory ran out.
+    /// does nothing else, also if memory ran out.
     pub fn feed(&mut self, piece: &[u8], out: &mut Vec<HostMessage>) -> Result<(), HostFault>
         // Whatever stream the session has got, it has got the piece too, and goes on: the messages
         // of all that stream are given, and what is due to it is due.
@@ -113,7 +113,7 @@ impl HostSession {
             → (stream sent : List ℕ) → (messages : List Host)
             → IsAfter self.old stream messages sent
             → Stopped self.new (stream ++ piece.now) messages sent f out.old.items out.new.items) }
-        // Where memory ran out, just what was due before is due.
+        // If memory ran out, just what was due before is due.
         ensures memory { result ≡ Err (HostFault.Wire WireFault.NoMemory)
             → self.new.due ≡ self.old.due }
         ensures going { OnOk result (self.new.fault ≡ None) }

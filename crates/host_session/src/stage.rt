@@ -18,7 +18,7 @@ pub enum Stage {
     Count,
     /// So many security types.
     Types { count: u8 },
-    /// SecurityResult: 0 where the host lets the recorder in.
+    /// SecurityResult: 0 if the host lets the recorder in.
     Outcome,
     /// The length of a reason.
     ReasonLength,
@@ -114,7 +114,7 @@ fn next(stage: Stage) -> AfterField
     answered(Answer::Nothing, stage)
 }
 
-// The field of this stage comes next, behind an answer.
+// The field of this stage comes next, after an answer.
 fn answered(answer: Answer, stage: Stage) -> AfterField
     ensures { result ≡ record { answer = answer; position = Position.Field stage } }
 {
@@ -125,7 +125,7 @@ fn answered(answer: Answer, stage: Stage) -> AfterField
 }
 
 // Another version than 003.008 is refused (RFC 6143, section 7.1.1).
-fn behind_version(field: &[u8]) -> Result<AfterField, HostFault>
+fn after_version(field: &[u8]) -> Result<AfterField, HostFault>
     requires { length field.now ≡ 12 }
     ensures goes { IfOk result (λ s. (expected : ExpectedScreen)
         → IsStep expected Stage.Version field.now s) }
@@ -140,7 +140,7 @@ fn behind_version(field: &[u8]) -> Result<AfterField, HostFault>
 }
 
 // No security types are followed by a reason (RFC 6143, section 7.1.2).
-fn behind_count(field: &[u8]) -> AfterField
+fn after_count(field: &[u8]) -> AfterField
     requires { length field.now ≡ 1 }
     ensures goes { (expected : ExpectedScreen) → IsStep expected Stage.Count field.now result }
     ensures falls { IsFurther 8 result.position }
@@ -152,7 +152,7 @@ fn behind_count(field: &[u8]) -> AfterField
 }
 
 // Of the types None is chosen, and the others aren't looked at.
-fn behind_types(count: u8, field: &[u8]) -> Result<AfterField, HostFault>
+fn after_types(count: u8, field: &[u8]) -> Result<AfterField, HostFault>
     requires { length field.now ≡ count }
     ensures goes { IfOk result (λ s. (expected : ExpectedScreen)
         → IsStep expected (Stage.Types count) field.now s) }
@@ -167,7 +167,7 @@ fn behind_types(count: u8, field: &[u8]) -> Result<AfterField, HostFault>
 }
 
 // A failure is followed by a reason (RFC 6143, section 7.1.3), and else ClientInit answers.
-fn behind_outcome(field: &[u8]) -> AfterField
+fn after_outcome(field: &[u8]) -> AfterField
     requires { length field.now ≡ 4 }
     ensures goes { (expected : ExpectedScreen) → IsStep expected Stage.Outcome field.now result }
     ensures falls { IsFurther 6 result.position }
@@ -179,7 +179,7 @@ fn behind_outcome(field: &[u8]) -> AfterField
 }
 
 // The limits of the format are judged first, and then the size that is expected.
-fn behind_size(expected: ExpectedScreen, field: &[u8]) -> Result<AfterField, HostFault>
+fn after_size(expected: ExpectedScreen, field: &[u8]) -> Result<AfterField, HostFault>
     requires { length field.now ≡ 4 }
     ensures goes { IfOk result (λ s. IsStep expected Stage.Size field.now s) }
     ensures falls { IfOk result (λ s. IsFurther 5 s.position) }
@@ -199,7 +199,7 @@ fn behind_size(expected: ExpectedScreen, field: &[u8]) -> Result<AfterField, Hos
 }
 
 // What is beyond the name's first bytes is read over.
-fn behind_name(size: ScreenSize, count: u32, field: &[u8]) -> AfterField
+fn after_name(size: ScreenSize, count: u32, field: &[u8]) -> AfterField
     requires { length field.now ≡ min count text_limit }
     ensures goes { (expected : ExpectedScreen)
         → IsStep expected (Stage.Name size count) field.now result }
@@ -215,28 +215,32 @@ fn behind_name(size: ScreenSize, count: u32, field: &[u8]) -> AfterField
 }
 
 /// What follows from the whole field of a stage.
-pub fn behind(expected: ExpectedScreen, stage: Stage, field: &[u8]) -> Result<AfterField, HostFault>
+pub fn following(
+    expected: ExpectedScreen,
+    stage: Stage,
+    field: &[u8],
+) -> Result<AfterField, HostFault>
     requires { length field.now ≡ wants_of stage }
     ensures goes { IfOk result (λ s. IsStep expected stage field.now s) }
     ensures falls { IfOk result (λ s. IsFurther (rank_of stage) s.position) }
     ensures faults { IfErr result (λ f. IsFault expected stage field.now f) }
 {
     match stage {
-        Stage::Version => behind_version(field),
-        Stage::Count => Ok(behind_count(field)),
-        Stage::Types { count } => behind_types(count, field),
-        Stage::Outcome => Ok(behind_outcome(field)),
+        Stage::Version => after_version(field),
+        Stage::Count => Ok(after_count(field)),
+        Stage::Types { count } => after_types(count, field),
+        Stage::Outcome => Ok(after_outcome(field)),
         Stage::ReasonLength => Ok(next(Stage::Reason {
             count: read_u32(field, 0),
         })),
         Stage::Reason { .. } => Err(HostFault::Failed),
-        Stage::Size => behind_size(expected, field),
+        Stage::Size => after_size(expected, field),
         // The host's own format is read over (RFC 6143, section 7.3.2).
         Stage::Head { size } => Ok(next(Stage::Name {
             size,
             count: read_u32(field, 16),
         })),
-        Stage::Name { size, count } => Ok(behind_name(size, count, field)),
+        Stage::Name { size, count } => Ok(after_name(size, count, field)),
     }
 }
 

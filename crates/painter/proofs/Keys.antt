@@ -50,13 +50,13 @@ key_of format screen colors e bytes one m are kind is rectangle short only =
       paints = λ before x y across down.
           let picture : Picture = painted_message n before in
           let here : picture (0 + x) (0 + y) ≡ rows_of colors w x y = (p.paints before).here x y across down in
-          let place : picture x y ≡ picture (0 + x) (0 + y) = ap (λ k. picture k y) (sym (from_none x)) ∙ ap (picture (0 + x)) (sym (from_none y)) in
+          let slot : picture x y ≡ picture (0 + x) (0 + y) = ap (λ k. picture k y) (sym (from_none x)) ∙ ap (picture (0 + x)) (sym (from_none y)) in
           let shown : color_at screen (0 + x) (0 + y) ≡ color_at screen x y = ap (λ k. color_at screen k (0 + y)) (from_none x) ∙ ap (color_at screen x) (from_none y) in
-          place ∙ here ∙ are.shows x y across down ∙ shown;
+          slot ∙ here ∙ are.shows x y across down ∙ shown;
     } in
     subst (λ (k : Host). IsKey w h (color_at screen) k) (sym same) key
 
--- where Hextile is asked for, it is Raw or Hextile
+-- if Hextile is asked for, it is Raw or Hextile
 kind_of : (e : Encoding) → (e ≡ encodings.Hextile) ⊎ (e ≡ encodings.Raw) → (e ≡ encodings.Raw) ⊎ (e ≡ encodings.Hextile)
 kind_of e (inl is) = inr is
 kind_of e (inr is) = inl is
@@ -66,8 +66,8 @@ same_colors : (colors : List Color) → map (converted host_format) colors ≡ c
 same_colors [] = refl
 same_colors (c ∷ colors) = rw (same_color c, same_colors colors) refl
 
--- an update of one area of places is one of one rectangle
-single : (f : Format) (screen : Framebuffer) (area : Area) (asked : Encoding) (bytes : List ℕ) → AreParts f (parts_of f screen (screen_parts.Places area asked ∷ [])) bytes
+-- an update of one area of pixels is one of one rectangle
+single : (f : Format) (screen : Framebuffer) (area : Area) (asked : Encoding) (bytes : List ℕ) → AreParts f (parts_of f screen (screen_parts.Region area asked ∷ [])) bytes
     → IsUpdateFor f area (sent_colors f screen area) asked bytes
 single f screen area asked bytes u =
     let body : u.body ≡ u.are.0 = u.are.2 ∙ ap (λ z. u.are.0 ++ z) u.are.4 ∙ append-nil u.are.0 in
@@ -80,7 +80,7 @@ no_longer f area colors asked bytes u =
 
 -- the whole screen as one message
 abbrev pub whole_update : Framebuffer → ScreenSize → List ℕ → Type 0
-whole_update screen size bytes = AreParts host_format (parts_of host_format screen (screen_parts.Places (whole_area size.width size.height) encodings.Hextile ∷ [])) bytes
+whole_update screen size bytes = AreParts host_format (parts_of host_format screen (screen_parts.Region (whole_area size.width size.height) encodings.Hextile ∷ [])) bytes
 
 -- what is appended to nothing stands alone
 alone : (P : List ℕ → Type 0) (empty bytes : List ℕ) → empty ≡ [] → Appends P empty bytes → P bytes

@@ -1,5 +1,5 @@
 pub mod Numbers
-pub mod Places
+pub mod Region
 pub mod Order
 pub mod Rows
 pub mod Screens

@@ -2,7 +2,7 @@
 use Rattle.std.proofs.Common.{◌≡◌, ℕ, zero, suc, ◌+◌, ◌*◌, ◌/◌, ◌%◌, ◌<◌, List, [], ◌∷◌, length, take, drop, get_or, ap, ◌∙◌, arith, rules, slice_set}
 use Rattle.byteorder.specs.Endian.{little_number}
 use Rattle.std.specs.Simd.{first_chunks}
-use Rattle.std.proofs.lemmas.List.{drop-drop, places, length-take, length-drop}
+use Rattle.std.proofs.lemmas.List.{drop-drop, slots, length-take, length-drop}
 use borrow.Author.Count.{below_more}
 use Rattle.pixel_format.specs.declared.Color.{Color}
 use Rattle.pixel_format.specs.Pixel.{little_endian, pixel_color, host_color}
@@ -53,13 +53,13 @@ pixel_of_chunks bytes chunks count k is long less =
 pub pixel_long : (bytes : List ℕ) (count k : ℕ) → length bytes ≡ 4 * count → k < count → length (pixel_at bytes k) ≡ 4
 pixel_long bytes count k long less = omega (arith, length-take 4 (drop (4 * k) bytes), length-drop (4 * k) bytes)
 
--- one place more is painted
+-- one pixel more is painted
 pub row_more : (row : List Pixel) (bytes : List ℕ) (k : ℕ) (p : Pixel) → k < length row → color_of p ≡ host_color (pixel_at bytes k)
     → ((j : ℕ) → j < k → pixel_color_at row j ≡ host_color (pixel_at bytes j))
     → (j : ℕ) → j < k + 1 → pixel_color_at (slice_set row k p) j ≡ host_color (pixel_at bytes j)
 row_more row bytes k p inside is so_far = below_more (λ j. pixel_color_at (slice_set row k p) j ≡ host_color (pixel_at bytes j)) k
     (λ j less.
-    let same : get_or (slice_set row k p) j black_pixel ≡ get_or row j black_pixel = search (rules, places) in
+    let same : get_or (slice_set row k p) j black_pixel ≡ get_or row j black_pixel = search (rules, slots) in
     ap color_of same ∙ so_far j less)
-    (let here : get_or (slice_set row k p) k black_pixel ≡ p = search (rules, places) in
+    (let here : get_or (slice_set row k p) k black_pixel ≡ p = search (rules, slots) in
     ap color_of here ∙ is)

@@ -15,7 +15,7 @@ use Rattle.rect_data.specs.Data.{AreData}
 use Rattle.rfb_wire.specs.Host.{Host, IsPlaced}
 use Rattle.rect_codec.specs.Picture.{is_in, copied_picture, picture_of, painted_data}
 use Rattle.painter.specs.Picture.{painted_rectangle, painted_rectangles, painted_message, painted_over}
-use Rattle.painter.proofs.Places.{IsIn, in_is}
+use Rattle.painter.proofs.Region.{IsIn, in_is}
 
 pub no_rectangles : (bytes : List ℕ) (before : Picture) → painted_rectangles bytes [] before ≡ before
 unfolding painted_rectangles
@@ -41,21 +41,21 @@ last_painted bytes rectangles i before lt =
 
 -- ---- screens
 
--- the picture of data depends on the places of the screen alone; those of a CopyRect are the
+-- the picture of data depends on the pixels of the screen alone; those of a CopyRect are the
 -- source's
 shown_same : (width height : ℕ) (encoding : Encoding) (area : Area) (bytes : List ℕ) (p q : Picture) → AreData host_format width height encoding area bytes → Agree width height p q
     → (x y : ℕ) → IsIn area x y → picture_of host_format encoding area bytes p x y ≡ picture_of host_format encoding area bytes q x y
 unfolding copied_picture source_of
-shown_same width height encodings.Raw area bytes p q is same x y place = refl
-shown_same width height encodings.CopyRect area bytes p q is same x y place =
-    let left = place.left in
-    let right = place.right in
-    let top = place.top in
-    let bottom = place.bottom in
+shown_same width height encodings.Raw area bytes p q is same x y slot = refl
+shown_same width height encodings.CopyRect area bytes p q is same x y slot =
+    let left = slot.left in
+    let right = slot.right in
+    let top = slot.top in
+    let bottom = slot.bottom in
     let source = source_of area bytes in
     same (source.x + (x - area.x)) (source.y + (y - area.y)) (omega (arith, is.within.columns)) (omega (arith, is.within.rows))
-shown_same width height encodings.Rre area bytes p q is same x y place = refl
-shown_same width height encodings.Hextile area bytes p q is same x y place = refl
+shown_same width height encodings.Rre area bytes p q is same x y slot = refl
+shown_same width height encodings.Hextile area bytes p q is same x y slot = refl
 
 pub agree_data : (width height : ℕ) (encoding : Encoding) (area : Area) (bytes : List ℕ) (p q : Picture) → AreData host_format width height encoding area bytes → Agree width height p q
     → Agree width height (painted_data host_format encoding area bytes p) (painted_data host_format encoding area bytes q)
@@ -65,7 +65,7 @@ agree_data width height encoding area bytes p q is same x y across down = elim (
   | inr away ↦ rw away (same x y across down)
 ]
 
--- what rectangles leave depends on the places of the screen alone
+-- what rectangles leave depends on the pixels of the screen alone
 pub agree_rectangles : (m : Host) (rectangles : List Rectangle) (p q : Picture) → AllByRecursion (IsPlaced m) rectangles → Agree m.width m.height p q
     → Agree m.width m.height (painted_rectangles m.bytes rectangles p) (painted_rectangles m.bytes rectangles q)
 unfolding painted_rectangles

@@ -13,7 +13,7 @@ use Rattle.painter.specs.declared.pixel.Pixel.{Pixel}
 use Rattle.pixel_format.specs.Format.{host_format}
 use Rattle.rect_codec.specs.Picture.{is_in, raw_picture, copied_picture}
 use Rattle.painter.specs.Pixels.{black_pixel, color_of, pixel_color_at, color_in, pixel_at}
-use Rattle.painter.proofs.Places.{IsIn, in_is, is_in_true, same_in, below_part, in_part, above_part, row_before}
+use Rattle.painter.proofs.Region.{IsIn, in_is, is_in_true, same_in, below_part, in_part, above_part, row_before}
 
 -- the first rows of an area
 abbrev pub rows_of : Area → ℕ → Area
@@ -27,24 +27,24 @@ rows_from area row = record area { y = area.y + row; h = area.h - row }
 abbrev pub row_of : Area → ℕ → Area
 row_of area row = record area { y = area.y + row; h = 1 }
 
--- where a row of an area begins
+-- the index at which a row of an area begins
 abbrev pub row_start : ℕ → Area → ℕ → ℕ
 row_start width area row = (area.y + row) * width + area.x
 
--- One row was written: its places have the picture's colours, and the others are as they were.
+-- One row was written: its pixels have the picture's colours, and the others are as they were.
 pub record WritesRow (old new : List Pixel) (width : ℕ) (area : Area) (picture : Picture) (row : ℕ) : Type 0 where
   pub columns : area.x + area.w ≤ width
   pub here : (k : ℕ) → k < area.w → pixel_color_at new (row_start width area row + k) ≡ picture (area.x + k) (area.y + row)
   pub before : (i : ℕ) → i < row_start width area row → pixel_color_at new i ≡ pixel_color_at old i
-  pub behind : (i : ℕ) → row_start width area row + area.w ≤ i → pixel_color_at new i ≡ pixel_color_at old i
+  pub following : (i : ℕ) → row_start width area row + area.w ≤ i → pixel_color_at new i ≡ pixel_color_at old i
 
--- a place of the row has the picture's colour
+-- a pixel of the row has the picture's colour
 in_row : (old new : List Pixel) (width : ℕ) (area : Area) (picture : Picture) (row x y : ℕ) → WritesRow old new width area picture row → IsIn (row_of area row) x y
     → color_in new width x y ≡ picture x y
-in_row old new width area picture row x y w place =
-    let left = place.left in
-    let right = place.right in
-    let same : y ≡ area.y + row = omega (arith, place.top, place.bottom) in
+in_row old new width area picture row x y w slot =
+    let left = slot.left in
+    let right = slot.right in
+    let same : y ≡ area.y + row = omega (arith, slot.top, slot.bottom) in
     let at : y * width + x ≡ row_start width area row + (x - area.x) = ap (λ (r : ℕ). r * width + x) same ∙ omega arith in
     let column : area.x + (x - area.x) ≡ x = omega arith in
     ap (λ (i : ℕ). pixel_color_at new i) at
@@ -52,7 +52,7 @@ in_row old new width area picture row x y w place =
     ∙ ap (λ (i : ℕ). picture i (area.y + row)) column
     ∙ ap (λ (i : ℕ). picture x i) (sym same)
 
--- what stands behind the row's first place and not in the row stands behind it
+-- what comes after the row's first pixel and isn't in the row comes after the row
 past_row : (width : ℕ) (area : Area) (row x y : ℕ) → area.x + area.w ≤ width → (IsIn (row_of area row) x y → ⊥) → x < width → (area.y + row) * width + area.x ≤ y * width + x
     → (area.y + row) * width + area.x + area.w ≤ y * width + x
 past_row width area row x y columns off across after =
@@ -67,16 +67,16 @@ past_row width area row x y columns off across after =
       | inr (inr below) ↦ omega (arith, mul-le-mul_left width below)
     ]
 
--- another place is as it was
+-- another pixel is as it was
 off_row : (old new : List Pixel) (width : ℕ) (area : Area) (picture : Picture) (row x y : ℕ) → WritesRow old new width area picture row → x < width → (IsIn (row_of area row) x y → ⊥)
     → color_in new width x y ≡ color_in old width x y
 off_row old new width area picture row x y w across off =
     elim (cases_lt (y * width + x) (row_start width area row)) [
       | inl before ↦ w.before (y * width + x) before
-      | inr after ↦ w.behind (y * width + x) (past_row width area row x y w.columns off across after)
+      | inr after ↦ w.following (y * width + x) (past_row width area row x y w.columns off across after)
     ]
 
--- One row more: where an area and the row make up another, and the one is painted, then so is the
+-- One row more: if an area and the row make up another, and the one is painted, then so is the
 -- other.
 row_joined : (old new : List Pixel) (width : ℕ) (area done more : Area) (picture : Picture) (color : Color) (row x y : ℕ) → WritesRow old new width area picture row → x < width
     → (IsIn (row_of area row) x y → IsIn more x y) → (IsIn done x y → IsIn more x y) → (IsIn more x y → (IsIn (row_of area row) x y → ⊥) → IsIn done x y)
@@ -84,12 +84,12 @@ row_joined : (old new : List Pixel) (width : ℕ) (area done more : Area) (pictu
 row_joined old new width area done more picture color row x y w across row_in done_in from so_far =
     elim (cases_Bool (is_in (row_of area row) x y)) [
       | inl here ↦
-          let place = in_is (row_of area row) x y here in
-          let painted : is_in more x y ≡ true = is_in_true more x y (row_in place) in
-          in_row old new width area picture row x y w place ∙ sym (ap (λ (b : Bool). cond b (picture x y) color) painted)
+          let slot = in_is (row_of area row) x y here in
+          let painted : is_in more x y ≡ true = is_in_true more x y (row_in slot) in
+          in_row old new width area picture row x y w slot ∙ sym (ap (λ (b : Bool). cond b (picture x y) color) painted)
       | inr away ↦
-          let off : IsIn (row_of area row) x y → ⊥ = λ place. let clash = is_in_true (row_of area row) x y place in absurd cc in
-          let same : is_in done x y ≡ is_in more x y = same_in done more x y done_in (λ place. from place off) in
+          let off : IsIn (row_of area row) x y → ⊥ = λ slot. let clash = is_in_true (row_of area row) x y slot in absurd cc in
+          let same : is_in done x y ≡ is_in more x y = same_in done more x y done_in (λ slot. from slot off) in
           off_row old new width area picture row x y w across off ∙ so_far ∙ ap (λ (b : Bool). cond b (picture x y) color) same
     ]
 
@@ -98,15 +98,15 @@ pub row_below : (old new : List Pixel) (width : ℕ) (area : Area) (picture : Pi
     → color_in old width x y ≡ cond (is_in (rows_of area row) x y) (picture x y) color → color_in new width x y ≡ cond (is_in (rows_of area (row + 1)) x y) (picture x y) color
 row_below old new width area picture color row x y w across so_far =
     row_joined old new width area (rows_of area row) (rows_of area (row + 1)) picture color row x y w across
-    (λ place. let top = place.top in let bottom = place.bottom in record { left = place.left; right = place.right; top = omega arith; bottom = omega arith })
-    (λ place. let lower = place.bottom in record { left = place.left; right = place.right; top = place.top; bottom = omega arith })
-    (λ place off. let lower = place.bottom in record {
-      left = place.left;
-      right = place.right;
-      top = place.top;
+    (λ slot. let top = slot.top in let bottom = slot.bottom in record { left = slot.left; right = slot.right; top = omega arith; bottom = omega arith })
+    (λ slot. let lower = slot.bottom in record { left = slot.left; right = slot.right; top = slot.top; bottom = omega arith })
+    (λ slot off. let lower = slot.bottom in record {
+      left = slot.left;
+      right = slot.right;
+      top = slot.top;
       bottom = elim (cases_lt y (area.y + row)) [
         | inl above ↦ above
-        | inr level ↦ absurd (off (record { left = place.left; right = place.right; top = level; bottom = omega arith }))
+        | inr level ↦ absurd (off (record { left = slot.left; right = slot.right; top = level; bottom = omega arith }))
       ];
     }) so_far
 
@@ -115,13 +115,13 @@ pub row_above : (old new : List Pixel) (width : ℕ) (area : Area) (picture : Pi
     → color_in old width x y ≡ cond (is_in (rows_from area (row + 1)) x y) (picture x y) color → color_in new width x y ≡ cond (is_in (rows_from area row) x y) (picture x y) color
 row_above old new width area picture color row x y w across within so_far =
     row_joined old new width area (rows_from area (row + 1)) (rows_from area row) picture color row x y w across
-    (λ place. let top = place.top in let bottom = place.bottom in record { left = place.left; right = place.right; top = omega arith; bottom = omega arith })
-    (λ place. let top = place.top in let bottom = place.bottom in record { left = place.left; right = place.right; top = omega arith; bottom = omega arith })
-    (λ place off. let lower = place.bottom in record {
-      left = place.left;
-      right = place.right;
+    (λ slot. let top = slot.top in let bottom = slot.bottom in record { left = slot.left; right = slot.right; top = omega arith; bottom = omega arith })
+    (λ slot. let top = slot.top in let bottom = slot.bottom in record { left = slot.left; right = slot.right; top = omega arith; bottom = omega arith })
+    (λ slot off. let lower = slot.bottom in record {
+      left = slot.left;
+      right = slot.right;
       top = elim (cases_lt y (area.y + row + 1)) [
-        | inl level ↦ absurd (off (record { left = place.left; right = place.right; top = place.top; bottom = omega (arith, level) }))
+        | inl level ↦ absurd (off (record { left = slot.left; right = slot.right; top = slot.top; bottom = omega (arith, level) }))
         | inr under ↦ omega (arith, under)
       ];
       bottom = omega arith;
@@ -139,7 +139,7 @@ pixel_of_part bytes from count n lt =
     ∙ ap (take 4) (drop-drop (4 * n) (4 * from) bytes)
     ∙ ap (λ (m : ℕ). take 4 (drop m bytes)) (omega arith)
 
--- a line put in the place of the row
+-- a line that replaces the row
 pub line_put : (pixels line : List Pixel) (width : ℕ) (area : Area) (picture : Picture) (row : ℕ) → area.x + area.w ≤ width → row_start width area row + area.w ≤ length pixels → length line ≡ area.w
     → ((k : ℕ) → k < area.w → pixel_color_at line k ≡ picture (area.x + k) (area.y + row))
     → WritesRow pixels (put_mid (row_start width area row) area.w pixels line) width area picture row
@@ -147,10 +147,10 @@ line_put pixels line width area picture row columns fits len colors = record {
   columns = columns;
   here = λ k lt. ap color_of (in_part (row_start width area row) area.w pixels line k black_pixel (omega (arith, fits)) (omega (arith, len))) ∙ colors k lt;
   before = λ i lt. ap color_of (below_part (row_start width area row) area.w pixels line i black_pixel (omega (arith, fits)) lt);
-  behind = λ i le. ap color_of (above_part (row_start width area row) area.w pixels line i black_pixel (omega (arith, fits)) len le);
+  following = λ i le. ap color_of (above_part (row_start width area row) area.w pixels line i black_pixel (omega (arith, fits)) len le);
 }
 
--- the places of a row of pixels
+-- the pixels of a row, from their bytes
 pub raw_row : (area : Area) (bytes : List ℕ) (row k : ℕ) → k < area.w
     → host_color (pixel_at (take (4 * area.w) (drop (4 * (row * area.w)) bytes)) k) ≡ raw_picture host_format area bytes (area.x + k) (area.y + row)
 unfolding raw_picture
@@ -161,7 +161,7 @@ raw_row area bytes row k lt =
     ∙ ap (λ (i : ℕ). host_color (take 4 (drop i bytes))) (omega arith)
     ∙ sym (ap (λ (c : ℕ). host_color (take 4 (drop (((area.y + row - area.y) * area.w + c) * 4) bytes))) column ∙ ap (λ (r : ℕ). host_color (take 4 (drop ((r * area.w + k) * 4) bytes))) height)
 
--- what stands at a row of the source, where it isn't painted over yet
+-- what stands at a row of the source, if it isn't painted over yet
 source_left : (pixels : List Pixel) (width : ℕ) (source area done : Area) (before : Picture) (row k : ℕ) → source.x + k < width → (IsIn done (source.x + k) (source.y + row) → ⊥)
     → ((x y : ℕ) → x < width → color_in pixels width x y ≡ cond (is_in done x y) (copied_picture source area before x y) (before x y))
     → pixel_color_at pixels (row_start width source row + k) ≡ copied_picture source area before (area.x + k) (area.y + row)
@@ -191,7 +191,7 @@ row_copied pixels new width source area done before row columns source_columns o
       ∙ ap (λ (i : ℕ). pixel_color_at pixels i) there
       ∙ source_left pixels width source area done before row k (omega (arith, source_columns, lt)) (off k) so_far;
   before = λ i lt. ap color_of (below i black_pixel lt);
-  behind = λ i le. ap color_of (above i black_pixel le);
+  following = λ i le. ap color_of (above i black_pixel le);
 }
 
 -- the length of a range
@@ -213,7 +213,7 @@ written pixels line bytes start n from fits len colors =
       colors = λ k lt. colors k (omega arith) ∙ ap (λ (m : ℕ). host_color (pixel_at (take m (drop (4 * from) bytes)) k)) (range_len (4 * from) (4 * n));
     }
 
--- where the places in front have a colour, so have those to the end of the part behind them that is
+-- if the pixels in front have a colour, so have those to the end of the part after them that is
 -- given it
 pub filled_further : (row line : List Pixel) (start end : ℕ) (color : Color) → start ≤ end → end ≤ length row → length line ≡ end - start
     → ((k : ℕ) → k < start → pixel_color_at row k ≡ color) → ((k : ℕ) → k < end - start → pixel_color_at line k ≡ color)

@@ -1,7 +1,7 @@
 -- Reading an area row by row.
 use Rattle.std.proofs.Common.{◌≡◌, ℕ, ◌+◌, ◌-◌, ◌*◌, ◌<◌, ◌≤◌, List, [], ◌++◌, length, take, drop, get_or, inl, inr, sym, ap, ◌∙◌, arith, rules, subst}
 use Rattle.std.proofs.lemmas.Bool.{cases_lt}
-use Rattle.std.proofs.lemmas.List.{places, length-take, length-drop, length-append, take_at, drop-drop, drop_all, append-nil, get_or_default}
+use Rattle.std.proofs.lemmas.List.{slots, length-take, length-drop, length-append, take_at, drop-drop, drop_all, append-nil, get_or_default}
 use Rattle.std.proofs.lemmas.Nat.{mul-add-lt}
 use Rattle.std.proofs.Math.Nat.{mul-le-mul_left}
 use borrow.Rule.Slice.PartMut.{put_mid}
@@ -12,15 +12,15 @@ use Rattle.terms.specs.declared.area.Area.{Area}
 use Rattle.painter.specs.declared.pixel.Pixel.{Pixel}
 use Rattle.painter.specs.Framebuffer.{Framebuffer, color_at, AppendsColors}
 use Rattle.painter.specs.Pixels.{black_pixel, color_of, pixel_color_at, color_in}
-use Rattle.painter.proofs.Places.{below_part, in_part}
+use Rattle.painter.proofs.Region.{below_part, in_part}
 
--- a place of a part of the pixels
+-- a pixel of a part of the pixels
 pixel_of_part : (pixels : List Pixel) (start n k : ℕ) → k < n → pixel_color_at (take n (drop start pixels)) k ≡ pixel_color_at pixels (start + k)
 pixel_of_part pixels start n k lt =
-    let here : get_or (take n (drop start pixels)) k black_pixel ≡ get_or pixels (start + k) black_pixel = search (rules, places) in
+    let here : get_or (take n (drop start pixels)) k black_pixel ≡ get_or pixels (start + k) black_pixel = search (rules, slots) in
     ap color_of here
 
--- a row that was read: the colours of a part of the pixels, in as many places of the colours
+-- a row that was read: the colours of a part of the pixels, in as many elements of the colours
 pub record ReadsRow (pixels : List Pixel) (colors line : List Color) (width w left top row : ℕ) : Type 0 where
   pub fits : row * w + w ≤ length colors
   pub len : length line ≡ w
@@ -76,14 +76,14 @@ screen_more pixels colors line width w left top row n read so_far k lt =
     elim (cases_lt k (row * w)) [
       | inl before ↦
           subst IsScreenColor (sym (below_part (row * w) n colors line k black (omega arith) before)) (so_far k before)
-      | inr behind ↦
+      | inr following ↦
           let within : k - row * w < w = omega arith in
           let at : row * w + (k - row * w) ≡ k = omega arith in
           subst (λ (i : ℕ). IsScreenColor (nth (put_mid (row * w) n colors line) i)) at
           (subst IsScreenColor (sym (in_part (row * w) n colors line (k - row * w) black (omega arith) (omega arith))) (read.screen (k - row * w) within))
     ]
 
--- colours that are written into the room behind a list are appended to it
+-- colours that are written into the room after a list are appended to it
 pub colors_appended : (screen : Framebuffer) (area : Area) (old room pad all colors : List Color) (start size : ℕ) → start ≡ length old → size ≡ start + area.h * area.w
     → room ≡ old ++ pad → length pad ≡ area.h * area.w → all ≡ room → length colors ≡ length (take (length all - start) (drop start all))
     → ((x y : ℕ) → x < area.w → y < area.h → rows_of colors area.w x y ≡ color_at screen (area.x + x) (area.y + y))

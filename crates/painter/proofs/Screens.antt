@@ -33,7 +33,7 @@ use Rattle.painter.proofs.Order.{no_rectangle, last_painted, agree_data, agree_r
 
 -- the screen of these pixels
 abbrev pub screen_of : ℕ → ℕ → List Pixel → Framebuffer
-screen_of width height pixels = record { width = width; height = height; places = map color_of pixels }
+screen_of width height pixels = record { width = width; height = height; slots = map color_of pixels }
 
 -- its colours are those of the pixels
 pub color_is : (pixels : List Pixel) (k : ℕ) → get_or (map color_of pixels) k (color_of black_pixel) ≡ pixel_color_at pixels k

@@ -1,4 +1,4 @@
--- The colours of the places of an area, row by row.
+-- The colours of the pixels of an area, row by row.
 use Rattle.std.proofs.Common.{◌≡◌, ℕ, zero, suc, ◌+◌, ◌*◌, ◌%◌, ◌<◌, ◌≤◌, List, ◌++◌, length, take, drop, get_or, map, sym, ap, subst, ◌∙◌, arith, length-append}
 use Rattle.std.specs.Prelude.{All}
 use Rattle.std.specs.List.{flat_map, range_with_len}
@@ -29,7 +29,7 @@ sent_is f width height pixels area =
     rows_mapped (converted f) (row_colors (screen_of width height pixels) area) (λ row. seen_colors f (take area.w (drop ((area.y + row) * width + area.x) pixels)))
     (λ row. row_mapped (converted f) area.w ((area.y + row) * width + area.x) pixels) (range_with_len 0 area.h)
 
--- ---- places of rows that stand one behind the other
+-- ---- pixels of rows that come one after the other
 
 rows_long : {X : Type 0} (g : ℕ → List X) (w a n : ℕ) → ((k : ℕ) → k < a + n → length (g k) ≡ w) → length (flat_map g (range_with_len a n)) ≡ n * w
 rows_long g w a zero long = omega arith
@@ -69,15 +69,15 @@ all_screen : (pixels : List Pixel) → All IsScreenColor (map color_of pixels)
 all_screen pixels k d less =
     subst IsScreenColor (sym (get_or-map color_of pixels k black_pixel d (omega (arith, length-map pixels color_of)))) (screen_color (get_or pixels k black_pixel))
 
--- they are those of its places
+-- they are those of its pixels
 pub colors_are : (width height : ℕ) (pixels : List Pixel) (area : Area) → length pixels ≡ height * width → area.x + area.w ≤ width → area.y + area.h ≤ height
     → AreColorsOf (screen_of width height pixels) area (area_colors (screen_of width height pixels) area)
 colors_are width height pixels area size columns rows =
     let screen = screen_of width height pixels in
     let w = area.w in
-    let places_are = screen.places in
-    let many : length places_are ≡ height * width = length-map pixels color_of ∙ size in
-    let fits : (k : ℕ) → k < area.h → (area.y + k) * width + area.x + w ≤ length places_are = λ k down.
+    let slots_are = screen.slots in
+    let many : length slots_are ≡ height * width = length-map pixels color_of ∙ size in
+    let fits : (k : ℕ) → k < area.h → (area.y + k) * width + area.x + w ≤ length slots_are = λ k down.
     let below : area.y + k + 1 ≤ height = omega arith in
     omega (arith, many, mul-le-mul_left width below) in
     let long : (k : ℕ) → k < 0 + area.h → length (row_colors screen area k) ≡ w = λ k down. let room = fits k (omega arith) in simp (length-take, length-drop) (omega arith) in
@@ -91,8 +91,8 @@ colors_are width height pixels area size columns rows =
           let none : 0 + y ≡ y = omega arith in
           nth_of_rows (row_colors screen area) w 0 area.h x y long across down
           ∙ ap (λ (k : ℕ). nth (row_colors screen area k) x) none
-          ∙ get_or-take w (drop ((area.y + y) * width + area.x) places_are) x black across
-          ∙ get_or-drop ((area.y + y) * width + area.x) places_are x black
-          ∙ ap (nth places_are) at;
+          ∙ get_or-take w (drop ((area.y + y) * width + area.x) slots_are) x black across
+          ∙ get_or-drop ((area.y + y) * width + area.x) slots_are x black
+          ∙ ap (nth slots_are) at;
       each = subst (All IsScreenColor) (sym mapped) (all_screen _);
     }

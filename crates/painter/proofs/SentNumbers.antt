@@ -39,12 +39,12 @@ numbers_are f colors numbers long each = record {
 all_joined : (f : Format) (a b : List ℕ) → All (IsNumber f) a → All (IsNumber f) b → All (IsNumber f) (a ++ b)
 all_joined f a b first second k d less = elim (cases_lt k (length a)) [
   | inl below ↦ subst (IsNumber f) (sym (get_or-append a b d k below)) (first k d below)
-  | inr behind ↦
+  | inr following ↦
       let at : length a + (k - length a) ≡ k = omega arith in
-      subst (IsNumber f) (sym (get_or-append-add a b (k - length a) d) ∙ ap (λ (n : ℕ). get_or (a ++ b) n d) at) (second (k - length a) d (omega (arith, less, length-append a b, behind)))
+      subst (IsNumber f) (sym (get_or-append-add a b (k - length a) d) ∙ ap (λ (n : ℕ). get_or (a ++ b) n d) at) (second (k - length a) d (omega (arith, less, length-append a b, following)))
 ]
 
--- numbers of some colours, and behind them those of others
+-- numbers of some colours, and after them those of others
 pub numbers_join : (f : Format) → Joins (AreNumbersOf f)
 numbers_join f a b p q first second = record {
   colors_are = map-append (number_color f) p q ∙ ap (λ z. z ++ map (number_color f) q) first.colors_are ∙ ap (λ z. a ++ z) second.colors_are;
@@ -54,14 +54,14 @@ numbers_join f a b p q first second = record {
 pub no_numbers : (f : Format) → AreNumbersOf f [] []
 no_numbers f = record { colors_are = refl; each = λ k d less. absurd (omega arith) }
 
--- the numbers of a row's places
+-- the numbers of a row's pixels
 abbrev pub AreRowNumbers : Format → List Pixel → List ℕ → Type 0
 AreRowNumbers f row = AreNumbersOf f (seen_colors f row)
 
 pub row_numbers_join : (f : Format) → Joins (AreRowNumbers f)
 row_numbers_join f = joins_mapped (λ p. converted f (color_of p)) (AreNumbersOf f) (numbers_join f)
 
--- what was appended, where it was
+-- what was appended, if it was
 pub ok_appended : {T E : Type 0} (r : Result T E) (P : List ℕ → Type 0) (old new more : List ℕ) → new ≡ cond (is_ok r) (old ++ more) old → P more → OnOk r (Appends P old new)
 ok_appended (Ok x) P old new more is has = record { bytes = more; is = is; are = has }
 ok_appended (Err e) P old new more is has = tt

@@ -31,7 +31,7 @@ same_color c = rw (same_channel c.r, same_channel c.g, same_channel c.b) refl
 small_channel : (n : ℕ) → n % 256 ≤ 255
 small_channel n = omega arith
 
--- what a screen keeps for a place is the number of its pixel there
+-- what a screen keeps for a pixel is the pixel's number
 pub host_number : (p : Pixel) → IsNumber host_format p.number
 host_number p =
     let short = p.short in
@@ -55,7 +55,7 @@ row_more f row bytes pixel k s d color e size lt whole done put back is =
     let here : color ≡ nth all k = is ∙ sym (get_or-map (λ p. converted f (color_of p)) row k d black lt) in
     pixel_more f all bytes pixel k s e room (omega arith) whole done (record { bytes_are = put ∙ ap (pixel_of f) here; color_is = back ∙ here })
 
--- the pixels of a row's places
+-- the pixels of a row
 abbrev pub AreRowPixels : Format → List Pixel → List ℕ → Type 0
 AreRowPixels f row = ArePixels f (seen_colors f row)
 
@@ -88,7 +88,7 @@ rows_mapped h g k each (n ∷ ns) = map-append h (g n) (flat_map g ns) ∙ ap (�
 pub grows_so_far : {P : List ℕ → Type 0} (old between new : List ℕ) → Appends P old between → Grows between new → Grows old new
 grows_so_far old between new first more = grows_more old between new (record { bytes = first.bytes; is = first.is; are = tt }) more
 
--- what follows where two answers are one
+-- what follows if two answers are one
 pub both_ok : {T E : Type 0} (r a : Result T E) (A B C : Type 0) → r ≡ a → OnOk a A → OnOk r B → (A → B → C) → OnOk r C
 both_ok (Ok x) a A B C same first second both = both (subst (λ z. OnOk z A) (sym same) first) second
 both_ok (Err e) a A B C same first second both = tt

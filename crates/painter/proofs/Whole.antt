@@ -1,4 +1,4 @@
--- A rectangle of all places, in Raw or Hextile, hides what stood there.
+-- A rectangle of all pixels, in Raw or Hextile, hides what stood there.
 use Rattle.std.proofs.Common.{◌≡◌, ◌⊎◌, ℕ, true, List, [], ◌∷◌, length, get_or, inl, inr, refl, sym, subst, ap, ◌∙◌, arith}
 use Rattle.std.specs.Prelude.{◌↔◌, slice_range}
 use Rattle.pixel_format.specs.Format.{host_format}
@@ -14,7 +14,7 @@ use Rattle.painter.specs.Framebuffer.{Framebuffer, color_at, SameSize, Has, IsSa
 use Rattle.painter.specs.Picture.{painted_rectangle, painted_rectangles, painted_message}
 use Rattle.painter.specs.Key.{whole_area, IsWhole, IsKey}
 use Rattle.painter.proofs.Order.{one_more, no_rectangles}
-use Rattle.painter.proofs.Places.{is_in_true}
+use Rattle.painter.proofs.Region.{is_in_true}
 
 -- the encodings that don't look at what stood there
 shown_alone : (e : Encoding) (area : Area) (bytes : List ℕ) (p q : Picture) → (e ≡ Raw) ⊎ (e ≡ Hextile)

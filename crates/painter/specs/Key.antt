@@ -7,16 +7,16 @@ use Rattle.rfb_wire.specs.declared.message.Rectangle.{Rectangle}
 use Rattle.rfb_wire.specs.Host.{Host}
 use Rattle.painter.specs.Picture.{painted_message}
 
--- all places of a screen of this size
+-- all pixels of a screen of this size
 abbrev pub whole_area : ℕ → ℕ → Area
 whole_area width height = record { x = 0; y = 0; w = width; h = height }
 
--- a rectangle of all places, in an encoding that doesn't look at what stood there
+-- a rectangle of all pixels, in an encoding that doesn't look at what stood there
 pub record IsWhole (width height : ℕ) (r : Rectangle) : Type 0 where
   pub area : r.area ≡ whole_area width height
   pub encoding : (r.encoding ≡ Raw) ⊎ (r.encoding ≡ Hextile)
 
--- The message is for a screen of this size. It has one rectangle, over all places, and paints this
+-- The message is for a screen of this size. It has one rectangle, over all pixels, and paints this
 -- picture over any other.
 pub record IsKey (width height : ℕ) (picture : Picture) (m : Host) : Type 0 where
   pub width_is : m.width ≡ width

@@ -1,4 +1,4 @@
--- The colours of places as numbers of pixels.
+-- The colours of pixels as numbers.
 use Rattle.std.specs.Prelude.{◌≡◌, ℕ, List, All, map}
 use Rattle.pixel_format.specs.declared.Color.{Color}
 use Rattle.pixel_format.specs.Format.{Format}

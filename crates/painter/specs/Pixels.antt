@@ -24,7 +24,7 @@ black_pixel = record { number = 0; short = lit< tt }
 abbrev pub pixel_color_at : List Pixel → ℕ → Color
 pixel_color_at pixels k = color_of (slice_index_or pixels k black_pixel)
 
--- the colour at a place of pixels that are kept by rows
+-- the colour of one of the pixels that are kept by rows
 abbrev pub color_in : List Pixel → ℕ → ℕ → ℕ → Color
 color_in pixels width x y = pixel_color_at pixels (y * width + x)
 

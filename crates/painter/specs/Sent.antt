@@ -1,4 +1,4 @@
--- What is sent of a screen: the colours of the places of an area, as a viewer's format has them.
+-- What is sent of a screen: the colours of the pixels of an area, as a viewer's format has them.
 use Rattle.std.specs.Prelude.{ℕ, ◌+◌, ◌*◌, List, map, take, drop}
 use Rattle.std.specs.List.{flat_map, range_with_len}
 use Rattle.pixel_format.specs.declared.Color.{Color}
@@ -9,11 +9,11 @@ use Rattle.painter.specs.declared.pixel.Pixel.{Pixel}
 use Rattle.painter.specs.Framebuffer.{Framebuffer}
 use Rattle.painter.specs.Pixels.{color_of}
 
--- the colours of the places of an area in one of its rows, from the left
+-- the colours of the pixels of an area in one of its rows, from the left
 abbrev pub row_colors : Framebuffer → Area → ℕ → List Color
-row_colors screen area row = take area.w (drop ((area.y + row) * screen.width + area.x) screen.places)
+row_colors screen area row = take area.w (drop ((area.y + row) * screen.width + area.x) screen.slots)
 
--- and of all its places, by rows from the top
+-- and of all its pixels, by rows from the top
 abbrev pub area_colors : Framebuffer → Area → List Color
 area_colors screen area = flat_map (row_colors screen area) (range_with_len 0 area.h)
 

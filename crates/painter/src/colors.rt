@@ -1,4 +1,4 @@
-//! Reading the colours of areas of places that are kept by rows.
+//! Reading the colours of areas of pixels that are kept by rows.
 
 ghost use Rattle.std.specs.Prelude.{◌≡◌, ◌+◌, ◌*◌, ◌<◌, ◌≤◌, ℕ, length};
 ghost use Rattle.pixel_format.specs.Pixel.{IsScreenColor};
@@ -10,7 +10,7 @@ use crate::row::{area_row, color_of_pixel};
 use pixel_format::Color;
 use terms::Area;
 
-// The colours of a row of places.
+// The colours of a row of pixels.
 fn read_row(pixels: &[Pixel], colors: &mut [Color])
     requires { length pixels.now ≡ length colors.old }
     ensures value { (k : ℕ) → k < length colors.old → nth colors.new k ≡ pixel_color_at pixels.now k }
@@ -21,7 +21,7 @@ fn read_row(pixels: &[Pixel], colors: &mut [Color])
     }
 }
 
-/// The colours of the places of an area, row by row.
+/// The colours of the pixels of an area, row by row.
 pub(crate) fn read_area(pixels: &[Pixel], width: u16, area: Area, colors: &mut [Color])
     requires columns { area.x + area.w ≤ width }
     requires rows { (area.y + area.h) * width ≤ length pixels.now }
@@ -33,7 +33,7 @@ pub(crate) fn read_area(pixels: &[Pixel], width: u16, area: Area, colors: &mut [
     let w = usize::from(area.w);
     for row in 0..usize::from(area.h) {
         let from = row * w;
-        let places = area_row(pixels, width, area, row);
-        read_row(places, &mut colors[from..from + w]);
+        let slots = area_row(pixels, width, area, row);
+        read_row(slots, &mut colors[from..from + w]);
     }
 }

@@ -12,21 +12,21 @@ use rfb_wire::{Encoding, HostMessage, Rectangle};
 use std::alloc::{AllocError, Global};
 use terms::{Area, NoMemory, ScreenSize};
 
-// Whether the rectangle is one of all places of a screen of this size, in an encoding that doesn't
+// Whether the rectangle is one of all pixels of a screen of this size, in an encoding that doesn't
 // look at what stood there.
 fn is_whole(size: ScreenSize, rectangle: Rectangle) -> bool
     ensures { IsTrue result ↔ IsWhole size.width size.height rectangle }
 {
     let area = rectangle.area;
-    let of_all_places = area.x == 0 && area.y == 0 && area.w == size.width && area.h == size.height;
-    of_all_places && matches!(rectangle.encoding, Encoding::Raw | Encoding::Hextile)
+    let of_all_pixels = area.x == 0 && area.y == 0 && area.w == size.width && area.h == size.height;
+    of_all_pixels && matches!(rectangle.encoding, Encoding::Raw | Encoding::Hextile)
 }
 
 impl Screen {
     /// An update that paints the screen over whatever stood there (RFC 6143, section 7.6.1), for a
-    /// recording of this format: one rectangle over the whole screen, in Hextile where that is
-    /// shorter than Raw and else in Raw. It has at most 16 bytes and 4 more for each place. It is for
-    /// a screen within the limits of the format.
+    /// recording of this format: one rectangle over the whole screen, in Hextile if that is shorter
+    /// than Raw and else in Raw. It has at most 16 bytes and 4 more for each pixel. It is for a
+    /// screen within the limits of the format.
     pub fn key(&self, alloc: Global, format: Format) -> Result<HostMessage, NoMemory>
         requires { self.now.width * self.now.height ≤ (limits format).area }
         ensures format { IfOk result (λ m. m.format ≡ format) }
@@ -41,13 +41,13 @@ impl Screen {
             h: size.height,
         };
         self.known_colors();
-        let places = ScreenPart::Places {
+        let slots = ScreenPart::Region {
             area,
             encoding: Encoding::Hextile,
         };
         let host = PixelFormat::host();
         let mut bytes = Vec::new(alloc);
-        self.append_update(alloc, &host, &[places], &mut bytes)?;
+        self.append_update(alloc, &host, &[slots], &mut bytes)?;
         match HostMessage::from_bytes_in(alloc, RecordedScreen { format, size }, &bytes) {
             Ok(message) => Ok(message),
             Err(_) => Err(AllocError),

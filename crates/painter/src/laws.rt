@@ -11,9 +11,9 @@ ghost use Rattle.pixel_format.specs.declared.Color.{Color};
 ghost use Rattle.terms.specs.declared.area.Area.{Area};
 ghost use Rattle.rect_data.specs.declared.encoding.Encoding.{Encoding};
 
-/// What `rect_codec::write_update` appends in the host format, for an area within the screen, is one
-/// message of one rectangle where it is no longer than a message may be. Painted over any picture, it
-/// gives the places of the area the colours, and leaves the others as they were.
+/// What `rect_codec::write_update` appends in the host format, for an area within the screen, is
+/// one message of one rectangle if it is no longer than a message may be. Painted over any picture,
+/// it gives the pixels of the area the colours, and leaves the others as they were.
 pub fn written_update_paints()
     ensures { (format : Format) → (width height : ℕ) → (area : Area) → (colors : List Color) → (asked : Encoding)
         → (bytes : List ℕ) → IsUpdateFor host_format area colors asked bytes

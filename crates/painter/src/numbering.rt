@@ -1,4 +1,4 @@
-//! The pixels of areas of places as numbers of a viewer's format.
+//! The pixels of areas as numbers of a viewer's format.
 
 ghost use Rattle.std.specs.Prelude.{◌≡◌, ◌+◌, ◌*◌, ◌<◌, ◌≤◌, ℕ, OnOk, length, slice_index};
 ghost use Rattle.pixel_format.specs.Canvas.{nth};
@@ -17,13 +17,13 @@ use terms::{Area, NoMemory};
 // How many numbers are appended at once.
 const AT_ONCE: usize = 256;
 
-// The numbers of a row of places in the host's format: they are copied.
+// The numbers of a row of pixels in the host's format: they are copied.
 fn number_host(row: &[Pixel], numbers: &mut [u32])
     requires { length numbers.old ≡ length row.now }
     ensures { (k : ℕ) → k < length row.now → HasNumber host_format (nth (seen_colors host_format row.now) k) (slice_index numbers.new k) }
 {
-    for (k, place) in row.iter().enumerate() {
-        numbers[k] = place.number;
+    for (k, slot) in row.iter().enumerate() {
+        numbers[k] = slot.number;
     }
 }
 
@@ -33,8 +33,8 @@ fn number_small(format: &PixelFormat, row: &[Pixel], numbers: &mut [u32])
     requires room { length numbers.old ≡ length row.now }
     ensures { (k : ℕ) → k < length row.now → HasNumber format.now (nth (seen_colors format.now row.now) k) (slice_index numbers.new k) }
 {
-    for (k, place) in row.iter().enumerate() {
-        numbers[k] = format.number_of(format.convert_small(color_of_pixel(*place)));
+    for (k, slot) in row.iter().enumerate() {
+        numbers[k] = format.number_of(format.convert_small(color_of_pixel(*slot)));
     }
 }
 
@@ -43,12 +43,12 @@ fn number_any(format: &PixelFormat, row: &[Pixel], numbers: &mut [u32])
     requires { length numbers.old ≡ length row.now }
     ensures { (k : ℕ) → k < length row.now → HasNumber format.now (nth (seen_colors format.now row.now) k) (slice_index numbers.new k) }
 {
-    for (k, place) in row.iter().enumerate() {
-        numbers[k] = format.number_of(format.convert(color_of_pixel(*place)));
+    for (k, slot) in row.iter().enumerate() {
+        numbers[k] = format.number_of(format.convert(color_of_pixel(*slot)));
     }
 }
 
-// The numbers of a row of places.
+// The numbers of a row of pixels.
 fn number_row(format: &PixelFormat, row: &[Pixel], numbers: &mut [u32])
     requires { length numbers.old ≡ length row.now }
     ensures { (k : ℕ) → k < length row.now → HasNumber format.now (nth (seen_colors format.now row.now) k) (slice_index numbers.new k) }
@@ -62,8 +62,8 @@ fn number_row(format: &PixelFormat, row: &[Pixel], numbers: &mut [u32])
     }
 }
 
-// Appends the numbers of so few places that the block has room for them. There they are put together
-// first: so what they are appended to need not be cleared.
+// Appends the numbers of so few pixels that the block has room for them. There they are put
+// together first: so what they are appended to need not be cleared.
 fn append_some(
     format: &PixelFormat,
     row: &[Pixel],
@@ -78,7 +78,7 @@ fn append_some(
     out.extend_from_slice(&block[..count])
 }
 
-// Appends the numbers of a row of places.
+// Appends the numbers of a row of pixels.
 fn append_row(
     format: &PixelFormat,
     row: &[Pixel],
@@ -89,15 +89,15 @@ fn append_row(
 {
     let mut rest = row;
     while !rest.is_empty() {
-        let (some, behind) = rest.split_at(rest.len().min(AT_ONCE));
+        let (some, following) = rest.split_at(rest.len().min(AT_ONCE));
         append_some(format, some, block, out)?;
-        rest = behind;
+        rest = following;
     }
     Ok(())
 }
 
-/// Appends the numbers of the pixels of the places of an area, row by row. Running out of memory
-/// may leave a part of them.
+/// Appends the numbers of the pixels of an area, row by row. Running out of memory may leave a part
+/// of them.
 pub(crate) fn number_area(
     format: &PixelFormat,
     pixels: &[Pixel],
@@ -112,8 +112,8 @@ pub(crate) fn number_area(
     out.reserve(usize::from(area.h) * usize::from(area.w))?;
     let mut block = [0; AT_ONCE];
     for row in 0..usize::from(area.h) {
-        let places = area_row(pixels, width, area, row);
-        append_row(format, places, &mut block, out)?;
+        let slots = area_row(pixels, width, area, row);
+        append_row(format, slots, &mut block, out)?;
     }
     Ok(())
 }

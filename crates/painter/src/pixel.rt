@@ -1,9 +1,9 @@
-//! What a screen keeps for a place.
+//! What a screen keeps for a pixel.
 
 ghost use Rattle.std.specs.Prelude.{◌<◌, ◌^◌};
 
-/// The colour of a place: the number of its pixel in the host's format, lowest byte first, whose
-/// unused highest byte is 0.
+/// The colour of a pixel: its number in the host's format, lowest byte first, whose unused highest
+/// byte is 0.
 #[derive(Clone, Copy, PartialEq)]
 pub(crate) struct Pixel {
     pub(crate) number: u32,

@@ -1,4 +1,4 @@
-//! Painting areas of places that are kept by rows.
+//! Painting areas of pixels that are kept by rows.
 
 ghost use Rattle.std.specs.Prelude.{◌≡◌, ◌+◌, ◌*◌, ◌<◌, ◌≤◌, length};
 ghost use Rattle.std.specs.List.{CopiedTo, SameBelow, SameFrom};
@@ -26,7 +26,7 @@ pub(crate) fn paint_raw(pixels: &mut [Pixel], width: u16, area: Area, bytes: &[u
     }
 }
 
-// Gives the places of an area one colour, row by row.
+// Gives the pixels of an area one colour, row by row.
 #[inline(always)]
 fn fill_rows(pixels: &mut [Pixel], width: u16, area: Area, pixel: Pixel, at_once: bool)
     requires { LiesIn width (length pixels.old) area }
@@ -49,7 +49,7 @@ fn fill_wide_area(pixels: &mut [Pixel], width: u16, area: Area, pixel: Pixel)
     fill_rows(pixels, width, area, pixel, true);
 }
 
-/// Gives the places of an area one colour.
+/// Gives the pixels of an area one colour.
 #[inline(always)]
 pub(crate) fn fill_area(pixels: &mut [Pixel], width: u16, area: Area, pixel: Pixel)
     requires { LiesIn width (length pixels.old) area }
@@ -62,7 +62,7 @@ pub(crate) fn fill_area(pixels: &mut [Pixel], width: u16, area: Area, pixel: Pix
     }
 }
 
-// Copies so many places to others, which they may overlap. Where they don't, the copy is one of
+// Copies so many pixels to others, which they may overlap. If they don't, the copy is one of
 // memory.
 fn copy_row(pixels: &mut [Pixel], from: usize, to: usize, count: usize)
     requires source { from + count ≤ length pixels.old }
@@ -70,7 +70,7 @@ fn copy_row(pixels: &mut [Pixel], from: usize, to: usize, count: usize)
     ensures length { length pixels.new ≡ length pixels.old }
     ensures copied { CopiedTo pixels.old pixels.new from to count }
     ensures below { SameBelow pixels.old pixels.new to }
-    ensures behind { SameFrom pixels.old pixels.new (to + count) }
+    ensures following { SameFrom pixels.old pixels.new (to + count) }
 {
     if from + count <= to {
         let (front, back) = pixels.split_at_mut(to);

@@ -1,4 +1,4 @@
-//! Pixels of places, one by one and in rows.
+//! Pixels, one by one and in rows.
 
 ghost use Rattle.std.specs.Prelude.{◌≡◌, ◌<◌, ◌≤◌, ◌+◌, ◌*◌, ℕ, length, take, drop};
 ghost use Rattle.pixel_format.specs.Pixel.{host_color, IsScreenColor};
@@ -9,13 +9,13 @@ use byteorder::{ByteOrder, LittleEndian};
 use pixel_format::Color;
 use terms::Area;
 
-// How many places of a long row are filled at once.
+// How many pixels of a long row are filled at once.
 const AT_ONCE: usize = 32;
 
-/// How many places a row of a whole Hextile tile has.
+/// How many pixels a row of a whole Hextile tile has.
 pub(crate) const TILE: usize = 16;
 
-/// The places of a row of an area, counted from its top, among pixels that are kept by rows.
+/// The pixels of a row of an area, counted from its top, among pixels that are kept by rows.
 #[inline(always)]
 pub(crate) fn area_row(pixels: &[Pixel], width: u16, area: Area, row: usize) -> &[Pixel]
     requires columns { area.x + area.w ≤ width }
@@ -60,27 +60,27 @@ fn host_pixel_of(bytes: [u8; 4]) -> Pixel
     }
 }
 
-/// Writes a row of places from as many pixels of the host's format.
+/// Writes a row of pixels from as many pixels of the host's format.
 pub(crate) fn paint_row(row: &mut [Pixel], bytes: &[u8])
     requires { length bytes.now ≡ 4 * length row.old }
     ensures { (k : ℕ) → k < length row.old → pixel_color_at row.new k ≡ host_color (pixel_at bytes.now k) }
 {
     let (pixels, _) = bytes.as_chunks::<4>();
-    for (k, place) in row.iter_mut().enumerate() {
-        *place = host_pixel_of(pixels[k]);
+    for (k, slot) in row.iter_mut().enumerate() {
+        *slot = host_pixel_of(pixels[k]);
     }
 }
 
-// Gives places one colour, one by one.
-fn fill_places(row: &mut [Pixel], pixel: Pixel)
+// Gives pixels one colour, one by one.
+fn fill_slots(row: &mut [Pixel], pixel: Pixel)
     ensures { (k : ℕ) → k < length row.old → pixel_color_at row.new k ≡ color_of pixel }
 {
-    for place in row.iter_mut() {
-        *place = pixel;
+    for slot in row.iter_mut() {
+        *slot = pixel;
     }
 }
 
-// Gives a long row one colour, so many places at once that the compiler writes them by vectors.
+// Gives a long row one colour, so many pixels at once that the compiler writes them by vectors.
 fn fill_long_row(row: &mut [Pixel], pixel: Pixel)
     ensures { (k : ℕ) → k < length row.old → pixel_color_at row.new k ≡ color_of pixel }
 {
@@ -89,16 +89,16 @@ fn fill_long_row(row: &mut [Pixel], pixel: Pixel)
         row[start..start + AT_ONCE].copy_from_slice(&[pixel; AT_ONCE]);
     }
     let filled = row.len() / AT_ONCE * AT_ONCE;
-    fill_places(&mut row[filled..], pixel);
+    fill_slots(&mut row[filled..], pixel);
 }
 
-/// Gives a row of places one colour, one by one or, where it is worth that, many at once.
+/// Gives a row of pixels one colour, one by one or, if it is worth that, many at once.
 #[inline(always)]
 pub(crate) fn fill_row(row: &mut [Pixel], pixel: Pixel, at_once: bool)
     ensures { (k : ℕ) → k < length row.old → pixel_color_at row.new k ≡ color_of pixel }
 {
     if !at_once {
-        fill_places(row, pixel);
+        fill_slots(row, pixel);
     } else if let Some(tile) = row.as_mut_array::<TILE>() {
         *tile = [pixel; TILE];
     } else {

@@ -28,7 +28,7 @@ use std::alloc::Global;
 use std::marker::Model;
 use terms::{Area, NoMemory, ScreenSize, whole_or_none};
 
-/// A screen: a colour for each of its places. It takes four bytes a place.
+/// A screen: a colour for each of its pixels. It takes four bytes a pixel.
 #[derive(Drop)]
 pub struct Screen {
     size: ScreenSize,
@@ -43,7 +43,7 @@ impl Model for Screen {
 
     ghost Value = { Framebuffer };
 
-    ghost view = { λ s. record { width = s.size.width; height = s.size.height; places = map color_of s.pixels.items } };
+    ghost view = { λ s. record { width = s.size.width; height = s.size.height; slots = map color_of s.pixels.items } };
 
     ghost invariant = { λ s. vec_len s.pixels ≡ s.size.height * s.size.width };
 }
@@ -56,8 +56,8 @@ impl Screen {
         ensures black { IfOk result (λ screen. Has screen black) }
         ensures shows { IfOk result (λ screen. Shows screen []) }
     {
-        let places = usize::from(size.width) * usize::from(size.height);
-        let pixels = vec![in alloc; BLACK; places]?;
+        let slots = usize::from(size.width) * usize::from(size.height);
+        let pixels = vec![in alloc; BLACK; slots]?;
         Ok(Screen { size, pixels })
     }
 
@@ -68,7 +68,7 @@ impl Screen {
         self.size
     }
 
-    /// The colour at a place: column x of row y, counted from 0 at the left and the top. Its
+    /// The colour of a pixel: column x of row y, counted from 0 at the left and the top. Its
     /// channels are at most 255.
     pub fn color(&self, x: u16, y: u16) -> Color
         requires column { x < self.now.width }
@@ -76,11 +76,11 @@ impl Screen {
         ensures value { result ≡ color_at self.now x y }
         ensures screen { IsScreenColor result }
     {
-        let place = usize::from(y) * usize::from(self.size.width) + usize::from(x);
-        color_of_pixel(self.pixels[place])
+        let slot = usize::from(y) * usize::from(self.size.width) + usize::from(x);
+        color_of_pixel(self.pixels[slot])
     }
 
-    /// Appends the colours of the places of an area, by rows from the top and each from the left.
+    /// Appends the colours of the pixels of an area, by rows from the top and each from the left.
     /// Running out of memory leaves `out` as it was.
     pub fn area(&self, area: Area, out: &mut Vec<Color>) -> Result<(), NoMemory>
         requires columns { area.x + area.w ≤ self.now.width }
@@ -89,13 +89,13 @@ impl Screen {
         ensures err { OnErr result (out.new.items ≡ out.old.items) }
     {
         let start = out.len();
-        let places = usize::from(area.h) * usize::from(area.w);
-        out.resize(start + places, color_of_pixel(BLACK))?;
+        let slots = usize::from(area.h) * usize::from(area.w);
+        out.resize(start + slots, color_of_pixel(BLACK))?;
         read_area(&self.pixels, self.size.width, area, &mut out[start..]);
         Ok(())
     }
 
-    /// Which colours `area_colors` are: those of the places of an area, by rows. (It does nothing.)
+    /// Which colours `area_colors` are: those of the pixels of an area, by rows. (It does nothing.)
     pub fn known_colors(&self)
         ensures { (area : Area) → area.x + area.w ≤ self.now.width → area.y + area.h ≤ self.now.height
             → AreColorsOf self.now area (area_colors self.now area) }
@@ -103,9 +103,9 @@ impl Screen {
         let _ = &self.size;
     }
 
-    /// Appends the pixels of the places of an area, by rows from the top and each from the left
-    /// (RFC 6143, section 7.7.1): for each place that of its colour, as the format has it. In the
-    /// host's format they are copied. Running out of memory leaves `out` as it was.
+    /// Appends the pixels of an area, by rows from the top and each from the left (RFC 6143,
+    /// section 7.7.1), as the format has their colours. In the host's format they are copied.
+    /// Running out of memory leaves `out` as it was.
     pub fn append_pixels(
         &self,
         format: &PixelFormat,
@@ -122,7 +122,7 @@ impl Screen {
         whole_or_none(appended, start, out)
     }
 
-    /// The numbers of the pixels of the places of an area, by rows, as a format has them.
+    /// The numbers of the pixels of an area, by rows, as a format has them.
     pub(crate) fn numbers(
         &self,
         alloc: Global,
@@ -138,7 +138,7 @@ impl Screen {
         Ok(numbers)
     }
 
-    /// Whether the other screen is the same: it has this size, and the same colour at each place.
+    /// Whether the other screen is the same: it has this size, and the same colour at each pixel.
     pub fn same(&self, other: &Screen) -> bool
         ensures { IsTrue result ↔ IsSame self.now other.now }
     {

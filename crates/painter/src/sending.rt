@@ -1,4 +1,4 @@
-//! Appending the pixels of areas of places that are kept by rows.
+//! Appending the pixels of areas that are kept by rows.
 
 ghost use Rattle.std.specs.Prelude.{◌≡◌, ◌+◌, ◌*◌, ◌<◌, ◌≤◌, ℕ, OnOk, length};
 ghost use Rattle.pixel_format.specs.Canvas.{nth};
@@ -18,20 +18,20 @@ use terms::{Area, NoMemory};
 // How many pixels are appended at once.
 const AT_ONCE: usize = 256;
 
-// Writes the pixels of a row of places in the host's format: they are copied.
+// Writes a row of pixels in the host's format: they are copied.
 fn put_host(row: &[Pixel], bytes: &mut [u8])
     requires { length bytes.old ≡ length row.now * 4 }
     ensures { (k : ℕ) → k < length row.now → IsPixelOf host_format (nth (seen_colors host_format row.now) k) (wire_pixel host_format bytes.new k) }
 {
     let host = PixelFormat::host();
-    for (k, place) in row.iter().enumerate() {
+    for (k, slot) in row.iter().enumerate() {
         let start = k * 4;
-        host.write_number(place.number, &mut bytes[start..start + 4]);
+        host.write_number(slot.number, &mut bytes[start..start + 4]);
     }
 }
 
-// The number of the pixel of a place's colour, of so many bytes, which the compiler knows: in 16 bits
-// where they hold it.
+// The number of a pixel's colour, for pixels of so many bytes, which the compiler knows: in 16 bits
+// if they hold it.
 #[inline(always)]
 fn small_number(format: &PixelFormat, size: usize, color: Color) -> u32
     requires size { size ≡ pixel_bytes format.now }
@@ -53,9 +53,9 @@ fn put_small(format: &PixelFormat, size: usize, row: &[Pixel], bytes: &mut [u8])
     requires room { length bytes.old ≡ length row.now * size }
     ensures { (k : ℕ) → k < length row.now → IsPixelOf format.now (nth (seen_colors format.now row.now) k) (wire_pixel format.now bytes.new k) }
 {
-    for (k, place) in row.iter().enumerate() {
+    for (k, slot) in row.iter().enumerate() {
         let start = k * size;
-        let number = small_number(format, size, format.convert_small(color_of_pixel(*place)));
+        let number = small_number(format, size, format.convert_small(color_of_pixel(*slot)));
         format.write_number(number, &mut bytes[start..start + size]);
     }
 }
@@ -66,14 +66,14 @@ fn put_any(format: &PixelFormat, size: usize, row: &[Pixel], bytes: &mut [u8])
     requires room { length bytes.old ≡ length row.now * size }
     ensures { (k : ℕ) → k < length row.now → IsPixelOf format.now (nth (seen_colors format.now row.now) k) (wire_pixel format.now bytes.new k) }
 {
-    for (k, place) in row.iter().enumerate() {
+    for (k, slot) in row.iter().enumerate() {
         let start = k * size;
-        let color = format.convert(color_of_pixel(*place));
+        let color = format.convert(color_of_pixel(*slot));
         format.put(color, &mut bytes[start..start + size]);
     }
 }
 
-// Writes the pixels of a row of places: by a loop for each size, in which the compiler knows it.
+// Writes a row of pixels: by a loop for each size, in which the compiler knows it.
 fn put_row(format: &PixelFormat, row: &[Pixel], bytes: &mut [u8])
     requires { length bytes.old ≡ length row.now * pixel_bytes format.now }
     ensures { (k : ℕ) → k < length row.now → IsPixelOf format.now (nth (seen_colors format.now row.now) k) (wire_pixel format.now bytes.new k) }
@@ -93,9 +93,9 @@ fn put_row(format: &PixelFormat, row: &[Pixel], bytes: &mut [u8])
     }
 }
 
-// Appends the pixels of so few places that the block has room for them. There they are put together
-// first: so what they are appended to need not be cleared, and the compiler knows that it is no part
-// of the screen.
+// Appends so few pixels that the block has room for them. There they are put together first: so
+// what they are appended to need not be cleared, and the compiler knows that it is no part of the
+// screen.
 fn append_some(
     format: &PixelFormat,
     row: &[Pixel],
@@ -111,7 +111,7 @@ fn append_some(
     out.extend_from_slice(&block[..size])
 }
 
-// Appends the pixels of a row of places.
+// Appends a row of pixels.
 fn append_row(
     format: &PixelFormat,
     row: &[Pixel],
@@ -123,15 +123,14 @@ fn append_row(
 {
     let mut rest = row;
     while !rest.is_empty() {
-        let (some, behind) = rest.split_at(rest.len().min(AT_ONCE));
+        let (some, following) = rest.split_at(rest.len().min(AT_ONCE));
         append_some(format, some, block, out)?;
-        rest = behind;
+        rest = following;
     }
     Ok(())
 }
 
-/// Appends the pixels of the places of an area, row by row. Running out of memory may leave a part
-/// of them.
+/// Appends the pixels of an area, row by row. Running out of memory may leave a part of them.
 pub(crate) fn append_area(
     format: &PixelFormat,
     pixels: &[Pixel],
@@ -147,8 +146,8 @@ pub(crate) fn append_area(
     out.reserve(usize::from(area.h) * usize::from(area.w) * format.bytes())?;
     let mut block = [0; 4 * AT_ONCE];
     for row in 0..usize::from(area.h) {
-        let places = area_row(pixels, width, area, row);
-        append_row(format, places, &mut block, out)?;
+        let slots = area_row(pixels, width, area, row);
+        append_row(format, slots, &mut block, out)?;
     }
     Ok(())
 }

@@ -16,25 +16,25 @@ use terms::{Area, NoMemory, two_bytes, whole_or_none};
 /// What one rectangle of an update of a screen says (RFC 6143, section 7.7).
 #[derive(Clone, Copy)]
 pub enum ScreenPart {
-    /// The places of the area become those of an area as large, whose left top corner is at this
+    /// The pixels of the area become those of an area as large, whose left top corner is at this
     /// column and row, as the rectangles before it have left them (section 7.7.2).
     Copy {
         area: Area,
         source_x: u16,
         source_y: u16,
     },
-    /// The places of the area get the screen's colours. The rectangle is written in this encoding
-    /// where that makes it shorter than Raw, and else in Raw.
-    Places {
+    /// The pixels of the area get the screen's colours. The rectangle is written in this encoding
+    /// if that makes it shorter than Raw, and else in Raw.
+    Region {
         area: Area,
         encoding: Encoding,
     },
 }
 
 impl Screen {
-    // Appends a rectangle of the places of an area: in this encoding if it is shorter so than in Raw,
-    // and else in Raw.
-    fn append_places(
+    // Appends a rectangle of the pixels of an area: in this encoding if it is shorter so than in
+    // Raw, and else in Raw.
+    fn append_slots(
         &self,
         alloc: Global,
         format: &PixelFormat,
@@ -78,8 +78,8 @@ impl Screen {
                 source_x,
                 source_y,
             } => append_copy(area, source_x, source_y, out),
-            ScreenPart::Places { area, encoding } => {
-                self.append_places(alloc, format, area, encoding, out)
+            ScreenPart::Region { area, encoding } => {
+                self.append_slots(alloc, format, area, encoding, out)
             }
         }
     }

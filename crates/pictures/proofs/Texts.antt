@@ -9,11 +9,11 @@ row_step f picture y x w inside =
     let one : w - x ≡ suc (w - (x + 1)) = omega arith in
     ap (row_text f picture y x) one
 
-pub rows_step : (f : PlainFormat) (picture : Picture) (w h place : ℕ) → place < h
-    → rows_text f picture w h place (h - place) ≡ row_text f picture (row_at f h place) 0 w ++ rows_text f picture w h (place + 1) (h - (place + 1))
-rows_step f picture w h place inside =
-    let one : h - place ≡ suc (h - (place + 1)) = omega arith in
-    ap (rows_text f picture w h place) one
+pub rows_step : (f : PlainFormat) (picture : Picture) (w h slot : ℕ) → slot < h
+    → rows_text f picture w h slot (h - slot) ≡ row_text f picture (row_at f h slot) 0 w ++ rows_text f picture w h (slot + 1) (h - (slot + 1))
+rows_step f picture w h slot inside =
+    let one : h - slot ≡ suc (h - (slot + 1)) = omega arith in
+    ap (rows_text f picture w h slot) one
 
 pub one_more : (out next more left all : List ℕ) → out ++ left ≡ all → left ≡ next ++ more → (out ++ next) ++ more ≡ all
 one_more out next more left all e is = append_assoc out next more ∙ ap (λ z. out ++ z) (sym is) ∙ e

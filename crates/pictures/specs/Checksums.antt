@@ -17,7 +17,7 @@ next_crc c x = crc_bits 8 (bit_xor c x)
 abbrev pub crc32 : List ℕ → ℕ
 crc32 xs = bit_xor (fold next_crc 0xffffffff xs) 0xffffffff
 
--- the sum of the sums behind each byte, of which the first begins with s
+-- the sum of the sums after each byte, of which the first begins with s
 unfoldable pub sum_of_sums : ℕ → List ℕ → ℕ
 sum_of_sums s [] = 0
 sum_of_sums s (x ∷ xs) = (s + x) + sum_of_sums (s + x) xs

@@ -16,9 +16,9 @@ four_bytes n = n % 256 ∷ n / 256 % 256 ∷ n / 65536 % 256 ∷ n / 16777216 �
 unfoldable pub ppm_head : ℕ → ℕ → List ℕ
 ppm_head w h = (80 ∷ 54 ∷ 10 ∷ []) ++ (decimal w ++ ((32 ∷ []) ++ (decimal h ++ (10 ∷ 50 ∷ 53 ∷ 53 ∷ 10 ∷ []))))
 
--- 'BM', the file's length, 0, and where the pixels begin; then the 40 bytes of BITMAPINFOHEADER:
--- its size, width, height, one plane, 32 bits a pixel, no compression, the length of the pixels, and
--- what is left open
+-- 'BM', the file's length, 0, and the offset at which the pixels begin; then the 40 bytes of
+-- BITMAPINFOHEADER: its size, width, height, one plane, 32 bits a pixel, no compression, the length
+-- of the pixels, and what is left open
 unfoldable pub bmp_head : ℕ → ℕ → List ℕ
 bmp_head w h = (66 ∷ 77 ∷ []) ++ (four_bytes (54 + 4 * w * h) ++ (four_bytes 0 ++ (four_bytes 54 ++ (four_bytes 40
     ++ (four_bytes w ++ (four_bytes h ++ (two_bytes 1 ++ (two_bytes 32 ++ (four_bytes 0 ++ (four_bytes (4 * w * h) ++ replicate 16 0))))))))))
@@ -37,15 +37,15 @@ abbrev pub row_text : PlainFormat → Picture → ℕ → ℕ → ℕ → List �
 row_text f picture y x zero = []
 row_text f picture y x (suc n) = pixel_text f (picture x y) ++ row_text f picture y (x + 1) n
 
--- the row that stands at this place among those of a file: PPM has the uppermost first, BMP last
+-- the row that stands at this position among those of a file: PPM has the uppermost first, BMP last
 abbrev pub row_at : PlainFormat → ℕ → ℕ → ℕ
-row_at formats.Ppm h place = place
-row_at formats.Bmp h place = h - 1 - place
+row_at formats.Ppm h slot = slot
+row_at formats.Bmp h slot = h - 1 - slot
 
--- so many rows, from a place among those of the file on
+-- so many rows, from a position among those of the file on
 abbrev pub rows_text : PlainFormat → Picture → ℕ → ℕ → ℕ → ℕ → List ℕ
-rows_text f picture w h place zero = []
-rows_text f picture w h place (suc n) = row_text f picture (row_at f h place) 0 w ++ rows_text f picture w h (place + 1) n
+rows_text f picture w h slot zero = []
+rows_text f picture w h slot (suc n) = row_text f picture (row_at f h slot) 0 w ++ rows_text f picture w h (slot + 1) n
 
 -- the file of a picture of this size
 abbrev pub plain_text : PlainFormat → ℕ → ℕ → Picture → List ℕ

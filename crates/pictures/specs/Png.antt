@@ -22,7 +22,7 @@ abbrev pub scanlines : Picture → ℕ → ℕ → ℕ → List ℕ
 scanlines picture w y zero = []
 scanlines picture w y (suc n) = scanline picture w y ++ scanlines picture w (y + 1) n
 
--- The zlib stream of all rows stands in IDAT chunks, one behind the other: its head, which names the
+-- The zlib stream of all rows stands in IDAT chunks, one after the other: its head, which names the
 -- method deflate with a window of 32 KiB, each row in stored blocks, and the last block, which is
 -- empty, with Adler-32 of all rows.
 abbrev pub zlib_head : List ℕ

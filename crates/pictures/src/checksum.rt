@@ -40,13 +40,13 @@ impl CrcTable {
     }
 
     /// A register after more bytes.
-    pub fn behind(&self, before: u32, bytes: &[u8]) -> u32
+    pub fn following(&self, before: u32, bytes: &[u8]) -> u32
         ensures { result ≡ fold next_crc before bytes.now }
     {
         let mut register = before;
         for byte in bytes {
-            let place = (register ^ u32::from(*byte)) % 256;
-            register = self.entries[place as usize] ^ (register / 256);
+            let slot = (register ^ u32::from(*byte)) % 256;
+            register = self.entries[slot as usize] ^ (register / 256);
         }
         register
     }
@@ -73,7 +73,7 @@ impl Adler {
         }
     }
 
-    /// Goes on behind more bytes.
+    /// Goes on with more bytes.
     pub fn add(&mut self, bytes: &[u8])
         ensures { (xs : List ℕ) → self.old.first ≡ first_sum xs → self.old.second ≡ second_sum xs
             → (self.new.first ≡ first_sum (xs ++ bytes.now)) × (self.new.second ≡ second_sum (xs ++ bytes.now)) }

@@ -23,7 +23,7 @@ pub fn write_chunk<W: Write>(
     requires { length content.now < 2 ^ 31 }
     ensures { OnOk result (Appends (W.contents out.old) (W.contents out.new) (chunk kind.now content.now)) }
 {
-    let checksum = table.behind(table.behind(u32::MAX, kind), content) ^ u32::MAX;
+    let checksum = table.following(table.following(u32::MAX, kind), content) ^ u32::MAX;
     out.write_all(&four_bytes(content.len() as u32))?;
     out.write_all(kind)?;
     out.write_all(content)?;
@@ -53,9 +53,9 @@ pub fn append_stored(bytes: &[u8], out: &mut Vec<u8>) -> Result<(), NoMemory>
 {
     let mut rest = bytes;
     while !rest.is_empty() {
-        let (block, behind) = rest.split_at(LONGEST_BLOCK.min(rest.len()));
+        let (block, following) = rest.split_at(LONGEST_BLOCK.min(rest.len()));
         append_block(block, out)?;
-        rest = behind;
+        rest = following;
     }
     Ok(())
 }

@@ -5,7 +5,7 @@ ghost use Rattle.disk.specs.Failures.{HasCause};
 ghost use Rattle.keyed_entries.specs.Entry.{messages_in};
 ghost use Rattle.key_index.specs.Indexed.{OnlyReads};
 ghost use Rattle.painter.specs.Framebuffer.{color_at};
-ghost use Rattle.pictures.specs.Frames.{frame_moment, AreFirstFrames, IsVideo, Writes};
+ghost use Rattle.pictures.specs.Frames.{frame_moment, AreFirstFrames, IsVideo, IsVideoEnd, Writes};
 ghost use Rattle.replay.specs.Moments.{IsShownAt};
 ghost use Rattle.pictures.specs.Pictures.{picture_text};
 ghost use Rattle.pictures.specs.declared.frames.FilmFault.TheVariants.{Read as FilmRead, Write as FilmWrite};
@@ -35,7 +35,7 @@ pub struct Film {
 }
 
 impl Film {
-    /// How many frames there are: those whose moments aren't later than `to`; none where `to` is
+    /// How many frames there are: those whose moments aren't later than `to`; none if `to` is
     /// before `from`.
     pub fn frames(&self) -> u32
         ensures { (k : ℕ) → (k < result) ↔ (frame_moment self.now.from self.now.rate k ≤ self.now.to) }
@@ -54,6 +54,19 @@ impl Film {
     {
         (u64::from(self.from) + u64::from(frame) * 1000 / u64::from(self.rate)) as u32
     }
+}
+
+/// The moment, in milliseconds of the recording, at which a video ends that is to show all that came
+/// until `last`: that of its first frame which isn't before `last`, or the latest of 32 bits if that
+/// frame would be later. `rate` is how many frames a second.
+pub fn video_end(from: u32, rate: u8, last: u32) -> u32
+    requires { 0 < rate }
+    ensures { IsVideoEnd from rate last result }
+{
+    let wait = u64::from(last.saturating_sub(from));
+    let frame = (wait * u64::from(rate) + 999) / 1000;
+    let moment = u64::from(from) + frame * 1000 / u64::from(rate);
+    moment.min(u64::from(u32::MAX)) as u32
 }
 
 /// Why the frames aren't written.
@@ -148,7 +161,7 @@ fn show<D: Disk>(
     Ok(())
 }
 
-// Writes the frames of a video behind a replay that stands no further than the first one shows. The
+// Writes the frames of a video with a replay that stands no further than the first one shows. The
 // replay and the picture are lent, since each way out of a loop takes apart what its function owns.
 fn write_each<D: Disk, W: Write>(
     alloc: Global,
@@ -161,7 +174,7 @@ fn write_each<D: Disk, W: Write>(
     requires width { replay.old.screen.width ≡ index.old.head.width }
     requires height { replay.old.screen.height ≡ index.old.head.height }
     requires painted { D.is_modelled → IsScreenAt index.old.head (messages_in index.old.blocks) replay.old.position replay.old.screen }
-    requires behind { D.is_modelled → (n : ℕ) → IsShownAt (frame_moment film.now.from film.now.rate 0) (messages_in index.old.blocks) n → replay.old.position ≤ n }
+    requires following { D.is_modelled → (n : ℕ) → IsShownAt (frame_moment film.now.from film.now.rate 0) (messages_in index.old.blocks) n → replay.old.position ≤ n }
     requires picture { picture.old.items ≡ [] }
     ensures video { D.is_modelled → OnOk result (Writes (W.contents out.old) (W.contents out.new) (IsVideo index.old.head (messages_in index.old.blocks) film.now.from film.now.to film.now.rate)) }
     ensures left { D.is_modelled → (fault : ReplayFault) → IsErrOf result (FilmFault.Read fault) → Writes (W.contents out.old) (W.contents out.new) (AreFirstFrames index.old.head (messages_in index.old.blocks) film.now.from film.now.to film.now.rate) }
@@ -177,11 +190,11 @@ fn write_each<D: Disk, W: Write>(
     Ok(())
 }
 
-/// Writes the frames of a video as PPM pictures, one behind the other: all of them where the answer
-/// is `Ok`, and the first ones, each whole, where the recording isn't read. Each message is painted
-/// once, and a screen that didn't change is made into a picture once. It takes the memory of a
-/// screen and of a picture. `Read(Device)` is answered exactly where the device failed in this call,
-/// and `Read(NotCommitted)` never.
+/// Writes the frames of a video as PPM pictures, one after the other: all of them if the answer is
+/// `Ok`, and the first ones, each whole, if the recording isn't read. Each message is painted once,
+/// and a screen that didn't change is made into a picture once. It takes the memory of a screen and
+/// of a picture. `Read(Device)` is answered exactly if the device failed in this call, and
+/// `Read(NotCommitted)` never.
 pub fn write_frames<D: Disk, W: Write>(
     alloc: Global,
     index: &mut Indexed<D>,

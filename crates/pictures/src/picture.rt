@@ -23,9 +23,9 @@ pub enum PictureFormat {
     Png,
 }
 
-/// Writes a screen as a picture file: all of it where the answer is `Ok`. It takes memory for one
-/// row, for PNG for two. An error is the writer's, that memory ran out, or `InvalidInput` for a BMP
-/// of 2^32 bytes or more; a part of the file may have been written then.
+/// Writes a screen as a picture file: all of it if the answer is `Ok`. It takes memory for one row,
+/// for PNG for two. An error is the writer's, that memory ran out, or `InvalidInput` for a BMP of
+/// 2^32 bytes or more; a part of the file may have been written then.
 pub fn write_picture<W: Write>(
     alloc: Global,
     screen: &Screen,

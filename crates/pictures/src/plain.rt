@@ -128,15 +128,15 @@ pub fn append_row(
     Ok(())
 }
 
-// Which row of so many stands at a place among the rows of a file.
-fn row_of(format: PlainFormat, height: u16, place: u16) -> u16
-    requires { place < height }
-    ensures value { result ≡ row_at format height place }
+// Which row of so many stands at a position among the rows of a file.
+fn row_of(format: PlainFormat, height: u16, slot: u16) -> u16
+    requires { slot < height }
+    ensures value { result ≡ row_at format height slot }
     ensures within { result < height }
 {
     match format {
-        PlainFormat::Ppm => place,
-        PlainFormat::Bmp => height - 1 - place,
+        PlainFormat::Ppm => slot,
+        PlainFormat::Bmp => height - 1 - slot,
     }
 }
 
@@ -154,9 +154,9 @@ pub fn write_plain<W: Write>(
     let mut row = Vec::new(alloc);
     append_head(alloc, format, size, &mut row)?;
     out.write_all(&row)?;
-    for place in 0..size.height {
+    for slot in 0..size.height {
         row.clear();
-        append_row(format, screen, row_of(format, size.height, place), &mut row)?;
+        append_row(format, screen, row_of(format, size.height, slot), &mut row)?;
         out.write_all(&row)?;
     }
     Ok(())

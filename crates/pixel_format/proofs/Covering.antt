@@ -1,9 +1,9 @@
--- Areas, and the places that they cover.
+-- Areas, and the pixels that they cover.
 use Rattle.std.proofs.Common.{◌≡◌, ℕ, ◌+◌, ◌-◌, ◌<◌, ◌≤◌, inl, inr, true, false, refl, sym, ◌∙◌, arith}
 use Rattle.std.proofs.lemmas.Bool.{and_parts, ltb-true, leb-true, lt-ltb, le-leb, cases_Bool, false_from_ne_true}
 use Rattle.pixel_format.specs.Canvas.{covers}
 
--- the place lies in the area, as a fact
+-- the pixel lies in the area, as a fact
 pub record IsIn (x y w h column row : ℕ) : Type 0 where
   pub left : x ≤ column
   pub right : column < x + w
@@ -23,7 +23,7 @@ is_in x y w h column row is = rw (le-leb x column is.left, lt-ltb column (x + w)
 pub not_in : (x y w h column row : ℕ) → (IsIn x y w h column row → ⊥) → covers x y w h column row ≡ false
 not_in x y w h column row out = false_from_ne_true (covers x y w h column row) (λ e. out (in_is x y w h column row e))
 
--- a part of a rectangle covers the same places, whether they count from the canvas's corner or from
+-- a part of a rectangle covers the same pixels, whether they count from the canvas's corner or from
 -- the rectangle's
 pub shifted : (x y a b w h column row : ℕ) → x ≤ column → y ≤ row
     → covers (x + a) (y + b) w h column row ≡ covers a b w h (column - x) (row - y)
@@ -46,7 +46,7 @@ shifted x y a b w h column row left top =
           absurd (cc)) ∙ sym away
     ]
 
--- a part within a rectangle covers no place outside it
+-- a part within a rectangle covers no pixel outside it
 pub part_outside : (x y w h a b v k column row : ℕ) → a + v ≤ w → b + k ≤ h → covers x y w h column row ≡ false
     → covers (x + a) (y + b) v k column row ≡ false
 part_outside x y w h a b v k column row columns rows away =

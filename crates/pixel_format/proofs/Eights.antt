@@ -52,7 +52,7 @@ take-more xs a n =
     let whole = take-append-drop a (take (a + n) xs) in
     sym (rw (take-take a (a + n) xs (omega arith), drop-take a n xs) at whole)
 
--- so many more elements were written, each by f from the one at its place
+-- so many more elements were written, each by f from the one at its position
 pub more : {X Y : Type 0} (f : X → Y) (n i : ℕ) (xs : List X) (ys new : List Y) → i + n ≤ length xs → length ys ≡ length xs
     → take i ys ≡ map f (take i xs) → new ≡ map f (take (i + n - i) (drop i xs))
     → take (i + n) (put_mid i (i + n - i) ys new) ≡ map f (take (i + n) xs)

@@ -21,7 +21,7 @@ pub apart : (x X y Y : ℕ) → bit_and x X ≡ x → bit_and y Y ≡ y → bit_
 apart x X y Y in_x in_y none =
     and_comm x y ∙ outside y Y x in_y (and_comm Y x ∙ outside x X Y in_x none)
 
--- a value of a channel, at its place, lies within the channel's bits
+-- a value of a channel, at its shift, lies within the channel's bits
 pub in_mask : (n s max v : ℕ) → max + 1 ≡ 2 ^ n → v ≤ max → bit_and (v * 2 ^ s) (max * 2 ^ s) ≡ v * 2 ^ s
 in_mask n s max v full small =
     let block : bit_and (v * 2 ^ s + 0) (max * 2 ^ s + 0) ≡ bit_and v max * 2 ^ s + bit_and 0 0 = and_block s v max 0 0 (pow_pos s) (pow_pos s) in
@@ -75,7 +75,7 @@ three x y z X Y Z in_x in_y in_z xy xz yz =
       sum = sum;
     }
 
--- a value of a channel that has bits isn't cut, and there is none but 0 where it has none
+-- a value of a channel that has bits isn't cut, and there is none but 0 if it has none
 pub shifted_whole : (bits v max s r : ℕ) → v ≤ max → max * 2 ^ s < 2 ^ bits → (0 < max → r ≡ s) → v * 2 ^ r % 2 ^ bits ≡ v * 2 ^ s
 shifted_whole bits v zero s r small inside is =
     let none : v ≡ 0 = omega arith in
@@ -84,7 +84,7 @@ shifted_whole bits v (suc max) s r small inside is =
     let fits : v * 2 ^ s ≤ suc max * 2 ^ s = mul-le v (2 ^ s) (suc max) (2 ^ s) small (omega arith) in
     ap (λ (n : ℕ). v * 2 ^ n % 2 ^ bits) (is (omega arith)) ∙ mod-eq_of_lt (omega arith)
 
--- a shift below the number of bits, where there is something to shift
+-- a shift below the number of bits, if there is something to shift
 pub shift_below : (bits v max s : ℕ) → 0 < v → v ≤ max → max * 2 ^ s < 2 ^ bits → s < bits
 shift_below bits v max s some small inside = elim (cases_lt s bits) [
   | inl t ↦ t
@@ -94,7 +94,7 @@ shift_below bits v max s some small inside = elim (cases_lt s bits) [
       absurd (omega arith))
 ]
 
--- values of the three channels of a format, each at its place
+-- values of the three channels of a format, each at its shift
 pub record Placed (f : Format) (r g b : ℕ) : Type 0 where
   pub below : r * 2 ^ f.red.shift + g * 2 ^ f.green.shift + b * 2 ^ f.blue.shift < 2 ^ f.bits
   pub red : (r * 2 ^ f.red.shift + g * 2 ^ f.green.shift + b * 2 ^ f.blue.shift) / 2 ^ f.red.shift % (f.red.max + 1) ≡ r

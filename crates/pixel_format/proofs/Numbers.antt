@@ -10,7 +10,7 @@ use Rattle.pixel_format.specs.Canvas.{nth}
 pub no_value : (c : Channel) → channel_value c 0 ≡ 0
 no_value c = rw (zero-div, zero-mod) refl
 
--- the colour of a place is that of its number; behind the last one stands black
+-- the colour of a pixel is that of its number; after the last one comes black
 pub color_nth : (f : Format) (numbers : List ℕ) (k : ℕ) → nth (map (number_color f) numbers) k ≡ number_color f (get_or numbers k 0)
 color_nth f [] k = rw (no_value f.red, no_value f.green, no_value f.blue) refl
 color_nth f (n ∷ numbers) zero = refl

@@ -1,4 +1,4 @@
--- Painting pixels by rows, place by place.
+-- Painting pixels by rows, pixel by pixel.
 use Rattle.std.proofs.Common.{◌≡◌, ℕ, zero, suc, ◌+◌, ◌-◌, ◌*◌, ◌/◌, ◌%◌, ◌<◌, ◌≤◌, inl, inr, true, false, cond, List, take, drop, refl, sym, ap, ◌∙◌, arith, zero-mul}
 use Rattle.std.specs.Prelude.{nat_lt, ◌&&◌}
 use Rattle.std.proofs.Math.Nat.{mod-lt, div-lt_iff_lt-mul, div-add-mod, mul_comm}
@@ -21,10 +21,10 @@ within_area w h column row across down = mul-add-lt row w column h down across
 div-mul-mod : (k w : ℕ) → k / w * w + k % w ≡ k
 div-mul-mod k w = omega (arith, div-add-mod k w, mul_comm (k / w) w)
 
--- a place of the tile, by the index of its pixel
-one_place : (x y w h k column row : ℕ) → IsIn x y w h column row → 0 < w → (row - y) * w + (column - x) ≡ k
+-- a pixel of the tile, by its index
+one_index : (x y w h k column row : ℕ) → IsIn x y w h column row → 0 < w → (row - y) * w + (column - x) ≡ k
     → covers (x + k % w) (y + k / w) 1 1 column row ≡ true
-one_place x y w h k column row is some same =
+one_index x y w h k column row is some same =
     let l = is.left in
     let r = is.right in
     let t = is.top in
@@ -33,8 +33,8 @@ one_place x y w h k column row is some same =
     let down : k / w ≡ row - y = ap (λ n. n / w) (sym same) ∙ div-mul-add (row - y) w (column - x) less in
     is_in (x + k % w) (y + k / w) 1 1 column row (record { left = omega arith; right = omega arith; top = omega arith; bottom = omega arith })
 
-other_place : (x y w k column row : ℕ) → 0 < w → ((row - y) * w + (column - x) ≡ k → ⊥) → covers (x + k % w) (y + k / w) 1 1 column row ≡ false
-other_place x y w k column row some other =
+other_index : (x y w k column row : ℕ) → 0 < w → ((row - y) * w + (column - x) ≡ k → ⊥) → covers (x + k % w) (y + k / w) 1 1 column row ≡ false
+other_index x y w k column row some other =
     not_in (x + k % w) (y + k / w) 1 1 column row (λ is.
     let l = is.left in
     let r = is.right in
@@ -53,11 +53,11 @@ pixels_go f x y w h k pixels color old between column row less some color_is bef
     elim (cases_Bool (covers x y w h column row)) [
       | inl here ↦ elim (cases_eq index k) [
         | inl same ↦
-            let in_it = one_place x y w h k column row (in_is x y w h column row here) some same in
+            let in_it = one_index x y w h k column row (in_is x y w h column row here) some same in
             let next : nat_lt index (k + 1) ≡ true = lt-ltb index (k + 1) (omega (arith, same)) in
             rw (in_it, here, next) (color_is ∙ ap (λ n. pixel_in f pixels n) (sym same))
         | inr other ↦
-            let off = other_place x y w k column row some other in
+            let off = other_index x y w k column row some other in
             let next : nat_lt index (k + 1) ≡ nat_lt index k = elim (cases_lt index k) [
               | inl below ↦ rw (lt-ltb index k below, lt-ltb index (k + 1) (omega (arith, below))) refl
               | inr above ↦ rw (le-ltb index k above, le-ltb index (k + 1) (omega (arith, above, other))) refl

@@ -1,4 +1,4 @@
--- The number that more than half of the places have, by votes; and how often a run of one number
+-- The number at more than half of the positions, by votes; and how often a run of one number
 -- counts.
 use Rattle.std.proofs.Common.{◌≡◌, ℕ, zero, suc, ◌+◌, ◌-◌, ◌*◌, ◌<◌, ◌≤◌, ◌==◌, Bool, true, false, cond, List, length, take, get_or, refl, sym, ap, ◌∙◌, arith}
 use Rattle.std.proofs.lemmas.Bool.{eqb-true}
@@ -36,24 +36,25 @@ count_run number numbers start (suc n) other fits same =
     one_more number numbers start n other (other == number) refl (omega arith) (same (start + n) (omega arith) (omega arith))
     (count_run number numbers start n other (omega arith) (λ k from to. same k from (omega arith)))
 
--- The colour at `place` has so many votes after k places: it stands at no more than half of them and
--- half of the votes, and any other number at that many fewer.
-pub record IsVote (numbers : List ℕ) (k place votes : ℕ) : Type 0 where
-  pub stands : place < length numbers
+-- The colour at `index` has so many votes after k positions: it stands at no more than half of them
+-- and half of the votes, and any other number at that many fewer.
+pub record IsVote (numbers : List ℕ) (k index votes : ℕ) : Type 0 where
+  pub stands : index < length numbers
   pub few : votes ≤ k
-  pub bound : (number : ℕ) → 2 * times_in number (take k numbers) + cond (number == get_or numbers place 0) 0 votes
-      ≤ k + cond (number == get_or numbers place 0) votes 0
+  pub bound : (number : ℕ) → 2 * times_in number (take k numbers) + cond (number == get_or numbers index 0) 0 votes
+      ≤ k + cond (number == get_or numbers index 0) votes 0
 
 counted_here : (numbers : List ℕ) (k : ℕ) (number : ℕ) (here : Bool) → k < length numbers → (number == get_or numbers k 0) ≡ here
     → times_in number (take (k + 1) numbers) ≡ times_in number (take k numbers) + cond here 1 0
 counted_here numbers k number true inside is = count_by_more_yes (λ (y : ℕ). number == y) numbers k 0 inside is
 counted_here numbers k number false inside is = count_by_more_no (λ (y : ℕ). number == y) numbers k 0 inside is ∙ omega arith
 
-bound_at : (numbers : List ℕ) (k place votes : ℕ) → IsVote numbers k place votes → (number : ℕ) (test : Bool) → (number == get_or numbers place 0) ≡ test
+bound_at : (numbers : List ℕ) (k index votes : ℕ) → IsVote numbers k index votes → (number : ℕ) (test : Bool) → (number == get_or numbers index 0) ≡ test
     → 2 * times_in number (take k numbers) + cond test 0 votes ≤ k + cond test votes 0
-bound_at numbers k place votes so_far number test is = rw is at (so_far.bound number)
+bound_at numbers k index votes so_far number test is = rw is at (so_far.bound number)
 
--- a run of one number from the first place on counts for that number alone, and is as many votes for it
+-- a run of one number from the first position on counts for that number alone, and is as many votes
+-- for it
 module _ (numbers : List ℕ) (run : ℕ) (within : run ≤ length numbers) (same : (k : ℕ) → k < run → get_or numbers k 0 ≡ get_or numbers 0 0) where
   run_count : (number : ℕ) (test : Bool) → (number == get_or numbers 0 0) ≡ test → times_in number (take run numbers) ≡ cond test run 0
   run_count number test is =
@@ -72,12 +73,12 @@ module _ (numbers : List ℕ) (run : ℕ) (within : run ≤ length numbers) (sam
     bound = λ number. run_bound number (number == get_or numbers 0 0) refl;
   }
 
-module _ (numbers : List ℕ) (k place votes : ℕ) (so_far : IsVote numbers k place votes) (inside : k < length numbers) where
-  bound_here : (number : ℕ) (test : Bool) → (number == get_or numbers place 0) ≡ test → 2 * times_in number (take k numbers) + cond test 0 votes ≤ k + cond test votes 0
-  bound_here = bound_at numbers k place votes so_far
+module _ (numbers : List ℕ) (k index votes : ℕ) (so_far : IsVote numbers k index votes) (inside : k < length numbers) where
+  bound_here : (number : ℕ) (test : Bool) → (number == get_or numbers index 0) ≡ test → 2 * times_in number (take k numbers) + cond test 0 votes ≤ k + cond test votes 0
+  bound_here = bound_at numbers k index votes so_far
 
   first_bound : votes ≡ 0 → (number : ℕ) (here : Bool) → (number == get_or numbers k 0) ≡ here
-      → (test : Bool) → (number == get_or numbers place 0) ≡ test
+      → (test : Bool) → (number == get_or numbers index 0) ≡ test
       → 2 * times_in number (take (k + 1) numbers) + cond here 0 1 ≤ k + 1 + cond here 1 0
   first_bound none number true is true was = omega (arith, counted_here numbers k number true inside is, bound_here number true was)
   first_bound none number true is false was = omega (arith, counted_here numbers k number true inside is, bound_here number false was)
@@ -88,42 +89,42 @@ module _ (numbers : List ℕ) (k place votes : ℕ) (so_far : IsVote numbers k p
   first_vote none = record {
     stands = inside;
     few = omega arith;
-    bound = λ number. first_bound none number (number == get_or numbers k 0) refl (number == get_or numbers place 0) refl;
+    bound = λ number. first_bound none number (number == get_or numbers k 0) refl (number == get_or numbers index 0) refl;
   }
 
-  same_bound : get_or numbers k 0 ≡ get_or numbers place 0 → (number : ℕ) (test : Bool) → (number == get_or numbers place 0) ≡ test
+  same_bound : get_or numbers k 0 ≡ get_or numbers index 0 → (number : ℕ) (test : Bool) → (number == get_or numbers index 0) ≡ test
       → 2 * times_in number (take (k + 1) numbers) + cond test 0 (votes + 1) ≤ k + 1 + cond test (votes + 1) 0
   same_bound same number true is = omega (arith, counted_here numbers k number true inside (ap (λ (y : ℕ). number == y) same ∙ is), bound_here number true is)
   same_bound same number false is = omega (arith, counted_here numbers k number false inside (ap (λ (y : ℕ). number == y) same ∙ is), bound_here number false is)
 
-  pub vote_more : get_or numbers k 0 ≡ get_or numbers place 0 → IsVote numbers (k + 1) place (votes + 1)
+  pub vote_more : get_or numbers k 0 ≡ get_or numbers index 0 → IsVote numbers (k + 1) index (votes + 1)
   vote_more same = record {
     stands = so_far.stands;
     few = let few = so_far.few in omega arith;
-    bound = λ number. same_bound same number (number == get_or numbers place 0) refl;
+    bound = λ number. same_bound same number (number == get_or numbers index 0) refl;
   }
 
-  other_bound : (get_or numbers k 0 ≡ get_or numbers place 0 → ⊥) → 0 < votes → (number : ℕ) (test here : Bool) → (number == get_or numbers place 0) ≡ test → (number == get_or numbers k 0) ≡ here
+  other_bound : (get_or numbers k 0 ≡ get_or numbers index 0 → ⊥) → 0 < votes → (number : ℕ) (test here : Bool) → (number == get_or numbers index 0) ≡ test → (number == get_or numbers k 0) ≡ here
       → 2 * times_in number (take (k + 1) numbers) + cond test 0 (votes - 1) ≤ k + 1 + cond test (votes - 1) 0
   other_bound other some number true true is here =
-      absurd (other (sym (eqb-true number (get_or numbers k 0) here) ∙ eqb-true number (get_or numbers place 0) is))
+      absurd (other (sym (eqb-true number (get_or numbers k 0) here) ∙ eqb-true number (get_or numbers index 0) is))
   other_bound other some number true false is here = omega (arith, counted_here numbers k number false inside here, bound_here number true is)
   other_bound other some number false true is here = omega (arith, counted_here numbers k number true inside here, bound_here number false is)
   other_bound other some number false false is here = omega (arith, counted_here numbers k number false inside here, bound_here number false is)
 
-  pub vote_less : (get_or numbers k 0 ≡ get_or numbers place 0 → ⊥) → 0 < votes → IsVote numbers (k + 1) place (votes - 1)
+  pub vote_less : (get_or numbers k 0 ≡ get_or numbers index 0 → ⊥) → 0 < votes → IsVote numbers (k + 1) index (votes - 1)
   vote_less other some = record {
     stands = so_far.stands;
     few = let few = so_far.few in omega arith;
-    bound = λ number. other_bound other some number (number == get_or numbers place 0) (number == get_or numbers k 0) refl refl;
+    bound = λ number. other_bound other some number (number == get_or numbers index 0) (number == get_or numbers k 0) refl refl;
   }
 
-voted_at : (numbers : List ℕ) (k place votes : ℕ) → IsVote numbers k place votes → length numbers ≤ k → k ≤ length numbers → (number : ℕ) (test : Bool) → (number == get_or numbers place 0) ≡ test
-    → length numbers < 2 * times_in number numbers → number ≡ get_or numbers place 0
-voted_at numbers k place votes so_far all end number true is most = eqb-true number (get_or numbers place 0) is
-voted_at numbers k place votes so_far all end number false is most =
+voted_at : (numbers : List ℕ) (k index votes : ℕ) → IsVote numbers k index votes → length numbers ≤ k → k ≤ length numbers → (number : ℕ) (test : Bool) → (number == get_or numbers index 0) ≡ test
+    → length numbers < 2 * times_in number numbers → number ≡ get_or numbers index 0
+voted_at numbers k index votes so_far all end number true is most = eqb-true number (get_or numbers index 0) is
+voted_at numbers k index votes so_far all end number false is most =
     let whole = ap (times_in number) (take_all k numbers all) in
-    absurd (omega (arith, bound_at numbers k place votes so_far number false is, whole))
+    absurd (omega (arith, bound_at numbers k index votes so_far number false is, whole))
 
-pub voted : (numbers : List ℕ) (k place votes : ℕ) → IsVote numbers k place votes → length numbers ≤ k → k ≤ length numbers → HasMajority numbers place
-voted numbers k place votes so_far all end number most = voted_at numbers k place votes so_far all end number (number == get_or numbers place 0) refl most
+pub voted : (numbers : List ℕ) (k index votes : ℕ) → IsVote numbers k index votes → length numbers ≤ k → k ≤ length numbers → HasMajority numbers index
+voted numbers k index votes so_far all end number most = voted_at numbers k index votes so_far all end number (number == get_or numbers index 0) refl most

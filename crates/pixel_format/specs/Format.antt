@@ -2,7 +2,7 @@
 use Rattle.std.specs.Prelude.{◌≡◌, ℕ, ◌+◌, ◌*◌, ◌/◌, ◌^◌, ◌<◌, ◌≤◌, ◌⊎◌, Bool, bit_and}
 use Rattle.std.specs.Prelude.{false}
 
--- where a channel stands in a pixel's number, and the greatest value that it takes
+-- the shift of a channel in a pixel's number, and the greatest value that it takes
 pub record Channel : Type 0 where
   pub max : ℕ
   pub shift : ℕ

@@ -22,10 +22,10 @@ pub record IsNumber (f : Format) (number : ℕ) : Type 0 where
 abbrev pub colors_of : Format → List ℕ → List Color
 colors_of f numbers = map (number_color f) numbers
 
--- at how many places a number stands
+-- at how many positions a number stands
 abbrev pub times_in : ℕ → List ℕ → ℕ
 times_in number numbers = count_by (λ other. number == other) numbers
 
--- a number that stands at more than half of the places is the one at this place
+-- a number that stands at more than half of the positions is the one at this position
 abbrev pub HasMajority : List ℕ → ℕ → Type 0
-HasMajority numbers place = (number : ℕ) → length numbers < 2 * times_in number numbers → number ≡ slice_index numbers place
+HasMajority numbers index = (number : ℕ) → length numbers < 2 * times_in number numbers → number ≡ slice_index numbers index

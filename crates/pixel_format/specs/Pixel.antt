@@ -10,7 +10,7 @@ abbrev pub little_endian : List ℕ → ℕ
 little_endian [] = 0
 little_endian (b ∷ bytes) = b + 256 * little_endian bytes
 
--- the number that bytes are, the highest byte first, where `high` is that of the bytes before them
+-- the number that bytes are, the highest byte first, with `high` for that of the bytes before them
 abbrev pub big_endian : ℕ → List ℕ → ℕ
 big_endian high [] = high
 big_endian high (b ∷ bytes) = big_endian (256 * high + b) bytes
@@ -36,7 +36,7 @@ pub record IsPixel (f : Format) (color : Color) (bytes : List ℕ) : Type 0 wher
   pub size : length bytes ≡ pixel_bytes f
   pub color_is : color ≡ pixel_color f bytes
 
--- pixels one behind the other
+-- pixels one after the other
 abbrev pub ArePixels : Format → List Color → List ℕ → Type 0
 ArePixels f = AreEach (IsPixel f)
 
@@ -50,7 +50,7 @@ pub record IsWithin (f : Format) (c : Color) : Type 0 where
   pub green : c.g ≤ f.green.max
   pub blue : c.b ≤ f.blue.max
 
--- the number of the pixel of a colour: each channel at its place, and the other bits 0
+-- the number of the pixel of a colour: each channel at its shift, and the other bits 0
 abbrev pub color_number : Format → Color → ℕ
 color_number f c = c.r * 2 ^ f.red.shift + c.g * 2 ^ f.green.shift + c.b * 2 ^ f.blue.shift
 

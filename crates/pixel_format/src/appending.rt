@@ -24,7 +24,7 @@ impl PixelFormat {
         }
     }
 
-    // The same for pixels of so many bytes, which the compiler knows where it is called.
+    // The same for pixels of so many bytes, which the compiler knows at each call.
     #[inline(always)]
     fn append_sized(&self, size: usize, color: Color, bytes: &mut Vec<u8>) -> Result<(), NoMemory>
         requires bytes { size ≡ pixel_bytes self.now }

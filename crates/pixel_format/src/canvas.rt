@@ -1,4 +1,4 @@
-//! Where pictures are painted.
+//! What pictures are painted on.
 
 ghost use Rattle.std.specs.Prelude.{◌≡◌, ℕ, List, ◌+◌, ◌*◌, ◌^◌, ◌<◌, ◌≤◌, length};
 ghost use Rattle.pixel_format.specs.declared.Color.{Color};
@@ -9,19 +9,19 @@ ghost use Rattle.pixel_format.specs.Canvas.{Picture, filled, laid_over, pixel_ro
 use crate::Color;
 use crate::format::PixelFormat;
 
-/// Places that can be painted, by columns from the left and rows from the top.
+/// Pixels that can be painted, by columns from the left and rows from the top.
 pub trait Canvas {
     ghost width: { Self → ℕ };
 
     ghost height: { Self → ℕ };
 
-    /// The colours that its places can have.
+    /// The colours that its pixels can have.
     ghost holds: { Color → Type 0 };
 
-    /// The colour at each of its places; past its edges it says nothing.
+    /// The colour at each of its pixels; past its edges it says nothing.
     ghost picture: { Self → Picture };
 
-    /// Gives the places of an area of the canvas one colour that they can have, and leaves the
+    /// Gives the pixels of an area of the canvas one colour that they can have, and leaves the
     /// others alone. The area has its upper left corner at (x, y), and may be empty.
     fn fill(&mut self, x: u16, y: u16, w: u16, h: u16, color: Color)
         requires columns { x + w ≤ width self.old }
@@ -31,9 +31,9 @@ pub trait Canvas {
         ensures height { height self.new ≡ height self.old }
         ensures painted { Agree (width self.old) (height self.old) (picture self.new) (filled x y w h color (picture self.old)) };
 
-    /// Gives the places of an area of the canvas the colours of as many pixels of the host's format,
-    /// by rows from the top and each from the left, and leaves the others alone. The canvas can have
-    /// these colours.
+    /// Gives the pixels of an area of the canvas the colours of as many pixels of the host's
+    /// format, by rows from the top and each from the left, and leaves the others alone. The canvas
+    /// can have these colours.
     fn host_pixels(&mut self, x: u16, y: u16, w: u16, h: u16, bytes: &[u8])
         requires columns { x + w ≤ width self.old }
         requires rows { y + h ≤ height self.old }

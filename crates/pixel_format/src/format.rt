@@ -29,7 +29,7 @@ pub struct PixelFormat {
     blue: Channel,
 }
 
-/// Where a channel stands in a pixel's number, and the greatest value that it takes.
+/// The shift of a channel in a pixel's number, and the greatest value that it takes.
 #[derive(Clone, Copy)]
 struct Channel {
     max: u16,
@@ -400,7 +400,7 @@ impl Channels {
 }
 
 impl Channel {
-    // The channel whose maximum and shift stand at these places.
+    // The channel whose maximum and shift stand at these offsets.
     fn at(bytes: &[u8; 16], max: usize, shift: usize) -> Channel
         requires max { max < 15 }
         requires shift { shift < 16 }
@@ -462,7 +462,7 @@ fn unit_of(channel: Channel) -> u32
     1 << channel.shift
 }
 
-// A value of a channel, at its place in a pixel's number.
+// A value of a channel, at its shift in a pixel's number.
 #[inline(always)]
 fn placed(channel: Channel, value: u16) -> u32
     requires within { value ≤ channel.max }

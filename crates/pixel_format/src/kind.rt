@@ -26,9 +26,9 @@ pub struct RecordedScreen {
 /// The limits of what a format records.
 #[derive(Clone, Copy, Debug, PartialEq, Eq)]
 pub struct Limits {
-    /// The most places in a row or a column of a screen.
+    /// The most pixels in a row or a column of a screen.
     pub side: u16,
-    /// The most places of a screen.
+    /// The most pixels of a screen.
     pub area: u32,
     /// The most bytes of a host's message.
     pub message: usize,
@@ -66,7 +66,7 @@ impl Format {
 }
 
 impl Limits {
-    /// Whether a screen may have this size: at least one place, and its sides and its area within
+    /// Whether a screen may have this size: at least one pixel, and its sides and its area within
     /// the limits.
     pub fn allow(self, size: ScreenSize) -> bool
         ensures is { IsTrue result ↔ IsSize self size.width size.height }

@@ -2,10 +2,10 @@
 
 ghost use Rattle.std.specs.Prelude.{◌≡◌, ℕ, ◌<◌, ◌≤◌, length, IsTrue, slice_index};
 
-// How many places are looked at together.
+// How many numbers are looked at together.
 const AT_ONCE: usize = 8;
 
-// Whether all of so many places have the number. It looks at each, and stops at none.
+// Whether so many numbers are all this one. It looks at each, and stops at none.
 #[inline(always)]
 fn are_all(numbers: &[u32], number: u32) -> bool
     requires { length numbers.now ≡ 8 }
@@ -18,7 +18,7 @@ fn are_all(numbers: &[u32], number: u32) -> bool
     all
 }
 
-/// The first place from an index on that has another number, or how many places there are.
+/// The first index, from a start on, of another number, or how many numbers there are.
 pub fn end_of_number(numbers: &[u32], start: usize, number: u32) -> usize
     requires { start ≤ length numbers.now }
     ensures reached { start ≤ result }

@@ -1,11 +1,11 @@
-//! The number that most places have.
+//! The number that has the majority in a list.
 
 ghost use Rattle.std.specs.Prelude.{◌≡◌, ℕ, ◌<◌, ◌≤◌, length, slice_index};
 ghost use Rattle.pixel_format.specs.Number.{HasMajority};
 
-/// The index of the number that stands at more than half of the places, if one does. Each place of
-/// another number takes one vote of it away. The first places, so many, have one number, and aren't
-/// looked at.
+/// The index of the number that stands at more than half of the positions, if one does. Each
+/// position of another number takes one vote of it away. The first positions, so many, have one
+/// number, and aren't looked at.
 pub fn most_voted(numbers: &[u32], run: usize) -> usize
     requires some { 0 < run }
     requires within { run ≤ length numbers.now }
@@ -13,17 +13,17 @@ pub fn most_voted(numbers: &[u32], run: usize) -> usize
     ensures within { result < length numbers.now }
     ensures majority { HasMajority numbers.now result }
 {
-    let mut place = 0;
+    let mut index = 0;
     let mut votes = run;
     for k in run..numbers.len() {
         if votes == 0 {
-            place = k;
+            index = k;
             votes = 1;
-        } else if numbers[k] == numbers[place] {
+        } else if numbers[k] == numbers[index] {
             votes += 1;
         } else {
             votes -= 1;
         }
     }
-    place
+    index
 }

@@ -19,20 +19,20 @@ pub record State : Type 0 where
   pub ended : Bool
   pub stopped : Bool
 
--- how many viewers a recorder serves in all, where that is settled
+-- how many viewers a recorder serves in all, if that is settled
 abbrev pub viewers_of : Term → Option ℕ
 viewers_of (Viewers n) = Some n
 viewers_of Recording = None
 viewers_of Stop = None
 
--- how many viewers may still take a seat: of the seats that there are, and where a number of viewers
+-- how many viewers may still take a seat: of the seats that there are, and if a number of viewers
 -- is settled, of so many in all
-abbrev places_among : Option ℕ → ℕ → ℕ → ℕ → ℕ
-places_among None seats watching gone = seats - watching
-places_among (Some n) seats watching gone = min (seats - watching) (n - (watching + gone))
+abbrev seats_among : Option ℕ → ℕ → ℕ → ℕ → ℕ
+seats_among None seats watching gone = seats - watching
+seats_among (Some n) seats watching gone = min (seats - watching) (n - (watching + gone))
 
-abbrev pub free_places : State → ℕ
-free_places s = places_among (viewers_of s.term) s.seats s.watching s.gone
+abbrev pub free_seats : State → ℕ
+free_seats s = seats_among (viewers_of s.term) s.seats s.watching s.gone
 
 -- a recorder that goes on as long as its recording ends with it
 abbrev ends_with_recording : Term → Bool
@@ -55,7 +55,7 @@ is_done s = s.ended && (s.watching == 0) && (is_closing s || have_all_gone (view
 
 -- whether a viewer whose handshake is whole now takes a seat
 abbrev pub takes_seat : State → Bool
-takes_seat s = if is_closing s then false else (if free_places s == 0 then false else true)
+takes_seat s = if is_closing s then false else (if free_seats s == 0 then false else true)
 
 -- how many viewers are still to come, of those that are waited for
 abbrev pub missing_among : Option ℕ → ℕ → ℕ

@@ -1,7 +1,7 @@
 //! Who may watch, and when a recorder is done.
 
 ghost use Rattle.std.specs.Prelude.{◌≡◌, ◌↔◌, ◌≤◌, ◌<◌, ◌+◌, ◌-◌, ◌^◌, ℕ, true, false, Some, IfErr, IsOk, OnErr, OnOk};
-ghost use Rattle.reception.specs.State.{viewers_of, free_places, missing, is_closing, is_done, arrival_at, takes_seat, reason_at};
+ghost use Rattle.reception.specs.State.{viewers_of, free_seats, missing, is_closing, is_done, arrival_at, takes_seat, reason_at};
 
 use crate::term::{Arrival, Reason, Term};
 use std::marker::Model;
@@ -56,9 +56,9 @@ impl Reception {
         }
     }
 
-    /// Does nothing: its contract is what always holds. No more handshakes are under way, and no more
-    /// viewers are there, than there are seats; and where a recorder serves so many viewers, no more
-    /// ever had a seat.
+    /// Does nothing: its contract is what always holds. No more handshakes are under way, and no
+    /// more viewers are there, than there are seats; and if a recorder serves so many viewers, no
+    /// more ever had a seat.
     pub fn known(&self)
         ensures greeting { self.now.greeting ≤ self.now.seats }
         ensures watching { self.now.watching ≤ self.now.seats }
@@ -78,8 +78,8 @@ impl Reception {
     }
 
     // How many viewers may still take a seat.
-    fn free_places(&self) -> u32
-        ensures { result ≡ free_places self.now }
+    fn free_seats(&self) -> u32
+        ensures { result ≡ free_seats self.now }
     {
         let empty = self.seats - self.watching;
         match self.term {
@@ -89,14 +89,14 @@ impl Reception {
     }
 
     // Whether a viewer takes a seat now; else why it doesn't.
-    fn has_place(&self) -> Result<(), Reason>
-        ensures place { IsOk result ↔ (takes_seat self.now ≡ true) }
+    fn has_seat(&self) -> Result<(), Reason>
+        ensures has_seat { IsOk result ↔ (takes_seat self.now ≡ true) }
         ensures reason { IfErr result (λ reason. reason ≡ reason_at self.now) }
     {
         if self.is_closing() {
             return Err(Reason::Closing);
         }
-        if self.free_places() > 0 {
+        if self.free_seats() > 0 {
             return Ok(());
         }
         match self.term {
@@ -136,13 +136,13 @@ impl Reception {
             return Arrival::Dropped;
         }
         self.greeting += 1;
-        match self.has_place() {
+        match self.has_seat() {
             Ok(()) => Arrival::Greeted,
             Err(reason) => Arrival::TurnedAway(reason),
         }
     }
 
-    /// Ends a handshake without a viewer, which takes up nothing. Where none is under way it does
+    /// Ends a handshake without a viewer, which takes up nothing. If none is under way it does
     /// nothing.
     pub fn give_up(&mut self)
         ensures { self.new ≡ record self.old { greeting = self.old.greeting - 1 } }
@@ -150,8 +150,8 @@ impl Reception {
         self.greeting = self.greeting.saturating_sub(1);
     }
 
-    /// Ends a handshake that is whole: the viewer takes a seat where one is free, also when others came
-    /// first since it arrived; else this is why not.
+    /// Ends a handshake that is whole: the viewer takes a seat if one is free, also when others
+    /// came first since it arrived; else this is why not.
     pub fn seat(&mut self) -> Result<(), Reason>
         ensures taken { IsOk result ↔ (takes_seat self.old ≡ true) }
         ensures reason { IfErr result (λ reason. reason ≡ reason_at self.old) }
@@ -159,13 +159,13 @@ impl Reception {
         ensures refused { OnErr result (self.new ≡ record self.old { greeting = self.old.greeting - 1 }) }
     {
         self.give_up();
-        self.has_place()?;
+        self.has_seat()?;
         self.watching += 1;
         Ok(())
     }
 
-    /// Frees the seat of a viewer who left. Where nobody watches it does nothing. More than
-    /// 2^64 - 1 who left aren't counted.
+    /// Frees the seat of a viewer who left. If nobody watches it does nothing. More than 2^64 - 1
+    /// who left aren't counted.
     pub fn leave(&mut self)
         ensures nobody { self.old.watching ≡ 0 → self.new ≡ self.old }
         ensures left { 0 < self.old.watching → self.old.gone + 1 < 2 ^ 64

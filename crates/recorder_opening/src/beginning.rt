@@ -1,4 +1,4 @@
-//! Where viewers begin in a recording.
+//! The position at which viewers begin in a recording.
 
 use broadcast::Start;
 use connections::{Beginning, Origin, Plan};
@@ -16,8 +16,8 @@ fn time_of_last<D: Disk>(book: &mut Book<D>, count: u64) -> Result<u32, ReadFaul
     Ok(slice.messages.first().map_or(0, |stamped| stamped.time))
 }
 
-/// Where viewers begin, as the plan asks for it: in a recording that is played, at its start where
-/// it says nothing else.
+/// The position at which viewers begin, as the plan asks for it: in a recording that is played, its
+/// start if the plan says nothing else.
 pub fn beginning_of<D: Disk>(book: &mut Book<D>, plan: &Plan<'_>) -> Result<Beginning, ReadFault> {
     let (from, from_time) = match plan.from {
         Origin::Live if plan.playing.is_none() => {

@@ -15,7 +15,7 @@ use std::rt::Files;
 use std::{fs, io};
 use thiserror::Error;
 
-/// What a draft's name has behind that of its recording.
+/// What a draft's name has after that of its recording.
 const ENDING: &str = ".new";
 
 /// How many bytes a file's name has at most, on Linux.
@@ -24,12 +24,12 @@ const LONGEST_FILE_NAME: usize = 255;
 /// How many bytes the header of a recording has without its name.
 const BARE_HEADER: usize = 16;
 
-/// How many bytes a creation that was cut off leaves at most: a header with the longest name, and the
-/// gate behind it.
+/// How many bytes a creation that was cut off leaves at most: a header with the longest name, and
+/// the gate after it.
 const LONGEST_LEFT: usize = BARE_HEADER + LONGEST_NAME + 1;
 
-/// The path of the file in which the recording at this path is made: it has `.new` behind it, or
-/// behind as much of its name as leaves room for that.
+/// The path of the file in which the recording at this path is made: it has `.new` after it, or
+/// after as much of its name as leaves room for that.
 pub fn draft_path(alloc: Global, path: &str) -> Result<String, AllocError> {
     let bytes = path.as_bytes();
     let folder = match bytes.iter().rposition(|byte| *byte == b'/') {
@@ -111,7 +111,7 @@ pub enum DraftFault {
     System(#[from] io::Error),
 }
 
-// The bytes of a file, where they are few enough to be left by a creation.
+// The bytes of a file, if they are few enough to be left by a creation.
 fn left_bytes(alloc: Global, mut file: File, length: u64) -> Result<Vec<u8>, DraftFault> {
     if length > LONGEST_LEFT as u64 {
         return Err(DraftFault::InTheWay);
@@ -162,7 +162,7 @@ pub fn open_draft<R: Files<File = File> + AllocGlobal>(
     if file.try_lock().is_err() {
         return Err(DraftFault::Taken);
     }
-    // Who came here behind another recorder finds its recording at the path.
+    // Who came here after another recorder finds its recording at the path.
     match fs::metadata(rt, path) {
         Ok(metadata) if metadata.len() > 0 => {
             fs::remove_file(rt, draft)?;

@@ -1,4 +1,4 @@
-//! What `recorderd serve` begins with: the recording, the host, and where viewers come.
+//! What `recorderd serve` begins with: the recording, the host, and the listener for viewers.
 #![tactic(auto)]
 
 mod beginning;

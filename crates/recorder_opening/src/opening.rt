@@ -1,4 +1,4 @@
-//! A recorder's beginning: the recording, the host, and where viewers come.
+//! A recorder's beginning: the recording, the host, and the listener for viewers.
 
 use crate::beginning::beginning_of;
 use crate::reading::Reading;
@@ -20,7 +20,7 @@ use std::sync::Wait;
 use std::time::Clock;
 use telling::{Event, Telling};
 
-/// What a recorder is begun with: the system, what is asked for, and where is told what fails.
+/// What a recorder is begun with: the system, what is asked for, and what tells of failures.
 #[derive(Drop)]
 pub struct Opening<'a, R> {
     pub rt: &'a R,
@@ -29,7 +29,7 @@ pub struct Opening<'a, R> {
     pub last_error: &'a LastError,
     /// How far the recording's file is written.
     pub written: &'a Written,
-    /// How far it is read, where there is a recording.
+    /// How far it is read, if there is a recording.
     pub reading: &'a Reading,
 }
 
@@ -49,7 +49,7 @@ pub struct Begun {
 }
 
 impl Begun {
-    /// The header of a recording that is to be read; none where it is made.
+    /// The header of a recording that is to be read; `None` if it is made.
     pub fn header(&self) -> Option<&Header> {
         match &self.found {
             Found::Recording(unread) => Some(&unread.header),
@@ -86,19 +86,19 @@ impl<'a, R: Eprint + Wait> Opening<'a, R> {
         &self,
         outcome: io::Result<T>,
         operation: &str,
-        place: &str,
+        path: &str,
         refusal: Refusal,
     ) -> Result<T, Refusal> {
         match outcome {
             Ok(it) => Ok(it),
             Err(error) => {
-                self.telling.tell_failure(self.rt, operation, place, &error);
+                self.telling.tell_failure(self.rt, operation, path, &error);
                 Err(refusal)
             }
         }
     }
 
-    // Where viewers come, as the closure makes it.
+    // The listener for viewers, as the closure makes it.
     fn listener<L: FnOnce() -> io::Result<TcpListener> + Drop>(
         &self,
         listen: L,
@@ -137,7 +137,7 @@ impl<
         found: Found,
         host: Option<&Host>,
     ) -> Result<(Box<Book<FileDisk>>, Identity), Stopped> {
-        // A file without bytes stays locked until the recording has taken its place.
+        // A file without bytes stays locked until the recording has replaced it.
         let _empty = match found {
             Found::Recording(unread) => return Ok(self.read(unread)?),
             Found::Empty(file) => Some(file),
@@ -189,8 +189,8 @@ impl<
         Ok((Begun { found, host }, listener))
     }
 
-    // Tells where a host goes on with a recording: the file has no mark there.
-    fn tell_where(&self, book: &Book<FileDisk>) {
+    // Tells the position at which a host goes on with a recording: the file has no mark there.
+    fn tell_position(&self, book: &Book<FileDisk>) {
         let messages = book.committed();
         if self.plan.host.is_some() && messages > 0 {
             let time = book.last_time();
@@ -198,11 +198,11 @@ impl<
         }
     }
 
-    /// Reads the recording, which may take long, or makes it where there is none.
+    /// Reads the recording, which may take long, or makes it if there is none.
     pub fn finish(&self, begun: Begun) -> Result<Box<Opened>, Stopped> {
         let Begun { found, host } = begun;
         let (mut book, identity) = self.recording(found, host.as_deref())?;
-        self.tell_where(&book);
+        self.tell_position(&book);
         let source = self.source(host, book.last_time())?;
         let beginning = beginning_of(&mut book, self.plan).map_err(Refusal::from)?;
         let alloc = self.rt.alloc();

@@ -1,8 +1,8 @@
-//! The recording's file: opened where it has bytes, or made whole.
+//! The recording's file: opened if it has bytes, or made whole.
 
 use crate::draft::{DraftFault, draft_path, open_draft};
 use crate::opening::Opening;
-use block_walk::{hidden_behind, read_header};
+use block_walk::{hidden_after, read_header};
 use connections::Refusal;
 use file_disk::{FileDisk, LastError, Written, sync_name};
 use flusher_core::Book;
@@ -23,7 +23,7 @@ const TRIES: u32 = 5;
 
 const BETWEEN_TRIES: u64 = 20;
 
-/// How many blocks that go on with the digests a crash leaves at most behind the end of a recording:
+/// How many blocks that go on with the digests a crash leaves at most after the end of a recording:
 /// the one whose gate wasn't opened yet.
 const LEFT_BY_CRASH: u64 = 1;
 
@@ -88,7 +88,7 @@ fn lock<R: Clock + Wait>(rt: &R, file: &File, is_written: bool) -> io::Result<()
     Err(io::ErrorKind::WouldBlock.into())
 }
 
-// Whether a link stands at a path. A file that is renamed to it would take the link's place.
+// Whether a link stands at a path. A file that is renamed to it would replace the link.
 fn is_link<R: Files<File = File>>(rt: &R, path: &str) -> bool {
     match fs::symlink_metadata(rt, path) {
         Ok(metadata) => metadata.is_symlink(),
@@ -122,7 +122,7 @@ impl<'a, R: AllocGlobal + Clock + Eprint + Files<File = File> + Wait> Opening<'a
         }
     }
 
-    // The file at the recording's path, open and locked, and what the system says of it; none where
+    // The file at the recording's path, open and locked, and what the system says of it; `None` if
     // nothing is there. A device or a pipe is refused, and isn't opened.
     fn open_file(&self, is_written: bool) -> Result<Option<(File, Metadata)>, Refusal> {
         let path = self.plan.file;
@@ -155,13 +155,13 @@ impl<'a, R: AllocGlobal + Clock + Eprint + Files<File = File> + Wait> Opening<'a
         }
     }
 
-    // A second handle of what is noted of the file; none where there is no memory for it.
+    // A second handle of what is noted of the file; `None` if there is no memory for it.
     fn notes(&self) -> Option<(LastError, Written)> {
         Some((self.last_error.share().ok()?, self.written.share().ok()?))
     }
 
     // Brings the name of a recording that was found onto the device: whoever made it may have been
-    // cut off before. Who only reads may not be allowed to, and needn't where nothing is written.
+    // cut off before. Who only reads may not be allowed to, and needn't if nothing is written.
     fn settle_name(&self, is_written: bool) -> Result<(), Refusal> {
         let path = self.plan.file;
         match sync_name(self.rt, path) {
@@ -216,13 +216,13 @@ impl<'a, R: AllocGlobal + Clock + Eprint + Files<File = File> + Wait> Opening<'a
         }
     }
 
-    // Refuses a recording that was longer once: behind the closed gate at its end more blocks go on
+    // Refuses a recording that was longer once: after the closed gate at its end more blocks go on
     // with its digests than a crash leaves there. What is recorded next would be written over them.
     fn demand_end(&self, book: &Book<FileDisk>, file: File) -> Result<(), Refusal> {
         let mut disk = FileDisk::to_read(self.rt, file);
         let gate = book.end().saturating_sub(1);
         let last = book.last_digest();
-        let hidden = hidden_behind(self.rt.alloc(), &mut disk, book.header(), &last, gate)?;
+        let hidden = hidden_after(self.rt.alloc(), &mut disk, book.header(), &last, gate)?;
         if hidden.blocks > LEFT_BY_CRASH {
             self.telling.tell(self.rt, Event::Hidden(hidden.blocks));
             return Err(Refusal::Hidden);
@@ -230,8 +230,8 @@ impl<'a, R: AllocGlobal + Clock + Eprint + Files<File = File> + Wait> Opening<'a
         Ok(())
     }
 
-    /// Reads a recording that was found. One that is to be written is refused where blocks behind its
-    /// end go on with the digests, if the plan doesn't give them up.
+    /// Reads a recording that was found. One that is to be written is refused if blocks after its
+    /// end go on with the digests and the plan doesn't give them up.
     pub fn read(&self, unread: Unread) -> Result<(Box<Book<FileDisk>>, Identity), Refusal> {
         let is_written = self.plan.host.is_some();
         let Unread {
@@ -285,7 +285,7 @@ impl<'a, R: AllocGlobal + Clock + Eprint + Files<File = File> + Wait> Opening<'a
         self.given(synced, "sync the folder of", path, Refusal::File)
     }
 
-    // A new recording on the disk of a file, which is removed where that fails.
+    // A new recording on the disk of a file, which is removed if that fails.
     fn make_book(
         &self,
         header: Header,
@@ -332,8 +332,8 @@ impl<'a, R: AllocGlobal + Clock + Eprint + Files<File = File> + Wait> Opening<'a
         }
     }
 
-    /// Makes a recording at the plan's path where there is none, or no byte. It appears there whole:
-    /// it is made under a name beside, with `.new` behind it, and renamed once its header and first
+    /// Makes a recording at the plan's path if there is none, or no byte. It appears there whole:
+    /// it is made under a name beside, with `.new` after it, and renamed once its header and first
     /// gate are on the device.
     pub fn create(&self, header: Header) -> Result<(Box<Book<FileDisk>>, Identity), Refusal> {
         let no_memory = Refusal::Create(CreateFault::NoMemory);

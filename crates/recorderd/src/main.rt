@@ -15,8 +15,8 @@ use std::{env, io};
 /// The highest number of a standard stream: that of standard error.
 const LAST_STREAM: i32 = 2;
 
-// Where a standard stream is closed, the next file or socket would get its number, and what is
-// printed would be written there. So the null device has it first; it stays open as long as what is
+// If a standard stream is closed, the next file or socket would get its number, and what is printed
+// would be written there. So the null device has it first; it stays open as long as what is
 // answered is kept.
 fn hold_standard_streams(rt: &HostRuntime) -> [Option<File>; 3] {
     let mut held = [None, None, None];
@@ -40,7 +40,7 @@ fn arguments(rt: &HostRuntime) -> io::Result<Vec<String>> {
     Ok(env::args(rt)?.collect(rt.alloc())?)
 }
 
-// How the program ends: with the status of its command, or with 1 where there is no memory for its
+// How the program ends: with the status of its command, or with 1 if there is no memory for its
 // words.
 fn exit_code(status: Option<u8>) -> ExitCode
     requires { IfSome status (λ status. status ≤ 2) }

@@ -37,7 +37,7 @@ data_whole f width height area encodings.Rre body colors shows =
 data_whole f width height area encodings.Hextile body colors shows =
     rw (hextile_content.data_whole f area.w area.h body shows.tiles shows.is) refl
 
--- whatever stands behind them
+-- whatever follows them
 pub data_read : (f : Format) (width height : ℕ) (area : Area) (e : Encoding) (body rest : List ℕ) → data_at f width height e area body ≡ Got tt []
     → data_at f width height e area (body ++ rest) ≡ Got tt rest
 data_read f width height area e body rest whole =
@@ -61,9 +61,9 @@ data_shown f area encodings.Hextile body colors before shows x y across down =
     let row : area.y + y - area.y ≡ y = omega arith in
     rw (hextile_content.data_whole f area.w area.h body shows.tiles shows.is, column, row) (shows.picture x y across down)
 
--- the places of an area, and the others
-pub place_in : (area : Area) (x y : ℕ) → x < area.w → y < area.h → is_in area (area.x + x) (area.y + y) ≡ true
-place_in area x y across down = rw (
+-- the pixels of an area, and the others
+pub pixel_in : (area : Area) (x y : ℕ) → x < area.w → y < area.h → is_in area (area.x + x) (area.y + y) ≡ true
+pixel_in area x y across down = rw (
   le-leb area.x (area.x + x) (omega arith),
   lt-ltb (area.x + x) (area.x + area.w) (omega arith),
   le-leb area.y (area.y + y) (omega arith),
@@ -74,7 +74,7 @@ pub has_colors : (f : Format) (area : Area) (e : Encoding) (body : List ℕ) (co
     → HasColors area colors before (painted_data f e area body before)
 unfolding painted_data
 has_colors f area e body colors before shows = record {
-  here = λ x y across down. rw (place_in area x y across down) (data_shown f area e body colors before shows x y across down);
+  here = λ x y across down. rw (pixel_in area x y across down) (data_shown f area e body colors before shows x y across down);
   elsewhere = λ x y away. rw away refl;
 }
 

@@ -24,7 +24,7 @@ use Rattle.rect_codec.specs.Update.{Drawn, rectangle_at, rectangles_at, update_a
 use Rattle.rect_codec.specs.Parts.{source_bytes, parts_head, IsRectangle, IsRectangleFor, IsPart, AreParts, PartLiesWithin, HasCopied, Draws, DrawsParts}
 use Rattle.rect_codec.specs.Written.{ArePixels, Shows}
 use Rattle.rect_codec.proofs.PixelsJoined.{pixels_show}
-use Rattle.rect_codec.proofs.Drawing.{data_whole, data_read, place_in, has_colors, u16_back, rectangle_read, encoding_is, inside_is}
+use Rattle.rect_codec.proofs.Drawing.{data_whole, data_read, pixel_in, has_colors, u16_back, rectangle_read, encoding_is, inside_is}
 
 -- a part that is read as a rectangle which paints what it says
 record IsRead (f : Format) (width height : ℕ) (part : Part) (bytes rest : List ℕ) : Type 0 where
@@ -42,7 +42,7 @@ has_copied f area x y before = record {
   here = λ column row across down.
       let right : area.x + column - area.x ≡ column = omega arith in
       let below : area.y + row - area.y ≡ row = omega arith in
-      rw (place_in area column row across down, source_back area x y, right, below) refl;
+      rw (pixel_in area column row across down, source_back area x y, right, below) refl;
   elsewhere = λ column row away. rw away refl;
 }
 
@@ -81,11 +81,11 @@ unfolding rectangles_at
 parts_read f width height [] bytes inside none = record { drawn = []; reads = ap (Got []) none; each = tt }
 parts_read f width height (part ∷ others) bytes inside are =
     let first = part_read f width height part are.0 are.1 (inside 0 part (omega arith)) are.3 in
-    let behind = parts_read f width height others are.1 (λ k d less. inside (suc k) d (omega arith)) are.4 in
+    let following = parts_read f width height others are.1 (λ k d less. inside (suc k) d (omega arith)) are.4 in
     record {
-      drawn = first.drawn ∷ behind.drawn;
-      reads = ap (rectangles_at f width height (suc (length others))) are.2 ∙ rw (first.reads, behind.reads) refl;
-      each = (first.draws, behind.each);
+      drawn = first.drawn ∷ following.drawn;
+      reads = ap (rectangles_at f width height (suc (length others))) are.2 ∙ rw (first.reads, following.reads) refl;
+      each = (first.draws, following.each);
     }
 
 pub draws_parts : (f : Format) (width height : ℕ) (parts : List Part) (bytes : List ℕ) → length parts < 2 ^ 16 → All (PartLiesWithin width height) parts → AreParts f parts bytes
@@ -100,12 +100,12 @@ draws_parts f width height parts bytes few inside u =
       each = read.each;
     }
 
--- what holds of an answer where two things do
+-- what holds of an answer if two things do
 pub on_ok_both : {T E P Q R : Type 0} (r : Result T E) → OnOk r P → OnOk r Q → (P → Q → R) → OnOk r R
 on_ok_both (Ok value) p q give = give p q
 on_ok_both (Err fault) p q give = tt
 
--- a head, and rectangles behind it
+-- a head, and rectangles after it
 pub update_of_parts : (f : Format) (parts : List Part) (old between new : List ℕ) → between ≡ old ++ parts_head (length parts)
     → Appends (AreEach (IsPart f) parts) between new → Appends (AreParts f parts) old new
 update_of_parts f parts old between new begin a = record {
@@ -114,7 +114,7 @@ update_of_parts f parts old between new begin a = record {
   are = record { body = a.bytes; bytes_are = refl; are = a.are };
 }
 
--- a head, and pixels behind it
+-- a head, and pixels after it
 pub raw_rectangle : (f : Format) (area : Area) (colors : List Color) (old between new : List ℕ) → length colors ≡ area.h * area.w
     → between ≡ old ++ rectangle_head area (number_of encodings.Raw) → Appends (ArePixels f colors) between new → Appends (IsRectangle f area colors encodings.Raw) old new
 raw_rectangle f area colors old between new size begin pixels =
@@ -141,7 +141,7 @@ raw_for f area colors asked old new a =
       is = a.is;
     }
 
--- a head, and data behind it that are shorter than in Raw
+-- a head, and data after it that are shorter than in Raw
 pub short_rectangle : (f : Format) (area : Area) (colors : List Color) (asked : Encoding) (old between new : List ℕ)
     → between ≡ old ++ rectangle_head area (number_of asked) → Appends (Shows asked f area.w area.h colors) between new
     → length new < length between + area.h * area.w * pixel_bytes f → Appends (IsRectangleFor f area colors asked) old new

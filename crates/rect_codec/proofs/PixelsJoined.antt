@@ -1,4 +1,4 @@
--- Pixels that stand one behind the other.
+-- Pixels that stand one after the other.
 use Rattle.std.proofs.Common.{◌≡◌, ℕ, zero, suc, ◌+◌, ◌-◌, ◌*◌, ◌≤◌, List, [], ◌∷◌, ◌++◌, length, take, drop, inl, inr, refl, sym, ap, subst, ◌∙◌, arith, length-append, zero-mul}
 use Rattle.std.specs.Int.{bytes_low_first, bytes_high_first}
 use Rattle.std.specs.List.{flat_map}
@@ -18,7 +18,7 @@ use Rattle.rect_codec.specs.Written.{IsPixelOf, ArePixels, ShowsRaw}
 distribute : (a b s : ℕ) → (a + b) * s ≡ a * s + b * s
 distribute a b s = mul_comm (a + b) s ∙ mul-add s a b ∙ omega (arith, mul_comm s a, mul_comm s b)
 
--- the pixels of some colours, and those of others behind them
+-- the pixels of some colours, and those of others after them
 pub are_joined : (f : Format) (a b : List Color) (p q : List ℕ) → ArePixels f a p → ArePixels f b q → ArePixels f (a ++ b) (p ++ q)
 are_joined f a b p q first second =
     let s = pixel_bytes f in
@@ -34,7 +34,7 @@ are_joined f a b p q first second =
             let color : nth (a ++ b) n ≡ nth a n = get_or-append a b black n below in
             let is : IsPixelOf f (nth a n) (pixel_at f p n) = first.pixels_are n below in
             subst (λ (c : Color). IsPixelOf f c (pixel_at f (p ++ q) n)) (sym color) (subst (λ (z : List ℕ). IsPixelOf f (nth a n) z) (sym pixel) is)
-        | inr behind ↦
+        | inr following ↦
             let m = n - length a in
             let split : length a + m ≡ n = omega arith in
             let start : length p + m * s ≡ n * s = omega (arith, first.size, distribute (length a) m s, ap (λ (k : ℕ). k * s) split) in
@@ -74,7 +74,7 @@ one_pixel f c pixel long is = record {
       rw (first, whole) is;
 }
 
--- bytes that have the colours, one behind the other, and are those that are written of them
+-- bytes that have the colours, one after the other, and are those that are written of them
 pub pixels_are : (f : Format) (colors : List Color) (bytes : List ℕ) → HavePixels f colors bytes → bytes ≡ flat_map (pixel_of f) colors → ArePixels f colors bytes
 pixels_are f [] bytes none written = subst (ArePixels f []) (sym none) (no_pixels f)
 pixels_are f (c ∷ colors) bytes are written =
@@ -84,9 +84,9 @@ pixels_are f (c ∷ colors) bytes are written =
     let both : first ++ rest ≡ pixel_of f c ++ flat_map (pixel_of f) colors = sym are.2 ∙ written in
     let same : first ≡ pixel_of f c =
     sym (take_at first rest (pixel_bytes f) are.3.size) ∙ ap (take (pixel_bytes f)) both ∙ take_at (pixel_of f c) (flat_map (pixel_of f) colors) (pixel_bytes f) one in
-    let behind : rest ≡ flat_map (pixel_of f) colors = append_cancel_left first rest (flat_map (pixel_of f) colors) (both ∙ ap (λ (z : List ℕ). z ++ flat_map (pixel_of f) colors) (sym same)) in
+    let following : rest ≡ flat_map (pixel_of f) colors = append_cancel_left first rest (flat_map (pixel_of f) colors) (both ∙ ap (λ (z : List ℕ). z ++ flat_map (pixel_of f) colors) (sym same)) in
     subst (ArePixels f (c ∷ colors)) (sym are.2)
-    (are_joined f (c ∷ []) colors first rest (one_pixel f c first are.3.size (record { bytes_are = same; color_is = sym are.3.color_is })) (pixels_are f colors rest are.4 behind))
+    (are_joined f (c ∷ []) colors first rest (one_pixel f c first are.3.size (record { bytes_are = same; color_is = sym are.3.color_is })) (pixels_are f colors rest are.4 following))
 
 -- the same of what is appended
 pub pixels_appended : (f : Format) (colors : List Color) (old new : List ℕ) → Appends (HavePixels f colors) old new → new ≡ old ++ flat_map (pixel_of f) colors
@@ -100,13 +100,13 @@ pixels_appended f colors old new a written = record {
 -- appended pixels show their colours, by rows
 pub pixels_show : (f : Format) (w h : ℕ) (colors : List Color) (old new : List ℕ) → length colors ≡ h * w
     → Appends (ArePixels f colors) old new → Appends (ShowsRaw f w h colors) old new
-pixels_show f w h colors old new places appended =
+pixels_show f w h colors old new all_pixels appended =
     let pixels = appended.are in
     record {
       bytes = appended.bytes;
       is = appended.is;
       are = record {
-        size = pixels.size ∙ ap (λ (n : ℕ). n * pixel_bytes f) places;
+        size = pixels.size ∙ ap (λ (n : ℕ). n * pixel_bytes f) all_pixels;
         are = pixels;
         picture = λ column row across down. (pixels.pixels_are (row * w + column) (omega (arith, mul-le-mul_left w down))).color_is;
       };

@@ -4,8 +4,7 @@ use Rattle.rect_data.specs.declared.encoding.Encoding.{Encoding}
 use Rattle.rect_data.specs.declared.encoding.Encoding.TheVariants as encodings
 use Rattle.rect_data.specs.Data.{number_of}
 
--- one whose data say by themselves what stands at each place: any but CopyRect (RFC 6143, section
--- 7.7.2)
+-- one whose data say by themselves what each pixel is: any but CopyRect (RFC 6143, section 7.7.2)
 abbrev pub IsWritten : Encoding → Type 0
 IsWritten encoding = encoding ≡ encodings.CopyRect → ⊥
 
@@ -17,6 +16,6 @@ IsOther number = (encoding : Encoding) → IsWritten encoding → number ≡ pos
 pub record StandsFirst (numbers : List ℤ) (encoding : Encoding) : Type 0 where
   pub written : IsWritten encoding
   pub before : List ℤ
-  pub behind : List ℤ
-  pub numbers_are : numbers ≡ before ++ pos (number_of encoding) ∷ behind
+  pub following : List ℤ
+  pub numbers_are : numbers ≡ before ++ pos (number_of encoding) ∷ following
   pub others : All IsOther before

@@ -21,7 +21,7 @@ use Rattle.rect_codec.specs.Written.{Shows}
 
 -- ---- as they are written
 
--- a colour for each place of the area, all of which the format can show; a copy has none
+-- a colour for each pixel of the area, all of which the format can show; a copy has none
 abbrev pub CanBeWritten : Format → Part → Type 0
 CanBeWritten f (parts.Copy area x y) = Unit {0}
 CanBeWritten f (parts.Colors area colors asked) = (length colors.now ≡ area.h * area.w) × All (IsWithin f) colors.now
@@ -35,7 +35,7 @@ parts_head count = 0 ∷ 0 ∷ count / 256 ∷ count % 256 ∷ []
 abbrev pub source_bytes : ℕ → ℕ → List ℕ
 source_bytes x y = x / 256 ∷ x % 256 ∷ y / 256 ∷ y % 256 ∷ []
 
--- a rectangle in this encoding, whose data show the colours, by rows, at the places of its area
+-- a rectangle in this encoding, whose data show the colours, by rows, at the pixels of its area
 pub record IsRectangle (f : Format) (area : Area) (colors : List Color) (encoding : Encoding) (bytes : List ℕ) : Type 0 where
   pub body : List ℕ
   pub bytes_are : bytes ≡ rectangle_head area (number_of encoding) ++ body
@@ -77,7 +77,7 @@ PartLiesWithin width height (parts.Copy area x y) =
     LiesWithin width height area × LiesWithin width height (record { x = x; y = y; w = area.w; h = area.h })
 PartLiesWithin width height (parts.Colors area colors asked) = LiesWithin width height area
 
--- a picture that has, at the places of an area, what another one has at those of an area as large
+-- a picture that has, at the pixels of an area, what another one has at those of an area as large
 -- from (x, y) on, and is that other one elsewhere
 pub record HasCopied (area : Area) (source_x source_y : ℕ) (before new : Picture) : Type 0 where
   pub here : (x y : ℕ) → x < area.w → y < area.h → new (area.x + x) (area.y + y) ≡ before (source_x + x) (source_y + y)

@@ -12,11 +12,11 @@ use Rattle.rect_data.specs.declared.encoding.Encoding.{Encoding}
 use Rattle.rect_data.specs.declared.encoding.Encoding.TheVariants as encodings
 use Rattle.rect_data.specs.Grammar.{source_of}
 
--- the place lies in the area
+-- the pixel lies in the area
 abbrev pub is_in : Area → ℕ → ℕ → Bool
 is_in area x y = covers area.x area.y area.w area.h x y
 
--- the pixel of this number, where pixels stand one behind the other
+-- the pixel of this number, of pixels one after the other
 abbrev pub pixel_at : Format → List ℕ → ℕ → List ℕ
 pixel_at f bytes n = take (pixel_bytes f) (drop (n * pixel_bytes f) bytes)
 
@@ -30,7 +30,7 @@ raw_picture f area bytes x y = pixel_rows f area.w bytes (x - area.x) (y - area.
 unfoldable pub copied_picture : Area → Area → Picture → Picture
 copied_picture source area before x y = before (source.x + (x - area.x)) (source.y + (y - area.y))
 
--- The picture of what data say, of whose rectangle this is the corner; black where they say nothing.
+-- The picture of what data say, of whose rectangle this is the corner; black if they say nothing.
 abbrev pub shown_at : {A E : Type 0} → Area → (A → Picture) → Reading A E → Picture
 shown_at area picture (Got content rest) x y = picture content (x - area.x) (y - area.y)
 shown_at area picture More x y = record { r = 0; g = 0; b = 0 }
@@ -50,7 +50,7 @@ picture_of f encodings.CopyRect area bytes before = copied_picture (source_of ar
 picture_of f encodings.Rre area bytes before = rre_shown f area bytes
 picture_of f encodings.Hextile area bytes before = hextile_shown f area bytes
 
--- Painting a rectangle changes the places of its area alone.
+-- Painting a rectangle changes the pixels of its area alone.
 unfoldable pub painted_data : Format → Encoding → Area → List ℕ → Picture → Picture
 painted_data f encoding area bytes before x y =
     if is_in area x y then picture_of f encoding area bytes before x y else before x y

@@ -41,7 +41,7 @@ rectangle_at f width height bytes = field 12 bytes >>= λ head rest.
     guard (is_inside width height (area_of head)) faults.OutsideScreen
     (encoded_at f width height (u32_at head 8) (encoding_of (u32_at head 8)) (area_of head) rest)
 
--- so many rectangles, one behind the other
+-- so many rectangles, one after the other
 unfoldable pub rectangles_at : Format → ℕ → ℕ → ℕ → List ℕ → Reading (List Drawn) WireFault
 rectangles_at f width height zero bytes = Got [] bytes
 rectangles_at f width height (suc count) bytes = rectangle_at f width height bytes >>= λ first rest.
@@ -62,7 +62,7 @@ abbrev pub all_painted : Format → List Drawn → Picture → Picture
 all_painted f [] before = before
 all_painted f (d ∷ ds) before = all_painted f ds (painted f d before)
 
--- a picture with these colours, by rows, at the places of an area, and as it was elsewhere
+-- a picture with these colours, by rows, at the pixels of an area, and as it was elsewhere
 pub record HasColors (area : Area) (colors : List Color) (before new : Picture) : Type 0 where
   pub here : (x y : ℕ) → x < area.w → y < area.h → new (area.x + x) (area.y + y) ≡ rows_of colors area.w x y
   pub elsewhere : (x y : ℕ) → is_in area x y ≡ false → new x y ≡ before x y

@@ -21,14 +21,15 @@ pub record ArePixels (f : Format) (colors : List Color) (bytes : List ℕ) : Typ
   pub size : length bytes ≡ length colors * pixel_bytes f
   pub pixels_are : (n : ℕ) → n < length colors → IsPixelOf f (nth colors n) (pixel_at f bytes n)
 
--- Raw data: a pixel for each place, by rows from the top and each from the left (section 7.7.1)
+-- Raw data: a pixel value for each pixel, by rows from the top and each from the left (section
+-- 7.7.1)
 pub record ShowsRaw (f : Format) (w h : ℕ) (colors : List Color) (bytes : List ℕ) : Type 0 where
   pub size : length bytes ≡ h * w * pixel_bytes f
   pub are : ArePixels f colors bytes
   pub picture : Agree w h (pixel_rows f w bytes) (rows_of colors w)
 
 -- the data of a rectangle of w by h that show these colours, by rows (sections 7.7.1, 7.7.3 and
--- 7.7.4); those of CopyRect show none, but name places of a screen
+-- 7.7.4); those of CopyRect show none, but name pixels of a screen
 abbrev pub Shows : Encoding → Format → ℕ → ℕ → List Color → List ℕ → Type 0
 Shows encodings.Raw f w h colors bytes = ShowsRaw f w h colors bytes
 Shows encodings.CopyRect f w h colors bytes = ⊥

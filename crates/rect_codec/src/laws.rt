@@ -11,7 +11,7 @@ ghost use Rattle.rect_codec.specs.Parts.{IsUpdateFor, AreParts, PartLiesWithin, 
 ghost use Rattle.rect_codec.specs.Update.{DrawsColors};
 
 /// What `write_update` appends is read whole, in its format and on any screen that holds the area,
-/// as one rectangle of that area. Painted over any picture, it gives the places of the area the
+/// as one rectangle of that area. Painted over any picture, it gives the pixels of the area the
 /// colours, and leaves the others as they were.
 pub fn written_update_is_read()
     ensures { (format : Format) → (width height : ℕ) → (area : Area) → (colors : List Color)
@@ -21,8 +21,8 @@ pub fn written_update_is_read()
 
 /// What `write_parts` appends is read whole, in its format and on any screen that holds the areas
 /// and what is copied, as a rectangle for each part, in their order. Painted over any picture, a
-/// rectangle of colours gives the places of its area those colours, and a copy gives them what that
-/// picture has at the places that are copied; both leave the other places as they were.
+/// rectangle of colours gives the pixels of its area those colours, and a copy gives them what that
+/// picture has at the pixels that are copied; both leave the other pixels as they were.
 pub fn written_parts_are_read()
     ensures { (format : Format) → (width height : ℕ) → (parts : List Part) → (bytes : List ℕ)
         → AreParts format parts bytes → length parts < 2 ^ 16

@@ -14,8 +14,8 @@ use std::alloc::Global;
 use terms::{Area, NoMemory, whole_or_none};
 
 // Appends the data of a rectangle in this encoding if they are shorter than in Raw, and answers
-// whether they are: in Raw and CopyRect they never are. Where they aren't, and when memory runs
-// out, `out` stays as it was.
+// whether they are: in Raw and CopyRect they never are. If they aren't, and when memory runs out,
+// `out` stays as it was.
 fn append_data(
     alloc: Global,
     format: &PixelFormat,
@@ -35,9 +35,9 @@ fn append_data(
     }
 }
 
-/// Appends a rectangle in this encoding that gives the places of its area these pixels, by rows, if
-/// it is shorter than one in Raw, and answers whether it is there: in Raw and CopyRect it never is.
-/// Where it isn't, and when memory runs out, `out` stays as it was.
+/// Appends a rectangle in this encoding that gives its area these pixels, by rows, if it is shorter
+/// than one in Raw, and answers whether it is there: in Raw and CopyRect it never is. If it isn't,
+/// and when memory runs out, `out` stays as it was.
 pub fn append_numbers(
     alloc: Global,
     format: &PixelFormat,
@@ -65,8 +65,8 @@ pub fn append_numbers(
     written
 }
 
-/// Appends a rectangle in Raw that gives the places of its area these pixels, by rows. Running out
-/// of memory leaves `out` as it was.
+/// Appends a rectangle in Raw that gives its area these pixels, by rows. Running out of memory
+/// leaves `out` as it was.
 pub(crate) fn append_raw(
     format: &PixelFormat,
     area: Area,

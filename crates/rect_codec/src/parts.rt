@@ -16,15 +16,15 @@ use terms::{Area, NoMemory, two_bytes, whole_or_none};
 /// What one rectangle of an update says (RFC 6143, section 7.7).
 #[derive(Clone, Copy)]
 pub enum Part<'a> {
-    /// The places of the area become those of an area as large, whose left top corner is at this
+    /// The pixels of the area become those of an area as large, whose left top corner is at this
     /// column and row, as the rectangles before it have left them (section 7.7.2).
     Copy {
         area: Area,
         sx: u16,
         sy: u16,
     },
-    /// The places of the area get these colours, by rows from the top and each from the left. The
-    /// rectangle is written in this encoding where that makes it shorter than Raw, and else in Raw.
+    /// The pixels of the area get these colours, by rows from the top and each from the left. The
+    /// rectangle is written in this encoding if that makes it shorter than Raw, and else in Raw.
     Colors {
         area: Area,
         colors: &'a [Color],
@@ -92,8 +92,8 @@ fn append_parts(
 
 /// Appends a FramebufferUpdate (RFC 6143, section 7.6.1) with a rectangle for each of these parts,
 /// in their order; none gives an update of no rectangles. The colours keep to the format's maxima.
-/// A rectangle of colours never has more bytes than 12 and a pixel for each place. Running out of
-/// memory leaves `out` as it was.
+/// A rectangle of colours never has more bytes than 12 and a pixel value for each pixel. Running
+/// out of memory leaves `out` as it was.
 pub fn write_parts(
     alloc: Global,
     format: &PixelFormat,

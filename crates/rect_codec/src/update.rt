@@ -26,11 +26,11 @@ pub fn append_head(area: Area, encoding: Encoding, out: &mut Vec<u8>) -> Result<
     ])
 }
 
-/// Appends a FramebufferUpdate of one rectangle (RFC 6143, section 7.6.1) that gives the places of
+/// Appends a FramebufferUpdate of one rectangle (RFC 6143, section 7.6.1) that gives the pixels of
 /// its area these colours, by rows from the top and each from the left, in a format to whose maxima
-/// they keep. It is written in the encoding that is asked for where that makes it shorter than Raw,
-/// and else, as for CopyRect, in Raw: so it never has more bytes than 16 and a pixel for each
-/// place. Running out of memory leaves `out` as it was.
+/// they keep. It is written in the encoding that is asked for if that makes it shorter than Raw,
+/// and else, as for CopyRect, in Raw: so it never has more bytes than 16 and a pixel value for each
+/// pixel. Running out of memory leaves `out` as it was.
 pub fn write_update(
     alloc: Global,
     format: &PixelFormat,

@@ -85,7 +85,7 @@ copy_read : (f : Format) (width height : ℕ) (area : Area) (bytes rest : List �
     → DataRead f width height encodings.CopyRect area bytes rest
 unfolding copy_at
 copy_read f width height area bytes rest x e =
-    let b = bind_got (field 4 bytes) (λ place after. guard (is_inside width height (source_of area place)) faults.SourceOutside (Got tt after)) x rest e in
+    let b = bind_got (field 4 bytes) (λ source after. guard (is_inside width height (source_of area source)) faults.SourceOutside (Got tt after)) x rest e in
     let p = field_front 4 bytes b.value b.rest (field_got 4 bytes b.value b.rest b.first) in
     let g = guard_got (is_inside width height (source_of area b.value)) faults.SourceOutside (Got tt b.rest) x rest b.then in
     let last = g.1 in
@@ -152,9 +152,9 @@ data_are f width height encoding area bytes e =
     let d = data_read f width height encoding area bytes [] tt e in
     subst (AreData f width height encoding area) (sym (d.bytes_are ∙ append-nil d.front)) d.is
 
-pub none_behind : (f : Format) (width height : ℕ) (encoding : Encoding) (area : Area) (bytes more : List ℕ) → AreData f width height encoding area bytes
+pub none_after : (f : Format) (width height : ℕ) (encoding : Encoding) (area : Area) (bytes more : List ℕ) → AreData f width height encoding area bytes
     → AreData f width height encoding area (bytes ++ more) → more ≡ []
-none_behind f width height encoding area bytes more is longer =
+none_after f width height encoding area bytes more is longer =
     let first = data_again f width height encoding area bytes more is in
     let second = data_whole f width height encoding area (bytes ++ more) longer in
     cc

@@ -29,9 +29,9 @@ raw_local f area bytes more =
 copy_local : (width height : ℕ) (area : Area) → IsLocal (copy_at width height area)
 unfolding copy_at
 copy_local width height area bytes more =
-    let g : List ℕ → List ℕ → Reading Unit WireFault = λ place rest. guard (is_inside width height (source_of area place)) faults.SourceOutside (Got tt rest) in
+    let g : List ℕ → List ℕ → Reading Unit WireFault = λ source rest. guard (is_inside width height (source_of area source)) faults.SourceOutside (Got tt rest) in
     bind_local (field 4 bytes) (field 4 (bytes ++ more)) more g g (field_local WireFault 4 bytes more)
-    (λ place rest. guard_local (is_inside width height (source_of area place)) faults.SourceOutside (Got tt rest) (Got tt (rest ++ more)) more refl)
+    (λ source rest. guard_local (is_inside width height (source_of area source)) faults.SourceOutside (Got tt rest) (Got tt (rest ++ more)) more refl)
 
 -- ---- the codecs
 

@@ -30,15 +30,15 @@ pub pixels_whole : (f : Format) (area : Area) (pixels more : List ℕ) → lengt
 unfolding raw_at
 pixels_whole f area pixels more whole = rw (field-whole {E = WireFault} (pixel_bytes f * (area.w * area.h)) pixels more whole) refl
 
-pub source_inside : (width height : ℕ) (area : Area) (place more : List ℕ) → length place ≡ 4 → is_inside width height (source_of area place) ≡ true
-    → copy_at width height area (place ++ more) ≡ Got tt more
+pub source_inside : (width height : ℕ) (area : Area) (source more : List ℕ) → length source ≡ 4 → is_inside width height (source_of area source) ≡ true
+    → copy_at width height area (source ++ more) ≡ Got tt more
 unfolding copy_at
-source_inside width height area place more whole inside = rw (field-whole {E = WireFault} 4 place more whole, inside) refl
+source_inside width height area source more whole inside = rw (field-whole {E = WireFault} 4 source more whole, inside) refl
 
-pub source_outside : (width height : ℕ) (area : Area) (place more : List ℕ) → length place ≡ 4 → is_inside width height (source_of area place) ≡ false
-    → copy_at width height area (place ++ more) ≡ Bad faults.SourceOutside
+pub source_outside : (width height : ℕ) (area : Area) (source more : List ℕ) → length source ≡ 4 → is_inside width height (source_of area source) ≡ false
+    → copy_at width height area (source ++ more) ≡ Bad faults.SourceOutside
 unfolding copy_at
-source_outside width height area place more whole outside = rw (field-whole {E = WireFault} 4 place more whole, outside) refl
+source_outside width height area source more whole outside = rw (field-whole {E = WireFault} 4 source more whole, outside) refl
 
 -- whether data are whole is the same whatever they say
 pub judged_rre : (fault : WireFault) (r : Reading rre.Content rre.Fault) → judged_as fault (rre_measuring.judged r) ≡ judged_as fault r
@@ -110,19 +110,19 @@ pub copy_short : (width height : ℕ) (area : Area) (bytes : List ℕ) → lengt
 unfolding copy_at
 copy_short width height area bytes short = rw (field-short {E = WireFault} 4 bytes short) refl
 
-place_size : (bytes : List ℕ) → 4 ≤ length bytes → length (take 4 bytes) ≡ 4
-place_size bytes whole = rw (length-take 4 bytes) (omega (arith, whole))
+source_size : (bytes : List ℕ) → 4 ≤ length bytes → length (take 4 bytes) ≡ 4
+source_size bytes whole = rw (length-take 4 bytes) (omega (arith, whole))
 
 pub copy_inside : (width height : ℕ) (area : Area) (bytes : List ℕ) → 4 ≤ length bytes → is_inside width height (source_of area (take 4 bytes)) ≡ true
     → copy_at width height area bytes ≡ Got tt (drop 4 bytes)
 copy_inside width height area bytes whole inside =
-    ap (copy_at width height area) (sym (take-append-drop 4 bytes)) ∙ source_inside width height area (take 4 bytes) (drop 4 bytes) (place_size bytes whole) inside
+    ap (copy_at width height area) (sym (take-append-drop 4 bytes)) ∙ source_inside width height area (take 4 bytes) (drop 4 bytes) (source_size bytes whole) inside
 
 pub copy_outside : (width height : ℕ) (area : Area) (bytes : List ℕ) → 4 ≤ length bytes → is_inside width height (source_of area (take 4 bytes)) ≡ false
     → copy_at width height area bytes ≡ Bad faults.SourceOutside
 copy_outside width height area bytes whole outside =
-    ap (copy_at width height area) (sym (take-append-drop 4 bytes)) ∙ source_outside width height area (take 4 bytes) (drop 4 bytes) (place_size bytes whole) outside
+    ap (copy_at width height area) (sym (take-append-drop 4 bytes)) ∙ source_outside width height area (take 4 bytes) (drop 4 bytes) (source_size bytes whole) outside
 
 -- bytes that are split in two
-pub parts_of : (n : ℕ) (bytes front behind : List ℕ) → front ≡ take n bytes → behind ≡ drop n bytes → bytes ≡ front ++ behind
-parts_of n bytes front behind e d = rw (e, d) (sym (take-append-drop n bytes))
+pub parts_of : (n : ℕ) (bytes front following : List ℕ) → front ≡ take n bytes → following ≡ drop n bytes → bytes ≡ front ++ following
+parts_of n bytes front following e d = rw (e, d) (sym (take-append-drop n bytes))

@@ -25,19 +25,19 @@ encoding_of number =
 unfoldable pub is_inside : ℕ → ℕ → Area → Bool
 is_inside width height a = nat_le (a.x + a.w) width && nat_le (a.y + a.h) height
 
--- Raw data: a pixel for each place (section 7.7.1)
+-- Raw data: a pixel value for each pixel (section 7.7.1)
 unfoldable pub raw_at : Format → Area → List ℕ → Reading Unit WireFault
 raw_at f area bytes = field (pixel_bytes f * (area.w * area.h)) bytes >>= λ pixels rest. Got tt rest
 
 -- the area that is copied: x and y stand in four bytes, and it is as large as the rectangle
 -- (section 7.7.2)
 unfoldable pub source_of : Area → List ℕ → Area
-source_of area place = record { x = u16_at place 0; y = u16_at place 2; w = area.w; h = area.h }
+source_of area source = record { x = u16_at source 0; y = u16_at source 2; w = area.w; h = area.h }
 
--- CopyRect data: the place of an area within the screen
+-- CopyRect data: the upper left corner of an area within the screen
 unfoldable pub copy_at : ℕ → ℕ → Area → List ℕ → Reading Unit WireFault
-copy_at width height area bytes = field 4 bytes >>= λ place rest.
-    guard (is_inside width height (source_of area place)) faults.SourceOutside (Got tt rest)
+copy_at width height area bytes = field 4 bytes >>= λ source rest.
+    guard (is_inside width height (source_of area source)) faults.SourceOutside (Got tt rest)
 
 -- what a codec says of its data, with the fault by which they are refused here
 abbrev pub judged_as : {A E : Type 0} → WireFault → Reading A E → Reading Unit WireFault

@@ -13,13 +13,13 @@ pub enum Encoding {
     CopyRect = 1,
     /// A background, and subrectangles over it (section 7.7.3).
     Rre = 2,
-    /// Tiles of 16 by 16 places, each with its own background and subrectangles, or its pixels
+    /// Tiles of 16 by 16 pixels, each with its own background and subrectangles, or its pixels
     /// (section 7.7.4).
     Hextile = 5,
 }
 
 impl Encoding {
-    /// The encoding that has this number; none where it isn't one of the four.
+    /// The encoding that has this number; none if it isn't one of the four.
     pub fn from_number(number: u32) -> Option<Encoding>
         ensures { result ≡ encoding_of number }
     {

@@ -17,13 +17,13 @@ pub fn lies_inside(area: Area, size: ScreenSize) -> bool
 /// The area that is copied to a rectangle of this area: x and y stand in four bytes, the higher
 /// byte of each first, and it is as large as the rectangle (RFC 6143, section 7.7.2).
 #[tactic(auto, unfolding(crate::specs::Grammar::source_of))]
-pub fn source_at(area: Area, place: &[u8]) -> Area
-    requires { length place.now ≡ 4 }
-    ensures { result ≡ source_of area place.now }
+pub fn source_at(area: Area, source: &[u8]) -> Area
+    requires { length source.now ≡ 4 }
+    ensures { result ≡ source_of area source.now }
 {
     Area {
-        x: read_u16(place, 0),
-        y: read_u16(place, 2),
+        x: read_u16(source, 0),
+        y: read_u16(source, 2),
         w: area.w,
         h: area.h,
     }

@@ -18,7 +18,7 @@ use terms::{Area, ScreenSize, WireFault};
 pub enum Judging {
     /// The pixels of a Raw rectangle of this area.
     Pixels(Area),
-    /// The place from which a rectangle of this area is copied.
+    /// The upper left corner of what is copied to a rectangle of this area.
     Source(Area),
     /// A field of the data of an RRE rectangle of w by h.
     Rre {
@@ -79,8 +79,7 @@ fn hextile_run(
 }
 
 impl Judging {
-    /// The field with which the data of a rectangle of this area begin, `None` where it has no
-    /// data.
+    /// The field with which the data of a rectangle of this area begin, `None` if it has no data.
     pub fn start(format: &PixelFormat, encoding: Encoding, area: Area) -> Option<Judging>
         ensures goes { (width height : ℕ) → (more : List ℕ)
             → go_on format.now width height result more ≡ data_at format.now width height encoding area more }
@@ -114,10 +113,10 @@ impl Judging {
         }
     }
 
-    /// Judges the whole fields that the bytes begin with, on a screen of this size. Answers how many
-    /// bytes they have, and the field behind them, which isn't whole in the bytes, `None` where the
-    /// data end; or the fault of the first field that is refused: `SourceOutside` at the place of a
-    /// CopyRect rectangle's source, `BadRre` at a subrectangle that leaves an RRE rectangle, and
+    /// Judges the whole fields that the bytes begin with, on a screen of this size. Answers how
+    /// many bytes they have, and the field after them, which isn't whole in the bytes, `None` if
+    /// the data end; or the fault of the first field that is refused: `SourceOutside` at the source
+    /// of a CopyRect rectangle, `BadRre` at a subrectangle that leaves an RRE rectangle, and
     /// `BadHextile` at a mask that may not stand in a Hextile rectangle and at a subrectangle that
     /// leaves its tile.
     pub fn run(
@@ -146,8 +145,8 @@ impl Judging {
                 if bytes.len() < 4 {
                     return Ok((0, Some(self)));
                 }
-                let (place, _) = bytes.split_at(4);
-                if !lies_inside(source_at(area, place), size) {
+                let (source, _) = bytes.split_at(4);
+                if !lies_inside(source_at(area, source), size) {
                     return Err(WireFault::SourceOutside);
                 }
                 Ok((4, None))

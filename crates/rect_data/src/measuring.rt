@@ -62,7 +62,7 @@ fn measure_hextile(
 }
 
 /// The length of the data that begin the bytes, of a rectangle of this area on a screen of this
-/// size (RFC 6143, section 7.7); `None` where they are too few. A fault is that of the first field
+/// size (RFC 6143, section 7.7); `None` if they are too few. A fault is that of the first field
 /// that is refused: `BadRre`, `BadHextile`, or `SourceOutside`. It takes no memory.
 pub fn measure(
     format: &PixelFormat,

@@ -26,23 +26,23 @@ take_more {X} (suc n) m (x ∷ xs) =
     let one : suc n + m ≡ suc (n + m) = omega arith in
     ap (λ k. take k (x ∷ xs)) one ∙ ap (λ t. x ∷ t) (take_more n m xs)
 
--- the messages behind those that were painted are painted
+-- the messages after those that were painted are painted
 pub shown_with : (screen : Framebuffer) (n count : ℕ) (all read : List Stamped) → read ≡ take count (drop n all) → Shows screen (hosts_of (take n all) ++ hosts_of read)
     → Shows screen (hosts_of (take (n + count) all))
 shown_with screen n count all read is shows =
     let painted : take (n + count) all ≡ take n all ++ read = take_more n count all ∙ ap (λ t. take n all ++ t) (sym is) in
     subst (λ hosts. Shows screen hosts) (sym (ap hosts_of painted ∙ map-append message_of (take n all) read)) shows
 
--- the message behind the first n, taken off a list of it alone
+-- the message after the first n, taken off a list of it alone
 only_one : (x s : Stamped) (left : List Stamped) → x ∷ [] ≡ left ++ s ∷ [] → x ≡ s
 only_one x s [] e = cc
 only_one x s (l ∷ left) e = absurd (omega (arith, ap length e, length-append left (s ∷ [])))
 
-pub message_behind : (all : List Stamped) (n : ℕ) (s : Stamped) (left read : List Stamped) → read ≡ take 1 (drop n all) → read ≡ left ++ s ∷ [] → slice_get all n ≡ Some s
-message_behind [] zero s left read is popped = absurd (omega (arith, ap length is, ap length popped, length-append left (s ∷ [])))
-message_behind [] (suc n) s left read is popped = absurd (omega (arith, ap length is, ap length popped, length-append left (s ∷ [])))
-message_behind (x ∷ all) zero s left read is popped = ap Some (only_one x s left (sym is ∙ popped))
-message_behind (x ∷ all) (suc n) s left read is popped = message_behind all n s left read is popped
+pub message_after : (all : List Stamped) (n : ℕ) (s : Stamped) (left read : List Stamped) → read ≡ take 1 (drop n all) → read ≡ left ++ s ∷ [] → slice_get all n ≡ Some s
+message_after [] zero s left read is popped = absurd (omega (arith, ap length is, ap length popped, length-append left (s ∷ [])))
+message_after [] (suc n) s left read is popped = absurd (omega (arith, ap length is, ap length popped, length-append left (s ∷ [])))
+message_after (x ∷ all) zero s left read is popped = ap Some (only_one x s left (sym is ∙ popped))
+message_after (x ∷ all) (suc n) s left read is popped = message_after all n s left read is popped
 
 -- the screen after one message more
 pub screen_more : (head : Head) (all : List Stamped) (n : ℕ) (s : Stamped) (old new : Framebuffer) → slice_get all n ≡ Some s → IsScreenAt head all n old → SameSize old new

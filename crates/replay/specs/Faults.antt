@@ -8,7 +8,7 @@ use Rattle.replay.specs.declared.fault.ReplayFault.TheVariants as replay
 abbrev pub replay_faults : List ReplayFault
 replay_faults = replay.NotCommitted ∷ replay.Device ∷ replay.NoMemory ∷ []
 
--- why a replay stops where a message isn't read
+-- why a replay stops if a message isn't read
 abbrev pub fault_of_read : ReadFault → ReplayFault
 fault_of_read read.NoMemory = replay.NoMemory
 fault_of_read read.Device = replay.Device

@@ -11,7 +11,7 @@ pub record IsShownAt (time : ℕ) (messages : List Stamped) (n : ℕ) : Type 0 w
   pub came : AllByRecursion (λ s. s.time ≤ time) (take n messages)
   pub later : AllByRecursion (λ s. time < s.time) (drop n messages)
 
--- the last of so many blocks begins at this time or before, and the one behind them later
+-- the last of so many blocks begins at this time or before, and the one after them later
 pub record BeginsBlocks (time : ℕ) (blocks : List (List Stamped)) (n : ℕ) : Type 0 where
   pub begun : (ms : List Stamped) → 0 < n → slice_get blocks (n - 1) ≡ Some ms → first_time ms ≤ time
   pub later : (ms : List Stamped) → slice_get blocks n ≡ Some ms → time < first_time ms

@@ -11,7 +11,7 @@ pub record IsScreenAt (head : Head) (messages : List Stamped) (n : ℕ) (screen 
   pub height_is : screen.height ≡ head.height
   pub shows : Shows screen (hosts_of (take n messages))
 
--- where a replay stands: the screen after so many messages
+-- the state of a replay: the screen after so many messages
 pub record Playing : Type 0 where
   pub screen : Framebuffer
   pub position : ℕ

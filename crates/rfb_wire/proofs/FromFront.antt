@@ -55,9 +55,9 @@ by_reading width height at area encoding rest (Got x after) e =
     let d = data_read host_format width height encoding area rest after x e in
     let size : length rest ≡ length d.front + length after = ap length d.bytes_are ∙ length-append d.front after in
     let n : length rest - length after ≡ length d.front = omega (arith, size) in
-    let behind : drop (length rest - length after) rest ≡ after = ap (λ k. drop k rest) n ∙ ap (drop (length d.front)) d.bytes_are ∙ drop_at d.front after (length d.front) refl in
+    let following : drop (length rest - length after) rest ≡ after = ap (λ k. drop k rest) n ∙ ap (drop (length d.front)) d.bytes_are ∙ drop_at d.front after (length d.front) refl in
     let end : (at + length rest) - length after ≡ at + (length rest - length after) = omega (arith, size) in
-    rw (e, behind) (ap (λ z. Got (record { area = area; encoding = encoding; start = at; end = z }) after) end)
+    rw (e, following) (ap (λ z. Got (record { area = area; encoding = encoding; start = at; end = z }) after) end)
 by_reading width height at area encoding rest More e = rw e refl
 by_reading width height at area encoding rest (Bad f) e = rw e refl
 
@@ -70,12 +70,12 @@ rectangle_measured width height at bytes header rest encoding m e inside is by =
     ∙ by_reading width height (at + 12) (area_of header) encoding rest (data_at host_format width height encoding (area_of header) rest) refl
     ∙ ap (λ z. rectangle_by (area_of header) encoding (at + 12) z rest) (sym by)
 
--- rectangles behind those which are found
-pub others_behind : ℕ → ℕ → ℕ → ℕ → List Rectangle → List ℕ → Reading (List Rectangle) WireFault
-others_behind width height count at found bytes = rectangles_at width height count at bytes >>= λ others rest. Got (found ++ others) rest
+-- rectangles after those which are found
+pub others_after : ℕ → ℕ → ℕ → ℕ → List Rectangle → List ℕ → Reading (List Rectangle) WireFault
+others_after width height count at found bytes = rectangles_at width height count at bytes >>= λ others rest. Got (found ++ others) rest
 
-pub others_begin : (width height count at : ℕ) (bytes : List ℕ) → others_behind width height count at [] bytes ≡ rectangles_at width height count at bytes
-unfolding others_behind
+pub others_begin : (width height count at : ℕ) (bytes : List ℕ) → others_after width height count at [] bytes ≡ rectangles_at width height count at bytes
+unfolding others_after
 others_begin width height count at bytes = same (rectangles_at width height count at bytes)
   where
     same : (r : Reading (List Rectangle) WireFault) → (r >>= λ others rest. Got ([] ++ others) rest) ≡ r
@@ -83,8 +83,8 @@ others_begin width height count at bytes = same (rectangles_at width height coun
     same More = refl
     same (Bad f) = refl
 
-pub others_end : (width height at : ℕ) (found : List Rectangle) (bytes : List ℕ) → others_behind width height 0 at found bytes ≡ Got found bytes
-unfolding others_behind rectangles_at
+pub others_end : (width height at : ℕ) (found : List Rectangle) (bytes : List ℕ) → others_after width height 0 at found bytes ≡ Got found bytes
+unfolding others_after rectangles_at
 others_end width height at found bytes = rw append-nil refl
 
 next_found : (found : List Rectangle) (r : Rectangle) (q : Reading (List Rectangle) WireFault)
@@ -94,18 +94,18 @@ next_found found r More = refl
 next_found found r (Bad f) = refl
 
 pub others_next : (width height count at : ℕ) (found : List Rectangle) (bytes rest : List ℕ) (r : Rectangle) → rectangle_at width height at bytes ≡ Got r rest
-    → others_behind width height (suc count) at found bytes ≡ others_behind width height count r.end (found ++ r ∷ []) rest
-unfolding others_behind rectangles_at
+    → others_after width height (suc count) at found bytes ≡ others_after width height count r.end (found ++ r ∷ []) rest
+unfolding others_after rectangles_at
 others_next width height count at found bytes rest r e = rw e (next_found found r (rectangles_at width height count r.end rest))
 
 pub others_more : (width height count at : ℕ) (found : List Rectangle) (bytes : List ℕ) → rectangle_at width height at bytes ≡ More
-    → others_behind width height (suc count) at found bytes ≡ More
-unfolding others_behind rectangles_at
+    → others_after width height (suc count) at found bytes ≡ More
+unfolding others_after rectangles_at
 others_more width height count at found bytes e = rw e refl
 
 pub others_bad : (width height count at : ℕ) (found : List Rectangle) (bytes : List ℕ) (f : WireFault) → rectangle_at width height at bytes ≡ Bad f
-    → others_behind width height (suc count) at found bytes ≡ Bad f
-unfolding others_behind rectangles_at
+    → others_after width height (suc count) at found bytes ≡ Bad f
+unfolding others_after rectangles_at
 others_bad width height count at found bytes f e = rw e refl
 
 pub type_short : (width height : ℕ) (bytes : List ℕ) → field {E = WireFault} 1 bytes ≡ More → update_at width height bytes ≡ More

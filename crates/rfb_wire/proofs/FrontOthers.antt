@@ -50,7 +50,7 @@ text_whole count false bytes head body text rest e is whole long =
     let large : nat_lt text_limit count ≡ true = lt-ltb text_limit count (leb-false count text_limit long) in
     rw (e, is, large, whole) refl
 
--- a text, where there is one
+-- a text, if there is one
 pub says_text : {X : Type 0} (rest : X → List ℕ) (o : Option (Bool × X)) (bytes : List ℕ)
     → MatchOption o (text_at bytes ≡ More) (λ x. text_at bytes ≡ Got (kind_of x.0) (rest x.1)) → Says (λ x. kind_of x.0) (λ x. rest x.1) (Ok o) (text_at bytes)
 says_text rest (Some x) bytes e = e
@@ -65,8 +65,8 @@ over_front n bytes rest e =
     let is : b.rest ≡ rest = cc in
     (b.value, f.0 ∙ ap (λ z. b.value ++ z) is)
 
-behind_head : (head body rest bytes : List ℕ) → bytes ≡ head ++ body → ((front : List ℕ) × (body ≡ front ++ rest)) → (front : List ℕ) × (bytes ≡ front ++ rest)
-behind_head head body rest bytes is (front, body_is) = (head ++ front, is ∙ ap (λ z. head ++ z) body_is ∙ sym (append_assoc head front rest))
+after_head : (head body rest bytes : List ℕ) → bytes ≡ head ++ body → ((front : List ℕ) × (body ≡ front ++ rest)) → (front : List ℕ) × (bytes ≡ front ++ rest)
+after_head head body rest bytes is (front, body_is) = (head ++ front, is ∙ ap (λ z. head ++ z) body_is ∙ sym (append_assoc head front rest))
 
 data_never : (n : ℕ) (bytes rest : List ℕ) → text_data_at n bytes ≡ Got ReadOver rest → ⊥
 unfolding text_data_at
@@ -81,7 +81,7 @@ text_front bytes rest e =
     let b = bind_got (field 7 bytes) (λ f after. if nat_lt text_limit (u32_at f 3) then read_over (u32_at f 3) after else text_data_at (u32_at f 3) after) ReadOver rest e in
     let f = field_front 7 bytes b.value b.rest (field_got 7 bytes b.value b.rest b.first) in
     elim (true_or_false (nat_lt text_limit (u32_at b.value 3))) [
-      | inl t ↦ (let e' = rw t at b.then in behind_head b.value b.rest rest bytes f.0 (over_front (u32_at b.value 3) b.rest rest e'))
+      | inl t ↦ (let e' = rw t at b.then in after_head b.value b.rest rest bytes f.0 (over_front (u32_at b.value 3) b.rest rest e'))
       | inr t ↦ (let e' = rw t at b.then in absurd (data_never (u32_at b.value 3) b.rest rest e'))
     ]
 
@@ -90,7 +90,7 @@ unfolding color_map_at
 map_front bytes rest e =
     let b = bind_got (field 5 bytes) (λ f after. read_over (6 * u16_at f 3) after) ReadOver rest e in
     let f = field_front 5 bytes b.value b.rest (field_got 5 bytes b.value b.rest b.first) in
-    behind_head b.value b.rest rest bytes f.0 (over_front (6 * u16_at b.value 3) b.rest rest b.then)
+    after_head b.value b.rest rest bytes f.0 (over_front (6 * u16_at b.value 3) b.rest rest b.then)
 
 passed_front : (type : ℕ) (bytes rest : List ℕ) → other_at type bytes ≡ Got ReadOver rest → (front : List ℕ) × (bytes ≡ front ++ rest)
 unfolding other_at
@@ -105,29 +105,29 @@ passed_front type bytes rest e = elim (true_or_false (nat_eq type 1)) [
   ]
 ]
 
--- a message that is read over, by the bytes behind it
-pub front_passed : (type : ℕ) (bytes kind rest behind : List ℕ) → field {E = WireFault} 1 bytes ≡ Got kind rest → other_at type rest ≡ Got ReadOver behind
-    → (length behind ≤ length bytes) × (drop (length bytes - length behind) bytes ≡ behind)
-front_passed type bytes kind rest behind e is =
+-- a message that is read over, by the bytes after it
+pub front_passed : (type : ℕ) (bytes kind rest following : List ℕ) → field {E = WireFault} 1 bytes ≡ Got kind rest → other_at type rest ≡ Got ReadOver following
+    → (length following ≤ length bytes) × (drop (length bytes - length following) bytes ≡ following)
+front_passed type bytes kind rest following e is =
     let f = field_front 1 bytes kind rest (field_got 1 bytes kind rest e) in
-    let all = behind_head kind rest behind bytes f.0 (passed_front type rest behind is) in
-    let lengths : length bytes ≡ length all.0 + length behind = ap length all.1 ∙ length-append all.0 behind in
-    let n : length bytes - length behind ≡ length all.0 = omega arith in
-    (omega arith, ap (λ k. drop k bytes) n ∙ ap (drop (length all.0)) all.1 ∙ drop_at all.0 behind (length all.0) refl)
+    let all = after_head kind rest following bytes f.0 (passed_front type rest following is) in
+    let lengths : length bytes ≡ length all.0 + length following = ap length all.1 ∙ length-append all.0 following in
+    let n : length bytes - length following ≡ length all.0 = omega arith in
+    (omega arith, ap (λ k. drop k bytes) n ∙ ap (drop (length all.0)) all.1 ∙ drop_at all.0 following (length all.0) refl)
 
 -- a front of the bytes that is a bell or a text
-pub record OtherFront (limit width height : ℕ) (bytes behind : List ℕ) : Type 0 where
+pub record OtherFront (limit width height : ℕ) (bytes following : List ℕ) : Type 0 where
   pub whole : List ℕ
-  pub bytes_are : bytes ≡ whole ++ behind
+  pub bytes_are : bytes ≡ whole ++ following
   pub recorded : message_at limit width height whole ≡ Got (Recorded []) []
 
-pub front_other : (limit width height : ℕ) (bytes kind rest behind : List ℕ) → field {E = WireFault} 1 bytes ≡ Got kind rest
-    → other_at (slice_index kind 0) rest ≡ Got (Recorded []) behind → OtherFront limit width height bytes behind
-front_other limit width height bytes kind rest behind e is =
+pub front_other : (limit width height : ℕ) (bytes kind rest following : List ℕ) → field {E = WireFault} 1 bytes ≡ Got kind rest
+    → other_at (slice_index kind 0) rest ≡ Got (Recorded []) following → OtherFront limit width height bytes following
+front_other limit width height bytes kind rest following e is =
     let f = field_front 1 bytes kind rest (field_got 1 bytes kind rest e) in
     let type = slice_index kind 0 in
     let bytes_are : bytes ≡ type ∷ rest = f.0 ∙ ap (λ z. z ++ rest) (one_number kind f.1) in
-    elim (other_read type rest [] behind is) [
+    elim (other_read type rest [] following is) [
       | inl b ↦ record {
         whole = 2 ∷ [];
         bytes_are = bytes_are ∙ ap (λ z. z ∷ rest) b.0 ∙ ap (λ z. 2 ∷ z) b.1;
@@ -142,17 +142,17 @@ front_other limit width height bytes kind rest behind e is =
           })
     ]
 
--- the bytes behind a message are no more than all
-pub behind_within : (recorded : Bool) (bytes kind rest behind : List ℕ) → field {E = WireFault} 1 bytes ≡ Got kind rest
-    → other_at (slice_index kind 0) rest ≡ Got (kind_of recorded) behind → length behind ≤ length bytes
-behind_within true bytes kind rest behind e is =
-    let f = front_other 0 0 0 bytes kind rest behind e is in
-    let lengths : length bytes ≡ length f.whole + length behind = ap length f.bytes_are ∙ length-append f.whole behind in
+-- the bytes after a message are no more than all
+pub after_within : (recorded : Bool) (bytes kind rest following : List ℕ) → field {E = WireFault} 1 bytes ≡ Got kind rest
+    → other_at (slice_index kind 0) rest ≡ Got (kind_of recorded) following → length following ≤ length bytes
+after_within true bytes kind rest following e is =
+    let f = front_other 0 0 0 bytes kind rest following e is in
+    let lengths : length bytes ≡ length f.whole + length following = ap length f.bytes_are ∙ length-append f.whole following in
     omega arith
-behind_within false bytes kind rest behind e is = (front_passed (slice_index kind 0) bytes kind rest behind e is).0
+after_within false bytes kind rest following e is = (front_passed (slice_index kind 0) bytes kind rest following e is).0
 
 -- the bytes that the code takes of a message
-pub other_taken : (bytes whole behind : List ℕ) → bytes ≡ whole ++ behind → take (length bytes - length behind) bytes ≡ whole
-other_taken bytes whole behind is =
-    let n : length bytes - length behind ≡ length whole = rw (is, length-append) (omega arith) in
-    ap (λ k. take k bytes) n ∙ ap (take (length whole)) is ∙ take_at whole behind (length whole) refl
+pub other_taken : (bytes whole following : List ℕ) → bytes ≡ whole ++ following → take (length bytes - length following) bytes ≡ whole
+other_taken bytes whole following is =
+    let n : length bytes - length following ≡ length whole = rw (is, length-append) (omega arith) in
+    ap (λ k. take k bytes) n ∙ ap (take (length whole)) is ∙ take_at whole following (length whole) refl

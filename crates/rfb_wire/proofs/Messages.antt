@@ -105,9 +105,9 @@ rectangles_read width height (suc count) at bytes rs rest e =
     one_more_read (AreRectangles width height at) (AreRectangles width height b.value.end) b.value d.value rs r.first bytes b.rest d.rest rest count r.bytes_are
     (rectangles_read width height count b.value.end b.rest d.value d.rest d.first) d.then (λ body are. (r.first, body, refl, r.is, are))
 
-nothing_behind : (a b : List ℕ) → a ++ b ≡ [] → (a ≡ []) × (b ≡ [])
-nothing_behind [] b e = (refl, e)
-nothing_behind (x ∷ a) b e = absurd (cc)
+nothing_after : (a b : List ℕ) → a ++ b ≡ [] → (a ≡ []) × (b ≡ [])
+nothing_after [] b e = (refl, e)
+nothing_after (x ∷ a) b e = absurd (cc)
 
 -- an update that is read whole
 pub update_read : (width height : ℕ) (bytes : List ℕ) (rs : List Rectangle) (rest : List ℕ) → slice_index bytes 0 ≡ 0 → update_at width height bytes ≡ Got (Recorded rs) rest
@@ -170,7 +170,7 @@ read_is_message limit width height bytes rs e =
       | inl is ↦
           (let e' = rw is at b.then in
           let w = within_got limit faults.TooLong (update_at width height) bytes (Recorded rs) [] e' in
-          let ends = nothing_behind w.rest (drop limit bytes) (sym w.after_is) in
+          let ends = nothing_after w.rest (drop limit bytes) (sym w.after_is) in
           let lengths : length (drop limit bytes) ≡ 0 = ap length ends.1 in
           let over : length bytes - limit ≡ 0 = sym (length-drop limit bytes) ∙ lengths in
           let short : length bytes ≤ limit = omega arith in

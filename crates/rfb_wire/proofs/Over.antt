@@ -86,7 +86,7 @@ over_goes limit width height n bytes o is few = record {
   short = is.short;
 }
 
--- where all have passed, the message is whole
+-- if all have passed, the message is whole
 pub pass_ends : (format : Format) (width height : ℕ) (bytes kept : List ℕ) (o : Over) (passed : ℕ) (old : List Host) (rest taken : List ℕ) → IsOver (message_limit format) width height bytes o
     → StandsFor bytes o.passed rest → length taken ≡ o.left → kept ≡ [] → passed ≡ 0
     → Moves (message_at (message_limit format) width height) (given format width height) kept passed old old (rest ++ taken)

@@ -12,7 +12,7 @@ use Rattle.rfb_wire.specs.Host.{Host, IsPlaced, IsRecorded}
 use Rattle.rfb_wire.specs.Message.{IsRectangle, AreRectangles}
 use Rattle.rfb_wire.proofs.Messages.{read_is_message}
 
--- the bytes between two places
+-- the bytes between two offsets
 between : (bytes front content rest : List ℕ) (start end : ℕ) → bytes ≡ front ++ (content ++ rest) → start ≡ length front → end ≡ start + length content
     → slice_range bytes start end ≡ content
 between bytes front content rest start end is from to =
@@ -22,7 +22,7 @@ between bytes front content rest start end is from to =
     ∙ ap (λ z. take (length content) z) (drop_at front (content ++ rest) start (sym from))
     ∙ take_at content rest (length content) refl
 
--- a rectangle behind a front of the message
+-- a rectangle after a front of the message
 rectangle_placed : (m : Host) (front first rest : List ℕ) (at : ℕ) (r : Rectangle) → m.bytes ≡ front ++ (first ++ rest) → length front ≡ at
     → IsRectangle m.width m.height at r first → IsPlaced m r
 rectangle_placed m front first rest at r bytes_are front_is is =
@@ -40,9 +40,9 @@ rectangle_placed m front first rest at r bytes_are front_is is =
       content = subst (AreData host_format m.width m.height r.encoding r.area) (sym content) is.content_is;
     }
 
--- where the next rectangle begins
-next_place : (m : Host) (front first rest : List ℕ) (at : ℕ) (r : Rectangle) → length front ≡ at → IsRectangle m.width m.height at r first → length (front ++ first) ≡ r.end
-next_place m front first rest at r front_is is =
+-- the offset at which the next rectangle begins
+next_offset : (m : Host) (front first rest : List ℕ) (at : ℕ) (r : Rectangle) → length front ≡ at → IsRectangle m.width m.height at r first → length (front ++ first) ≡ r.end
+next_offset m front first rest at r front_is is =
     length-append front first ∙ ap (λ z. length front + length z) is.bytes_are ∙ ap (λ z. length front + z) (length-append is.header is.content)
     ∙ omega (arith, front_is, is.header_length, is.start_is, is.end_is)
 
@@ -52,10 +52,10 @@ rectangles_placed m front body at [] bytes_are front_is are = tt
 rectangles_placed m front body at (r ∷ rs) bytes_are front_is (first, rest, is, whole, others) =
     let parts : m.bytes ≡ front ++ (first ++ rest) = bytes_are ∙ ap (λ z. front ++ z) is in (
       rectangle_placed m front first rest at r parts front_is whole,
-      rectangles_placed m (front ++ first) rest r.end rs (parts ∙ sym (append_assoc front first rest)) (next_place m front first rest at r front_is whole) others,
+      rectangles_placed m (front ++ first) rest r.end rs (parts ∙ sym (append_assoc front first rest)) (next_offset m front first rest at r front_is whole) others,
     )
 
--- each rectangle of a recorded message has its place
+-- each rectangle of a recorded message has its offsets
 pub recorded_placed : (m : Host) → IsRecorded m → All (IsPlaced m) m.rectangles
 recorded_placed m e =
     let is = read_is_message (message_limit m.format) m.width m.height m.bytes m.rectangles e in

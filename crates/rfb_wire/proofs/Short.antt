@@ -14,7 +14,7 @@ use Rattle.rfb_wire.specs.declared.partial_message.Stage.{Stage}
 use Rattle.rfb_wire.specs.declared.partial_message.Stage.TheVariants as stages
 use Rattle.rfb_wire.specs.Grammar.{Recorded, ReadOver, message_at, message_limit, update_at, text_data_at}
 use Rattle.rfb_wire.specs.Host.{is_update}
-use Rattle.rfb_wire.specs.PartialMessage.{IsAt, IsInField, IsOver, IsOfUpdate, Linked, put, behind, resume, start_of, wants_of, unlimited_at}
+use Rattle.rfb_wire.specs.PartialMessage.{IsAt, IsInField, IsOver, IsOfUpdate, Linked, put, following, resume, start_of, wants_of, unlimited_at}
 use Rattle.rfb_wire.specs.Reader.{head_limit, IsShort}
 use Rattle.rfb_wire.proofs.Over.{update_never}
 use Rattle.rfb_wire.proofs.Turns.{message-first, unlimited-first}
@@ -47,7 +47,7 @@ unlimited_over limit width height (b ∷ bytes) rest e = elim (true_or_false (na
 ]
 
 -- a text that is recorded is not read over
-text_never : (n : ℕ) (done : List Rectangle) (bytes rest : List ℕ) → behind done (text_data_at n bytes) ≡ Got ReadOver rest → ⊥
+text_never : (n : ℕ) (done : List Rectangle) (bytes rest : List ℕ) → following done (text_data_at n bytes) ≡ Got ReadOver rest → ⊥
 unfolding text_data_at
 text_never n done bytes rest e =
     let b = bind_got (field {E = WireFault} n bytes >>= λ text after. Got (Recorded []) after) (λ m after. Got (put done m) after) ReadOver rest e in

@@ -14,7 +14,7 @@ use Rattle.terms.specs.declared.wire_fault.WireFault.TheVariants as faults
 use Rattle.rfb_wire.specs.declared.partial_message.Stage.{Stage}
 use Rattle.rfb_wire.specs.declared.partial_message.Stage.TheVariants as stages
 use Rattle.rfb_wire.specs.Grammar.{message_limit, update_at, message_at, other_at, color_map_at, text_at, text_data_at, read_over, Message, Recorded, rectangle_at, rectangles_at}
-use Rattle.rfb_wire.specs.PartialMessage.{wants_of, start_of, unlimited_at, behind, others_at, resume, go_on, step_on, Linked, Follows, NextBegins, NextIsOfKind, IsInField, IsOfKind, IsOfUpdate}
+use Rattle.rfb_wire.specs.PartialMessage.{wants_of, start_of, unlimited_at, following, others_at, resume, go_on, step_on, Linked, Follows, NextBegins, NextIsOfKind, IsInField, IsOfKind, IsOfUpdate}
 use Rattle.rfb_wire.specs.declared.partial_message.PartialMessage.{PartialMessage}
 use Rattle.rfb_wire.specs.declared.partial_message.Next.{Next}
 use Rattle.rfb_wire.specs.declared.partial_message.Next.TheVariants as nexts
@@ -22,7 +22,7 @@ use Rattle.rfb_wire.specs.declared.partial_message.AfterField.{AfterField}
 use Rattle.terms.specs.Fault.{UnlessMemory}
 use Rattle.std.specs.Option.{option_to_list}
 use Rattle.client_wire.proofs.Fronts.{unless_memory_map}
-use Rattle.rfb_wire.proofs.Resume.{behind_nil, behind_behind, behind_over}
+use Rattle.rfb_wire.proofs.Resume.{after_nil, after_after, after_over}
 use Rattle.rfb_wire.proofs.Local.{message_local}
 
 -- up to the limit, the limit plays no part
@@ -66,15 +66,15 @@ resume-short width height (stages.TextData n) bytes short = rw (field-short {E =
 resume-short width height (stages.RectangleHead at others) bytes short = rw (field-short {E = WireFault} 12 bytes short) refl
 resume-short width height (stages.Data at begun next others) bytes short = rw (data_waits host_format width height next bytes short) refl
 
--- where the field isn't whole, the message waits
+-- if the field isn't whole, the message waits
 pub linked_waits : (limit width height : ℕ) (bytes : List ℕ) (rectangles : List Rectangle) (stage : Stage) → Linked limit width height bytes rectangles stage
     → length bytes < start_of stage + wants_of stage → unlimited_at width height bytes ≡ More
 linked_waits limit width height bytes rectangles stage l short =
     let few : length (drop (start_of stage) bytes) < wants_of stage = rw (length-drop) (omega (arith, l.begun)) in
-    let link : unlimited_at width height (bytes ++ []) ≡ behind rectangles (resume width height stage (drop (start_of stage) bytes ++ [])) = l.link [] in
+    let link : unlimited_at width height (bytes ++ []) ≡ following rectangles (resume width height stage (drop (start_of stage) bytes ++ [])) = l.link [] in
     ap (unlimited_at width height) (sym (append-nil bytes)) ∙ link
-    ∙ ap (λ z. behind rectangles (resume width height stage z)) (append-nil (drop (start_of stage) bytes))
-    ∙ ap (behind rectangles) (resume-short width height stage (drop (start_of stage) bytes) few)
+    ∙ ap (λ z. following rectangles (resume width height stage z)) (append-nil (drop (start_of stage) bytes))
+    ∙ ap (following rectangles) (resume-short width height stage (drop (start_of stage) bytes) few)
 
 of_update_more : (bytes more : List ℕ) → IsOfUpdate bytes → IsOfUpdate (bytes ++ more)
 of_update_more bytes more (rest, is) = (rest ++ more, ap (λ z. z ++ more) is)
@@ -103,23 +103,23 @@ linked_more limit width height bytes piece longer rectangles stage l is short = 
 pub linked_start : (limit width height : ℕ) (bytes : List ℕ) (rectangles : List Rectangle) → bytes ≡ [] → rectangles ≡ [] → Linked limit width height bytes rectangles stages.Type
 unfolding resume
 linked_start limit width height bytes rectangles none no_rectangles = rw (none, no_rectangles) (record {
-  link = λ more. sym (behind_nil (unlimited_at width height more));
+  link = λ more. sym (after_nil (unlimited_at width height more));
   begun = omega arith;
   short = omega arith;
   kind = tt;
 })
 
--- behind whole fields
+-- after whole fields
 pub follows_goes : (limit width height : ℕ) (bytes : List ℕ) (rectangles done : List Rectangle) (step : AfterField)
     → Follows limit width height bytes rectangles step
     → done ≡ rectangles ++ option_to_list step.rectangle
-    → (more : List ℕ) → unlimited_at width height (bytes ++ more) ≡ behind done (go_on width height step.next more)
+    → (more : List ℕ) → unlimited_at width height (bytes ++ more) ≡ following done (go_on width height step.next more)
 follows_goes limit width height bytes rectangles done step l is more =
     l.link more
-    ∙ behind_behind rectangles (option_to_list step.rectangle) (go_on width height step.next more)
-    ∙ ap (λ d. behind d (go_on width height step.next more)) (sym is)
+    ∙ after_after rectangles (option_to_list step.rectangle) (go_on width height step.next more)
+    ∙ ap (λ d. following d (go_on width height step.next more)) (sym is)
 
--- fields that begin where what was kept ends
+-- fields that begin at the end of what was kept
 pub run_follows : (limit width height n : ℕ) (kept piece longer : List ℕ) (rectangles : List Rectangle) (stage : Stage) (step : AfterField)
     → Linked limit width height kept rectangles stage → start_of stage ≡ length kept → longer ≡ kept ++ take n piece → length longer ≤ limit
     → ((more : List ℕ) → resume width height stage (take n piece ++ more) ≡ step_on width height step more)
@@ -131,8 +131,8 @@ run_follows limit width height n kept piece longer rectangles stage step l begun
       link = λ more.
           ap (λ z. unlimited_at width height (z ++ more)) is ∙ ap (unlimited_at width height) (append_assoc kept (take n piece) more)
           ∙ l.link (take n piece ++ more)
-          ∙ ap (λ z. behind rectangles (resume width height stage (z ++ (take n piece ++ more)))) none
-          ∙ ap (behind rectangles) (goes more);
+          ∙ ap (λ z. following rectangles (resume width height stage (z ++ (take n piece ++ more)))) none
+          ∙ ap (following rectangles) (goes more);
       begins = begins;
       kind = kind;
       short = short;
@@ -145,41 +145,41 @@ pub run_faults : (limit width height : ℕ) (kept front : List ℕ) (rectangles 
     → unlimited_at width height (kept ++ front) ≡ Bad f
 run_faults limit width height kept front rectangles stage f l begun faults =
     let none : drop (start_of stage) kept ≡ [] = drop_all (start_of stage) kept (omega arith) in
-    l.link front ∙ ap (λ z. behind rectangles (resume width height stage (z ++ front))) none
-    ∙ ap (λ z. behind rectangles (resume width height stage z)) (sym (append-nil front))
-    ∙ ap (behind rectangles) (faults [])
+    l.link front ∙ ap (λ z. following rectangles (resume width height stage (z ++ front))) none
+    ∙ ap (λ z. following rectangles (resume width height stage z)) (sym (append-nil front))
+    ∙ ap (following rectangles) (faults [])
 
 -- with no field to come the message is whole
 pub whole_ends : (width height : ℕ) (bytes : List ℕ) (done : List Rectangle) (next : Next)
-    → ((more : List ℕ) → unlimited_at width height (bytes ++ more) ≡ behind done (go_on width height next more))
+    → ((more : List ℕ) → unlimited_at width height (bytes ++ more) ≡ following done (go_on width height next more))
     → next ≡ nexts.End → unlimited_at width height bytes ≡ Got (Recorded done) []
 unfolding go_on
 whole_ends width height bytes done next goes none =
     ap (unlimited_at width height) (sym (append-nil bytes)) ∙ goes []
-    ∙ ap (λ n. behind done (go_on width height n [])) none
+    ∙ ap (λ n. following done (go_on width height n [])) none
     ∙ ap (λ d. Got (Recorded d) []) (append-nil done)
 
--- the next field begins where the bytes end
+-- the next field begins at the end of the bytes
 pub whole_goes : (limit width height : ℕ) (bytes : List ℕ) (done : List Rectangle) (next : Next) (stage : Stage)
-    → ((more : List ℕ) → unlimited_at width height (bytes ++ more) ≡ behind done (go_on width height next more))
+    → ((more : List ℕ) → unlimited_at width height (bytes ++ more) ≡ following done (go_on width height next more))
     → next ≡ nexts.Field stage → start_of stage ≡ length bytes → length bytes ≤ limit → IsOfKind stage bytes → Linked limit width height bytes done stage
 unfolding go_on
 whole_goes limit width height bytes done next stage goes is begins short kind =
     let none : drop (start_of stage) bytes ≡ [] = drop_all (start_of stage) bytes (omega arith) in
     record {
-      link = λ more. rw none (goes more ∙ ap (λ n. behind done (go_on width height n more)) is);
+      link = λ more. rw none (goes more ∙ ap (λ n. following done (go_on width height n more)) is);
       begun = omega arith;
       short = short;
       kind = kind;
     }
 
--- the bytes behind the field are read over
+-- the bytes after the field are read over
 pub whole_over : (width height : ℕ) (bytes : List ℕ) (done : List Rectangle) (next : Next) (n : ℕ)
-    → ((more : List ℕ) → unlimited_at width height (bytes ++ more) ≡ behind done (go_on width height next more))
+    → ((more : List ℕ) → unlimited_at width height (bytes ++ more) ≡ following done (go_on width height next more))
     → next ≡ nexts.ReadOver n → (more : List ℕ) → unlimited_at width height (bytes ++ more) ≡ read_over n more
 unfolding go_on
 whole_over width height bytes done next n goes is more =
-    goes more ∙ ap (λ k. behind done (go_on width height k more)) is ∙ behind_over done n more
+    goes more ∙ ap (λ k. following done (go_on width height k more)) is ∙ after_over done n more
 
 -- a field that is refused
 pub field_faults : (limit width height : ℕ) (bytes : List ℕ) (rectangles : List Rectangle) (stage : Stage) (f : WireFault)
@@ -187,9 +187,9 @@ pub field_faults : (limit width height : ℕ) (bytes : List ℕ) (rectangles : L
     → ((more : List ℕ) → resume width height stage (drop (start_of stage) bytes ++ more) ≡ Bad f)
     → unlimited_at width height bytes ≡ Bad f
 field_faults limit width height bytes rectangles stage f l faults =
-    ap (unlimited_at width height) (sym (append-nil bytes)) ∙ l.link [] ∙ ap (behind rectangles) (faults [])
+    ap (unlimited_at width height) (sym (append-nil bytes)) ∙ l.link [] ∙ ap (following rectangles) (faults [])
 
--- where the message is as long as it may be, and the field isn't whole, it is an update
+-- if the message is as long as it may be, and the field isn't whole, it is an update
 long_update : (limit : ℕ) (stage : Stage) (kept : List ℕ) → 65544 ≤ limit → IsOfKind stage kept → length kept < start_of stage + wants_of stage → length kept ≡ limit → IsOfUpdate kept
 long_update limit stages.Type kept room kind few long = absurd (omega arith)
 long_update limit stages.UpdateHead kept room kind few long = kind
@@ -226,7 +226,7 @@ pub whole_recorded : (format : Format) (width height : ℕ) (bytes whole : List 
 whole_recorded format width height bytes whole rectangles is short e =
     ap (message_at (message_limit format) width height) is ∙ message-short (message_limit format) width height whole short ∙ e
 
--- where a field isn't whole, the message waits
+-- if a field isn't whole, the message waits
 pub field_waits : (limit width height : ℕ) (p : PartialMessage) → IsInField limit width height p → message_at limit width height p.bytes.items ≡ More
 field_waits limit width height p at =
     message-short limit width height p.bytes.items at.linked.short

@@ -80,7 +80,7 @@ whole_is format width height passed kept stream all before m goes last same =
     let is : stream ≡ (a.front ++ (m.bytes ++ a.back)) ++ goes.rest = r.stream_is ∙ ap (λ z. z ++ goes.rest) a.bytes_are in
     (a.is, stream_one a.front m.bytes a.back goes.rest stream is same)
 
--- the messages that were given, where the stream is one message
+-- the messages that were given, if the stream is one message
 given_one : (format : Format) (width height passed : ℕ) (kept stream : List ℕ) (all : List Host) (m : Host)
     → Goes (message_at (message_limit format) width height) (given format width height) kept passed [] all stream
     → IsFor format width height m → m.bytes ≡ stream → all ≡ m ∷ []

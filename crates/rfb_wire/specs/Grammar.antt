@@ -23,7 +23,8 @@ area_of f = record { x = u16_at f 0; y = u16_at f 2; w = u16_at f 4; h = u16_at 
 unfoldable pub encoding_number : List ℕ → ℕ
 encoding_number f = u32_at f 8
 
--- the data of a rectangle of this area (section 7.7). `at` is the place of the data in the message.
+-- the data of a rectangle of this area (section 7.7). `at` is the offset of the data in the
+-- message.
 unfoldable pub content_at : ℕ → ℕ → Encoding → Area → ℕ → List ℕ → Reading Rectangle WireFault
 content_at width height encoding area at bytes = data_at host_format width height encoding area bytes >>= λ content rest.
     Got (record { area = area; encoding = encoding; start = at; end = (at + length bytes) - length rest }) rest
@@ -33,13 +34,13 @@ abbrev pub encoded_at : ℕ → ℕ → ℕ → Option Encoding → Area → ℕ
 encoded_at width height number (Some encoding) area at bytes = content_at width height encoding area at bytes
 encoded_at width height number None area at bytes = Bad (faults.Encoding (signed number))
 
--- a rectangle of an update, at its place in the message (section 7.6.1)
+-- a rectangle of an update, at its offset in the message (section 7.6.1)
 unfoldable pub rectangle_at : ℕ → ℕ → ℕ → List ℕ → Reading Rectangle WireFault
 rectangle_at width height at bytes = field 12 bytes >>= λ head rest.
     guard (is_inside width height (area_of head)) faults.OutsideScreen
     (encoded_at width height (encoding_number head) (encoding_of (encoding_number head)) (area_of head) (at + 12) rest)
 
--- as many rectangles, one behind the other
+-- as many rectangles, one after the other
 unfoldable pub rectangles_at : ℕ → ℕ → ℕ → ℕ → List ℕ → Reading (List Rectangle) WireFault
 rectangles_at width height zero at bytes = Got [] bytes
 rectangles_at width height (suc count) at bytes = rectangle_at width height at bytes >>= λ first rest.
@@ -62,9 +63,9 @@ update_at width height bytes = field 1 bytes >>= λ type head. field 3 head >>= 
 unfoldable pub read_over : ℕ → List ℕ → Reading Message WireFault
 read_over n bytes = field n bytes >>= λ skipped rest. Got ReadOver rest
 
--- SetColorMapEntries, behind its type 1: a byte of padding, the first colour, the number of
--- colours, and six bytes for each (section 7.6.2). It is read over, since pixels of a true-color
--- format need no map.
+-- SetColorMapEntries, after its type 1: a byte of padding, the first colour, the number of colours,
+-- and six bytes for each (section 7.6.2). It is read over, since pixels of a true-color format need
+-- no map.
 unfoldable pub color_map_at : List ℕ → Reading Message WireFault
 color_map_at bytes = field 5 bytes >>= λ f rest. read_over (6 * u16_at f 3) rest
 
@@ -76,8 +77,8 @@ text_limit = 65536
 unfoldable pub text_data_at : ℕ → List ℕ → Reading Message WireFault
 text_data_at n bytes = field n bytes >>= λ text rest. Got (Recorded []) rest
 
--- ServerCutText, behind its type 3: three bytes of padding, the text's length, and the text
--- (section 7.6.4)
+-- ServerCutText, after its type 3: three bytes of padding, the text's length, and the text (section
+-- 7.6.4)
 unfoldable pub text_at : List ℕ → Reading Message WireFault
 text_at bytes = field 7 bytes >>= λ f rest.
     if nat_lt text_limit (u32_at f 3) then read_over (u32_at f 3) rest else text_data_at (u32_at f 3) rest

@@ -7,8 +7,8 @@ use Rattle.rfb_wire.specs.declared.message.Rectangle.{Rectangle}
 use Rattle.rect_data.specs.Data.{AreData}
 use Rattle.rfb_wire.specs.Grammar.{message_at, message_limit, Recorded}
 
--- a message for a screen of this size, which is recorded in this format: its bytes, and where its
--- rectangles stand in them
+-- a message for a screen of this size, which is recorded in this format: its bytes, and the offsets
+-- of its rectangles in them
 pub record Host : Type 0 where
   pub format : Format
   pub width : ℕ

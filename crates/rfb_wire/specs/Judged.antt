@@ -4,7 +4,7 @@ use Rattle.rfb_wire.specs.declared.partial_message.Ending.{Ending}
 use Rattle.rfb_wire.specs.declared.partial_message.PartialMessage.{PartialMessage}
 use Rattle.rfb_wire.specs.PartialMessage.{After, TakesFor}
 
--- So many bytes of the piece were taken, one at least, and it stands behind the fields that they
+-- So many bytes of the piece were taken, one at least, and it stands after the fields that they
 -- end.
 pub record Judged (limit width height : ℕ) (old new : PartialMessage) (piece : List ℕ) (taken : ℕ) (ending : Ending) : Type 0 where
   pub some : 0 < taken

@@ -7,7 +7,7 @@ pub mod Host
 pub mod Stream
 pub mod PartialMessage
 pub mod Judged
-pub mod Behind
+pub mod Following
 pub mod Reader
 pub mod Written
 pub mod Whole

@@ -1,5 +1,5 @@
 -- What a recorded message of a host is (RFC 6143, sections 7.6 and 7.7): a relation between the
--- size of a screen, the message's bytes, and where its rectangles stand in them.
+-- size of a screen, the message's bytes, and the offsets of its rectangles in them.
 use Rattle.std.specs.Prelude.{◌≡◌, ℕ, ◌+◌, ◌*◌, ◌≤◌, List, [], ◌∷◌, ◌++◌, length, max, ◌⊎◌}
 use Rattle.pixel_format.specs.Format.{host_format}
 use Rattle.terms.specs.Number.{u32_at}
@@ -7,7 +7,7 @@ use Rattle.rfb_wire.specs.declared.message.Rectangle.{Rectangle}
 use Rattle.rect_data.specs.Data.{number_of, AreData}
 use Rattle.rfb_wire.specs.Grammar.{area_of, encoding_number, text_limit}
 
--- A rectangle that begins at a place of its message: a header of 12 bytes, which names an area
+-- A rectangle that begins at an offset of its message: a header of 12 bytes, which names an area
 -- within the screen and an encoding, and the data (section 7.6.1).
 pub record IsRectangle (width height at : ℕ) (r : Rectangle) (bytes : List ℕ) : Type 0 where
   pub header : List ℕ
@@ -22,7 +22,7 @@ pub record IsRectangle (width height at : ℕ) (r : Rectangle) (bytes : List ℕ
   pub start_is : r.start ≡ at + 12
   pub end_is : r.end ≡ r.start + length content
 
--- rectangles one behind the other
+-- rectangles one after the other
 abbrev pub AreRectangles : ℕ → ℕ → ℕ → List Rectangle → List ℕ → Type 0
 AreRectangles width height at [] bytes = bytes ≡ []
 AreRectangles width height at (r ∷ rs) bytes =

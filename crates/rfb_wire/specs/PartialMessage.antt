@@ -1,4 +1,4 @@
--- Where a reader stands in a message: which field comes next, and what the bytes from that field on
+-- How far a reader is in a message: which field comes next, and what the bytes from that field on
 -- say, by the grammar.
 use Rattle.std.specs.Prelude.{◌≡◌, ℕ, suc, ◌+◌, ◌-◌, ◌<◌, ◌≤◌, List, [], ◌∷◌, ◌++◌, length, drop, ◌^◌, MatchOption, slice_index, max, vec_capacity, Option, Some, None, nat_eq, if◌then◌else◌}
 use Rattle.std.specs.Option.{option_to_list}
@@ -32,7 +32,7 @@ wants_of (stages.TextData n) = n
 wants_of (stages.RectangleHead at others) = 12
 wants_of (stages.Data at begun next others) = judging.wants_of host_format next
 
--- where in the message the field begins
+-- the offset in the message at which the field begins
 abbrev pub start_of : Stage → ℕ
 start_of stages.Type = 0
 start_of stages.UpdateHead = 1
@@ -52,23 +52,23 @@ abbrev pub put : List Rectangle → Message → Message
 put done (Recorded rs) = Recorded (done ++ rs)
 put done ReadOver = ReadOver
 
-abbrev pub behind : List Rectangle → Reading Message WireFault → Reading Message WireFault
-behind done r = r >>= λ m rest. Got (put done m) rest
+abbrev pub following : List Rectangle → Reading Message WireFault → Reading Message WireFault
+following done r = r >>= λ m rest. Got (put done m) rest
 
 -- so many rectangles, up to the message's end
 unfoldable pub others_at : ℕ → ℕ → ℕ → ℕ → List ℕ → Reading Message WireFault
 others_at width height count at bytes =
     rectangles_at width height count at bytes >>= λ others after. Got (Recorded others) after
 
--- the rectangle whose data end at this place
+-- the rectangle whose data end at this offset
 abbrev pub ended : Begun → ℕ → Rectangle
 ended b end = record { area = b.area; encoding = b.encoding; start = b.start; end = end }
 
--- Behind the data of a rectangle, as they are judged, others follow. All the bytes reach up to this
--- place of the message.
-abbrev pub behind_data : ℕ → ℕ → Begun → ℕ → ℕ → Reading Unit WireFault → Reading Message WireFault
-behind_data width height b others reach r = r >>= λ content rest.
-    behind (ended b (reach - length rest) ∷ []) (others_at width height others (reach - length rest) rest)
+-- After the data of a rectangle, as they are judged, others follow. All the bytes reach up to this
+-- offset of the message.
+abbrev pub after_data : ℕ → ℕ → Begun → ℕ → ℕ → Reading Unit WireFault → Reading Message WireFault
+after_data width height b others reach r = r >>= λ content rest.
+    following (ended b (reach - length rest) ∷ []) (others_at width height others (reach - length rest) rest)
 
 -- what the bytes from the stage's field on say
 unfoldable pub resume : ℕ → ℕ → Stage → List ℕ → Reading Message WireFault
@@ -79,18 +79,18 @@ resume width height stages.TextHead bytes = text_at bytes
 resume width height (stages.TextData n) bytes = text_data_at n bytes
 resume width height (stages.RectangleHead at others) bytes = others_at width height (suc others) at bytes
 resume width height (stages.Data at begun next others) bytes =
-    behind_data width height begun others (at + length bytes) (judging.resume host_format width height next bytes)
+    after_data width height begun others (at + length bytes) (judging.resume host_format width height next bytes)
 
--- what the bytes behind a field say
+-- what the bytes after a field say
 unfoldable pub go_on : ℕ → ℕ → Next → List ℕ → Reading Message WireFault
 go_on width height (nexts.Field stage) bytes = resume width height stage bytes
 go_on width height nexts.End bytes = Got (Recorded []) bytes
 go_on width height (nexts.ReadOver n) bytes = read_over n bytes
 
 abbrev pub step_on : ℕ → ℕ → AfterField → List ℕ → Reading Message WireFault
-step_on width height step bytes = behind (option_to_list step.rectangle) (go_on width height step.next bytes)
+step_on width height step bytes = following (option_to_list step.rectangle) (go_on width height step.next bytes)
 
--- a field that has bytes, and that begins at this place
+-- a field that has bytes, and that begins at this offset
 pub record BeginsAt (at : ℕ) (stage : Stage) : Type 0 where
   pub start : start_of stage ≡ at
   pub some : 0 < wants_of stage
@@ -120,10 +120,10 @@ NextIsOfKind nexts.End bytes = Unit {0}
 NextIsOfKind (nexts.ReadOver n) bytes = Unit {0}
 
 -- The reader stands at a field that has begun. What the message says, whatever comes, is what the
--- bytes from the field on say, behind the rectangles that are whole.
+-- bytes from the field on say, after the rectangles that are whole.
 pub record Linked (limit width height : ℕ) (bytes : List ℕ) (rectangles : List Rectangle) (stage : Stage) : Type 0 where
   pub link : (more : List ℕ) → unlimited_at width height (bytes ++ more)
-      ≡ behind rectangles (resume width height stage (drop (start_of stage) bytes ++ more))
+      ≡ following rectangles (resume width height stage (drop (start_of stage) bytes ++ more))
   pub begun : start_of stage ≤ length bytes
   pub short : length bytes ≤ limit
   pub kind : IsOfKind stage bytes
@@ -134,7 +134,7 @@ pub record IsInField (limit width height : ℕ) (p : PartialMessage) : Type 0 wh
   pub end_is : p.end ≡ start_of p.stage + wants_of p.stage
   pub unfinished : length p.bytes.items < start_of p.stage + wants_of p.stage
 
--- The reader stands in bytes that are read over. Behind what is kept and as many bytes as have
+-- The reader stands in bytes that are read over. After what is kept and as many bytes as have
 -- passed, whichever they were, those that are left come to the message's end.
 pub record IsOver (limit width height : ℕ) (bytes : List ℕ) (o : Over) : Type 0 where
   pub link : (skipped more : List ℕ) → length skipped ≡ o.passed
@@ -143,7 +143,7 @@ pub record IsOver (limit width height : ℕ) (bytes : List ℕ) (o : Over) : Typ
   pub bound : o.passed + o.left < 2 ^ 32
   pub short : length bytes ≤ head_limit
 
--- where the reader stands
+-- how far the reader is
 abbrev pub IsAt : ℕ → ℕ → ℕ → PartialMessage → Type 0
 IsAt limit width height p = MatchOption p.over (IsInField limit width height p) (λ o. IsOver limit width height p.bytes.items o)
 
@@ -152,16 +152,16 @@ abbrev pub passed_in : Option Over → ℕ
 passed_in None = 0
 passed_in (Some o) = o.passed
 
--- what is known once a reader has gone on behind the fields that are whole
+-- what is known once a reader has gone on after the fields that are whole
 abbrev pub After : ℕ → ℕ → ℕ → List ℕ → PartialMessage → Ending → Type 0
 After limit width height bytes p endings.Field = IsInField limit width height p
 After limit width height bytes p endings.Whole = unlimited_at width height bytes ≡ Got (Recorded p.rectangles.items) []
 After limit width height bytes p (endings.ReadOver n) = (n < 2 ^ 32) × (length bytes ≤ head_limit) × ((more : List ℕ) → unlimited_at width height (bytes ++ more) ≡ read_over n more)
 
 -- Whole fields reach up to the end of the bytes, and this follows from them. What the message says,
--- whatever comes, is what follows, behind the rectangles that are whole.
+-- whatever comes, is what follows, after the rectangles that are whole.
 pub record Follows (limit width height : ℕ) (bytes : List ℕ) (rectangles : List Rectangle) (whole : AfterField) : Type 0 where
-  pub link : (more : List ℕ) → unlimited_at width height (bytes ++ more) ≡ behind rectangles (step_on width height whole more)
+  pub link : (more : List ℕ) → unlimited_at width height (bytes ++ more) ≡ following rectangles (step_on width height whole more)
   pub begins : NextBegins (length bytes) whole.next
   pub kind : NextIsOfKind whole.next bytes
   pub short : length bytes ≤ limit
@@ -171,4 +171,4 @@ pub record Follows (limit width height : ℕ) (bytes : List ℕ) (rectangles : L
 pub record TakesFor (n : ℕ) (old new : PartialMessage) : Type 0 where
   pub kept : length new.bytes.items ≤ length old.bytes.items + n
   pub room : vec_capacity new.bytes ≤ max (vec_capacity old.bytes) (room_for (length old.bytes.items + n))
-  pub places : vec_capacity new.rectangles ≤ max (vec_capacity old.rectangles) (room_for (length old.bytes.items + n))
+  pub capacities : vec_capacity new.rectangles ≤ max (vec_capacity old.rectangles) (room_for (length old.bytes.items + n))

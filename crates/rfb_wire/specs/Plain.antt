@@ -10,7 +10,7 @@ use Rattle.rfb_wire.specs.Host.{Host}
 use Rattle.terms.specs.Fault.{UnlessMemory}
 use Rattle.rfb_wire.specs.Stream.{IsFor}
 
--- the value and the bytes behind it, nothing where they are too few, or the fault
+-- the value and the bytes after it, nothing if they are too few, or the fault
 abbrev pub Says : {X A : Type 0} → (X → A) → (X → List ℕ) → Result (Option X) WireFault → Reading A WireFault → Type 0
 Says value rest (Ok (Some x)) reading = reading ≡ Got (value x) (rest x)
 Says value rest (Ok None) reading = reading ≡ More
@@ -19,9 +19,9 @@ Says value rest (Err f) reading = UnlessMemory f (reading ≡ Bad f)
 -- the same of a message, which is a front of the bytes
 pub record Begins (format : Format) (width height : ℕ) (bytes : List ℕ) (m : Host) (reading : Reading Message WireFault) : Type 0 where
   pub is : IsFor format width height m
-  pub behind : List ℕ
-  pub bytes_are : bytes ≡ m.bytes ++ behind
-  pub reads : reading ≡ Got (Recorded m.rectangles) behind
+  pub following : List ℕ
+  pub bytes_are : bytes ≡ m.bytes ++ following
+  pub reads : reading ≡ Got (Recorded m.rectangles) following
 
 -- what a message without rectangles is, by whether it is recorded
 abbrev pub kind_of : Bool → Message

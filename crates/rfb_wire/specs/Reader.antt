@@ -16,13 +16,13 @@ pub record Reader : Type 0 where
   pub kept : List ℕ
   pub passed : ℕ
   pub room : ℕ
-  pub places : ℕ
+  pub capacities : ℕ
   pub fault : Option WireFault
 
 -- a reader at the start of a stream
 abbrev pub at_start : Format → ℕ → ℕ → Reader
 at_start format width height =
-    record { format = format; width = width; height = height; kept = []; passed = 0; room = 0; places = 0; fault = None }
+    record { format = format; width = width; height = height; kept = []; passed = 0; room = 0; capacities = 0; fault = None }
 
 -- the greatest number of bytes before those of a message that are read over: type, padding, and how
 -- many colours or bytes of text follow

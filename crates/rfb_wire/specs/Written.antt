@@ -17,7 +17,7 @@ raw_head a = one_rectangle_head a 0
 abbrev pub raw_update_bytes : Area → List ℕ → List ℕ
 raw_update_bytes a pixels = raw_head a ++ pixels
 
--- where the rectangle stands in it
+-- the rectangle, with its offsets in it
 abbrev pub raw_rectangle : Area → Rectangle
 raw_rectangle a = record { area = a; encoding = encodings.Raw; start = 16; end = 16 + 4 * (a.w * a.h) }
 

@@ -10,8 +10,8 @@ use std::alloc::Global;
 use std::marker::Model;
 use terms::{Area, NoMemory, ScreenSize, WireFault};
 
-/// A rectangle of an update: its area of the screen, and where in the message's bytes its data
-/// begin and end.
+/// A rectangle of an update: its area of the screen, and the offsets in the message's bytes at
+/// which its data begin and end.
 #[derive(Clone, Copy, Debug, PartialEq, Eq)]
 pub struct Rectangle {
     pub area: Area,
@@ -21,7 +21,7 @@ pub struct Rectangle {
 }
 
 /// One recorded message of a host, valid in the host format for a screen of its size: its bytes as
-/// they came and, for an update, where its rectangles stand in them.
+/// they came and, for an update, the offsets of its rectangles in them.
 #[derive(Drop)]
 pub struct HostMessage {
     screen: RecordedScreen,
@@ -74,9 +74,9 @@ impl HostMessage {
         }
     }
 
-    /// The message that is all of the bytes, for a screen of this size that is recorded in format 1.
-    /// Where they aren't exactly one recorded message, the fault is that of a reader which is fed
-    /// them, else `NotOne`.
+    /// The message that is all of the bytes, for a screen of this size that is recorded in
+    /// format 1. If they aren't exactly one recorded message, the fault is that of a reader which
+    /// is fed them, else `NotOne`.
     pub fn from_bytes(
         alloc: Global,
         size: ScreenSize,

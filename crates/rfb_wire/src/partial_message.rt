@@ -1,4 +1,4 @@
-//! Where a reader stands in a message.
+//! How far a reader is in a message.
 
 ghost use Rattle.std.specs.Prelude.{◌≡◌, ℕ, ◌<◌, ◌≤◌, ◌^◌, ◌+◌, ◌++◌, ◌⊎◌, [], ◌∷◌, List, length, take, max, vec_capacity, IfOk, OnOk, IfErr, OnErr, Ok, Err, None};
 ghost use Rattle.terms.specs.Appending.{room_for};
@@ -28,7 +28,7 @@ pub fn message_limit(format: Format) -> usize
     format.limits().message
 }
 
-/// A rectangle whose header is read, and where in the message its data begin.
+/// A rectangle whose header is read, and the offset in the message at which its data begin.
 #[derive(Clone, Copy)]
 pub struct Begun {
     pub start: usize,
@@ -41,22 +41,22 @@ pub struct Begun {
 pub enum Stage {
     /// The message's type.
     Type,
-    /// Behind the type of an update: padding, and the number of rectangles.
+    /// After the type of an update: padding, and the number of rectangles.
     UpdateHead,
-    /// Behind the type of a colour map: padding, the first colour, and the number of colours.
+    /// After the type of a colour map: padding, the first colour, and the number of colours.
     ColorMapHead,
-    /// Behind the type of a cut text: padding, and the text's length.
+    /// After the type of a cut text: padding, and the text's length.
     TextHead,
     /// A text of so many bytes.
     TextData {
         length: u32,
     },
-    /// The header of a rectangle, at this place of the message, which others follow.
+    /// The header of a rectangle, at this offset of the message, which others follow.
     RectangleHead {
         at: usize,
         others: u16,
     },
-    /// A field of the data of a rectangle, at this place of the message. Other rectangles follow.
+    /// A field of the data of a rectangle, at this offset of the message. Other rectangles follow.
     Data {
         at: usize,
         begun: Begun,
@@ -65,7 +65,7 @@ pub enum Stage {
     },
 }
 
-/// What comes behind a whole field.
+/// What comes after a whole field.
 #[derive(Clone, Copy)]
 pub enum Next {
     /// Another field of the message.
@@ -83,7 +83,7 @@ pub struct AfterField {
     pub next: Next,
 }
 
-/// How far whole fields bring a message, once the reader has gone on behind them.
+/// How far whole fields bring a message, once the reader has gone on after them.
 #[derive(Clone, Copy)]
 pub enum Ending {
     /// A field of the message isn't whole.
@@ -94,7 +94,7 @@ pub enum Ending {
     ReadOver(u64),
 }
 
-/// A message that is read over: how many bytes behind its head have passed, and how many are left.
+/// A message that is read over: how many bytes after its head have passed, and how many are left.
 #[derive(Clone, Copy)]
 pub struct Over {
     pub passed: u64,
@@ -102,7 +102,8 @@ pub struct Over {
 }
 
 /// An unfinished message: its bytes so far, those of its rectangles that are whole, the field that
-/// comes next, and where in the message that ends. Of one that is read over, its head is kept.
+/// comes next, and the offset in the message at which that ends. Of one that is read over, its head
+/// is kept.
 #[derive(Drop)]
 pub struct PartialMessage {
     pub bytes: Vec<u8>,
@@ -131,7 +132,7 @@ impl Stage {
         }
     }
 
-    /// Where in the message the field begins.
+    /// The offset in the message at which the field begins.
     pub fn start(self) -> usize
         ensures { result ≡ start_of self }
     {
@@ -166,13 +167,13 @@ impl PartialMessage {
         }
     }
 
-    // Goes on behind whole fields.
+    // Goes on after whole fields.
     fn advance(&mut self, screen: RecordedScreen, whole: AfterField) -> Result<Ending, WireFault>
         requires { Follows (message_limit screen.format) screen.size.width screen.size.height self.old.bytes.items self.old.rectangles.items whole }
         ensures goes { IfOk result (λ e. After (message_limit screen.format) screen.size.width screen.size.height self.old.bytes.items self.new e) }
         ensures bytes { self.new.bytes ≡ self.old.bytes }
         ensures over { self.new.over ≡ self.old.over }
-        ensures places { OnOk result (vec_capacity self.new.rectangles
+        ensures capacities { OnOk result (vec_capacity self.new.rectangles
             ≤ max (vec_capacity self.old.rectangles) (room_for (length self.old.bytes.items))) }
         ensures only { IfErr result (λ f. f ≡ WireFault.NoMemory) }
     {
@@ -211,7 +212,7 @@ impl PartialMessage {
     }
 
     // Takes bytes and judges the fields that they end: of a rectangle's data all that are whole in
-    // the piece, where it begins with a field, and else one. Answers how many. It stands apart, so
+    // the piece, if it begins with a field, and else one. Answers how many. It stands apart, so
     // that a piece in which no field ends makes no room for what follows from one.
     #[inline(never)]
     fn judge(&mut self, screen: RecordedScreen, piece: &[u8]) -> Result<(usize, Ending), WireFault>

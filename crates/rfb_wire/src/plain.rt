@@ -22,7 +22,7 @@ pub enum Front {
     ReadOver(usize),
 }
 
-// The rectangle that the bytes begin with, at a place of its message, and the bytes behind it.
+// The rectangle that the bytes begin with, at an offset of its message, and the bytes after it.
 fn rectangle(
     size: ScreenSize,
     at: usize,
@@ -52,7 +52,7 @@ fn rectangle(
     Ok(Some((rectangle, &rest[length..])))
 }
 
-// So many rectangles behind the head of an update, and the bytes behind them.
+// So many rectangles after the head of an update, and the bytes after them.
 fn rectangles(
     alloc: Global,
     size: ScreenSize,
@@ -67,17 +67,17 @@ fn rectangles(
     let mut at = 4;
     let mut rest = bytes;
     for _ in 0..count {
-        let Some((next, behind)) = rectangle(size, at, rest)? else {
+        let Some((next, following)) = rectangle(size, at, rest)? else {
             return Ok(None);
         };
         found.push(next)?;
         at = next.end;
-        rest = behind;
+        rest = following;
     }
     Ok(Some((found, rest)))
 }
 
-// The rectangles of the update that the bytes begin with, and the bytes behind it.
+// The rectangles of the update that the bytes begin with, and the bytes after it.
 fn update(
     alloc: Global,
     size: ScreenSize,
@@ -97,7 +97,7 @@ fn update(
     rectangles(alloc, size, count, body)
 }
 
-// The bytes behind a colour map, of which these follow the type.
+// The bytes after a colour map, of which these follow the type.
 fn color_map(bytes: &[u8]) -> Option<&[u8]>
     ensures { MatchOption result (color_map_at bytes.now ≡ More)
         (λ rest. color_map_at bytes.now ≡ Got ReadOver rest.now) }
@@ -108,7 +108,7 @@ fn color_map(bytes: &[u8]) -> Option<&[u8]>
     Some(rest)
 }
 
-// Whether a cut text is recorded, and the bytes behind it, of which these follow the type.
+// Whether a cut text is recorded, and the bytes after it, of which these follow the type.
 fn text(bytes: &[u8]) -> Option<(bool, &[u8])>
     ensures { MatchOption result (text_at bytes.now ≡ More)
         (λ x. text_at bytes.now ≡ Got (kind_of x.0) x.1.now) }
@@ -119,7 +119,7 @@ fn text(bytes: &[u8]) -> Option<(bool, &[u8])>
     Some((count <= TEXT_LIMIT, rest))
 }
 
-// Whether a message that is no update is recorded, and the bytes behind it, of which these follow
+// Whether a message that is no update is recorded, and the bytes after it, of which these follow
 // its type.
 fn other(kind: u8, bytes: &[u8]) -> Result<Option<(bool, &[u8])>, WireFault>
     requires { nat_eq kind 0 ≡ false }
@@ -164,9 +164,9 @@ fn update_message(
     Ok(Some(Front::Recorded(message)))
 }
 
-/// The message that the bytes begin with, for this screen; `None` where they are too few
-/// for it, and the fault that they begin with. It reads the bytes from their front, while a
-/// `ServerReader` takes them in pieces.
+/// The message that the bytes begin with, for this screen; `None` if they are too few for it, and
+/// the fault that they begin with. It reads the bytes from their front, while a `ServerReader`
+/// takes them in pieces.
 pub fn read_message(
     alloc: Global,
     screen: RecordedScreen,
@@ -181,10 +181,10 @@ pub fn read_message(
     if kind[0] == 0 {
         return update_message(alloc, screen, bytes);
     }
-    let Some((recorded, behind)) = other(kind[0], rest)? else {
+    let Some((recorded, following)) = other(kind[0], rest)? else {
         return Ok(None);
     };
-    let length = bytes.len() - behind.len();
+    let length = bytes.len() - following.len();
     if !recorded {
         return Ok(Some(Front::ReadOver(length)));
     }

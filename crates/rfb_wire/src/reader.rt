@@ -41,7 +41,7 @@ impl Model for ServerReader {
       kept = r.partial.bytes.items;
       passed = passed_in r.partial.over;
       room = vec_capacity r.partial.bytes;
-      places = vec_capacity r.partial.rectangles;
+      capacities = vec_capacity r.partial.rectangles;
       fault = r.fault;
     } };
 
@@ -102,7 +102,7 @@ impl ServerReader {
 
     /// Takes the next piece of the stream, and appends each message that is whole now. A fault is
     /// answered at the last byte of the field that holds it, once the messages before it are
-    /// appended; from then on each call answers the same fault and does nothing else, also where
+    /// appended; from then on each call answers the same fault and does nothing else, also if
     /// memory ran out.
     pub fn feed(&mut self, piece: &[u8], out: &mut Vec<HostMessage>) -> Result<(), WireFault>
         // The messages that are whole are given, and the reader stands for the rest.
@@ -129,7 +129,7 @@ impl ServerReader {
         ensures short { IsShort (message_limit self.new.format) self.new.width self.new.height self.new.kept }
         // Room is taken for bytes that have come, and for rectangles in them.
         ensures room { let most = room_for (length self.old.kept + length piece.now)
-            in (self.new.room ≤ max self.old.room most) × (self.new.places ≤ max self.old.places most) }
+            in (self.new.room ≤ max self.old.room most) × (self.new.capacities ≤ max self.old.capacities most) }
         ensures screen { (self.new.format ≡ self.old.format) × (self.new.width ≡ self.old.width) × (self.new.height ≡ self.old.height) }
     {
         if let Some(fault) = self.fault {

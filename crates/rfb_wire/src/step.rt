@@ -7,9 +7,9 @@ ghost use Rattle.terms.specs.Number.{u16_at, u32_at};
 ghost use Rattle.rect_data.specs.Judging.{HasBytes};
 ghost use Rattle.rect_data.specs.Judging as judging;
 ghost use Rattle.rfb_wire.specs.Grammar.{text_limit, read_over, text_data_at, area_of, encoding_number};
-ghost use Rattle.rfb_wire.specs.Behind.{IsBehind};
+ghost use Rattle.rfb_wire.specs.Following.{IsAfter};
 ghost use Rattle.rfb_wire.specs.Header.{Names, IsRefusedBy};
-ghost use Rattle.rfb_wire.specs.PartialMessage.{wants_of, start_of, NextBegins, IsOfUpdate, IsOfKind, NextIsOfKind, resume, go_on, step_on, others_at, behind_data};
+ghost use Rattle.rfb_wire.specs.PartialMessage.{wants_of, start_of, NextBegins, IsOfUpdate, IsOfKind, NextIsOfKind, resume, go_on, step_on, others_at, after_data};
 
 use crate::message::Rectangle;
 use crate::partial_message::{AfterField, Begun, Next, Stage};
@@ -79,7 +79,7 @@ fn next_header(at: usize, count: u16) -> Next
     }
 }
 
-// What comes behind the type of a message.
+// What comes after the type of a message.
 fn next_of_type(number: u8) -> Result<Next, WireFault>
     ensures goes { IfOk result (λ n. (width height : ℕ) → (field more : List ℕ) → length field ≡ 1 → slice_index field 0 ≡ number
         → resume width height Stage.Type (field ++ more) ≡ go_on width height n more) }
@@ -101,10 +101,10 @@ fn next_of_type(number: u8) -> Result<Next, WireFault>
     }
 }
 
-// Behind the type of a message.
-fn behind_type(field: &[u8]) -> Result<AfterField, WireFault>
+// After the type of a message.
+fn after_type(field: &[u8]) -> Result<AfterField, WireFault>
     requires { length field.now ≡ 1 }
-    ensures goes { IfOk result (IsBehind Stage.Type field.now) }
+    ensures goes { IfOk result (IsAfter Stage.Type field.now) }
     ensures begins { IfOk result (λ s. NextBegins 1 s.next) }
     ensures kind { IfOk result (λ s. NextIsOfKind s.next field.now) }
     ensures faults { IfErr result (λ f. (width height : ℕ) → (more : List ℕ)
@@ -120,10 +120,10 @@ fn behind_type(field: &[u8]) -> Result<AfterField, WireFault>
     })
 }
 
-// Behind the head of a colour map: six bytes for each colour.
-fn behind_color_map_head(field: &[u8]) -> AfterField
+// After the head of a colour map: six bytes for each colour.
+fn after_color_map_head(field: &[u8]) -> AfterField
     requires { length field.now ≡ 5 }
-    ensures goes { IsBehind Stage.ColorMapHead field.now result }
+    ensures goes { IsAfter Stage.ColorMapHead field.now result }
     ensures begins { NextBegins 6 result.next }
     ensures kind { (bytes : List ℕ) → NextIsOfKind result.next bytes }
 {
@@ -150,10 +150,10 @@ fn next_text(count: u32) -> Next
     }
 }
 
-// Behind the head of a cut text.
-fn behind_text_head(field: &[u8]) -> AfterField
+// After the head of a cut text.
+fn after_text_head(field: &[u8]) -> AfterField
     requires { length field.now ≡ 7 }
-    ensures goes { IsBehind Stage.TextHead field.now result }
+    ensures goes { IsAfter Stage.TextHead field.now result }
     ensures begins { NextBegins 8 result.next }
     ensures kind { (bytes : List ℕ) → NextIsOfKind result.next bytes }
 {
@@ -164,8 +164,8 @@ fn behind_text_head(field: &[u8]) -> AfterField
     }
 }
 
-// Behind the last byte of a text.
-fn behind_text(count: u32) -> AfterField
+// After the last byte of a text.
+fn after_text(count: u32) -> AfterField
     ensures goes { (width height : ℕ) → (text more : List ℕ) → length text ≡ count
         → resume width height (Stage.TextData count) (text ++ more) ≡ step_on width height result more }
     ensures begins { NextBegins (8 + count) result.next }
@@ -178,10 +178,10 @@ fn behind_text(count: u32) -> AfterField
     }
 }
 
-// Behind the head of an update.
-fn behind_update_head(field: &[u8]) -> AfterField
+// After the head of an update.
+fn after_update_head(field: &[u8]) -> AfterField
     requires { length field.now ≡ 3 }
-    ensures goes { IsBehind Stage.UpdateHead field.now result }
+    ensures goes { IsAfter Stage.UpdateHead field.now result }
     ensures begins { NextBegins 4 result.next }
     ensures kind { (bytes : List ℕ) → IsOfUpdate bytes → NextIsOfKind result.next bytes }
 {
@@ -191,11 +191,11 @@ fn behind_update_head(field: &[u8]) -> AfterField
     }
 }
 
-// Behind a field of a rectangle's data: the next one, or the rectangle, whose data end here.
+// After a field of a rectangle's data: the next one, or the rectangle, whose data end here.
 fn next_data(at: usize, begun: Begun, next: Option<Judging>, others: u16) -> AfterField
     requires { HasBytes host_format next }
     ensures goes { (width height : ℕ) → (more : List ℕ)
-        → behind_data width height begun others (at + length more) (judging.go_on host_format width height next more) ≡ step_on width height result more }
+        → after_data width height begun others (at + length more) (judging.go_on host_format width height next more) ≡ step_on width height result more }
     ensures begins { NextBegins at result.next }
     ensures kind { (bytes : List ℕ) → IsOfUpdate bytes → NextIsOfKind result.next bytes }
 {
@@ -248,8 +248,8 @@ pub fn run(
     }
 }
 
-// Behind the header of a rectangle.
-fn behind_header(
+// After the header of a rectangle.
+fn after_header(
     size: ScreenSize,
     at: usize,
     others: u16,
@@ -285,12 +285,12 @@ pub fn step(size: ScreenSize, stage: Stage, field: &[u8]) -> Result<AfterField, 
     ensures faults { IfErr result (λ f. (more : List ℕ) → resume size.width size.height stage (field.now ++ more) ≡ Bad f) }
 {
     match stage {
-        Stage::Type => behind_type(field),
-        Stage::UpdateHead => Ok(behind_update_head(field)),
-        Stage::ColorMapHead => Ok(behind_color_map_head(field)),
-        Stage::TextHead => Ok(behind_text_head(field)),
-        Stage::TextData { length } => Ok(behind_text(length)),
-        Stage::RectangleHead { at, others } => behind_header(size, at, others, field),
+        Stage::Type => after_type(field),
+        Stage::UpdateHead => Ok(after_update_head(field)),
+        Stage::ColorMapHead => Ok(after_color_map_head(field)),
+        Stage::TextHead => Ok(after_text_head(field)),
+        Stage::TextData { length } => Ok(after_text(length)),
+        Stage::RectangleHead { at, others } => after_header(size, at, others, field),
         Stage::Data {
             at,
             begun,

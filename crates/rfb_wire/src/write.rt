@@ -79,8 +79,8 @@ pub fn write_cut_text(text: &[u8], out: &mut Vec<u8>) -> Result<(), NoMemory>
 }
 
 /// An update of one Raw rectangle that is written is read as a recorded message with that
-/// rectangle, where the area lies within the screen and has four bytes for each place. (A law: it
-/// does nothing.)
+/// rectangle, if the area lies within the screen and has four bytes for each pixel. (A law: it does
+/// nothing.)
 pub fn written_update_is_read()
     ensures { (limit width height : ℕ) → (area : AreaValue) → (pixels : List ℕ)
         → IsTrue (is_inside width height area) → length pixels ≡ 4 * (area.w * area.h)

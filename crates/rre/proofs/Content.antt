@@ -41,8 +41,8 @@ pub bytes_subrectangle : (f : Format) (s : Subrectangle) (bytes : List ℕ) → 
 unfolding subrectangle_of
 bytes_subrectangle f s bytes b =
     let front : take (pixel_bytes f) bytes ≡ b.pixel = rw b.bytes_are (take_at b.pixel b.area (pixel_bytes f) b.pixel_length) in
-    let behind : drop (pixel_bytes f) bytes ≡ b.area = rw b.bytes_are (drop_at b.pixel b.area (pixel_bytes f) b.pixel_length) in
-    rw (front, behind, ← b.x_is, ← b.y_is, ← b.w_is, ← b.h_is, ← b.color_is) refl
+    let following : drop (pixel_bytes f) bytes ≡ b.area = rw b.bytes_are (drop_at b.pixel b.area (pixel_bytes f) b.pixel_length) in
+    rw (front, following, ← b.x_is, ← b.y_is, ← b.w_is, ← b.h_is, ← b.color_is) refl
 
 pub within_is : (w h : ℕ) (s : Subrectangle) → is_inside w h s ≡ true → LiesWithin w h s
 unfolding is_inside

@@ -7,13 +7,13 @@ use Rattle.pixel_format.specs.Number.{times_in}
 use Rattle.pixel_format.proofs.Voting.{count_run}
 use Rattle.rre.specs.Numbered.{counted}
 
--- The numbers before `start` are counted. The one at `place` is counted most often.
-pub record IsTally (numbers : List ℕ) (counts : BTreeMap ℕ ℕ) (start place most : ℕ) : Type 0 where
+-- The numbers before `start` are counted. The one at `index` is counted most often.
+pub record IsTally (numbers : List ℕ) (counts : BTreeMap ℕ ℕ) (start index most : ℕ) : Type 0 where
   pub within : start ≤ length numbers
-  pub stands : place < length numbers
+  pub stands : index < length numbers
   pub counts_are : (number : ℕ) → counted counts number ≡ times_in number (take start numbers)
   pub at_most : (number : ℕ) → counted counts number ≤ most
-  pub best : counted counts (get_or numbers place 0) ≡ most
+  pub best : counted counts (get_or numbers index 0) ≡ most
 
 -- a run of one number, from `start` to `end`
 pub record IsRun (numbers : List ℕ) (start end : ℕ) : Type 0 where
@@ -30,8 +30,8 @@ count_run_to numbers start end other run =
     ap (λ m. times_in other (take m numbers)) (sym next)
     ∙ count_run (get_or numbers start 0) numbers start (end - start) other (omega arith) (λ k from to. run.same k from (omega arith))
 
-module _ (numbers : List ℕ) (old new : BTreeMap ℕ ℕ) (start end place most count : ℕ)
-    (tally : IsTally numbers old start place most) (run : IsRun numbers start end)
+module _ (numbers : List ℕ) (old new : BTreeMap ℕ ℕ) (start end index most count : ℕ)
+    (tally : IsTally numbers old start index most) (run : IsRun numbers start end)
     (total : count ≡ counted old (get_or numbers start 0) + (end - start))
     (sets : (other : ℕ) → counted new other ≡ cond (other == get_or numbers start 0) count (counted old other)) where
   counted_at : (other : ℕ) (test : Bool) → (other == get_or numbers start 0) ≡ test → counted new other ≡ cond test count (counted old other)
@@ -52,11 +52,11 @@ module _ (numbers : List ℕ) (old new : BTreeMap ℕ ℕ) (start end place most
   at_most_next bound low high other true is = omega (arith, counted_at other true is)
   at_most_next bound low high other false is = omega (arith, counted_at other false is, tally.at_most other)
 
-  best_kept : count ≤ most → (test : Bool) → (get_or numbers place 0 == get_or numbers start 0) ≡ test → counted new (get_or numbers place 0) ≡ most
+  best_kept : count ≤ most → (test : Bool) → (get_or numbers index 0 == get_or numbers start 0) ≡ test → counted new (get_or numbers index 0) ≡ most
   best_kept low true is =
       let some = run.some in
-      omega (arith, before_at (get_or numbers place 0) is, tally.best, total)
-  best_kept low false is = counted_at (get_or numbers place 0) false is ∙ tally.best
+      omega (arith, before_at (get_or numbers index 0) is, tally.best, total)
+  best_kept low false is = counted_at (get_or numbers index 0) false is ∙ tally.best
 
   pub tally_when_more : most < count → IsTally numbers new end start count
   tally_when_more more = record {
@@ -67,19 +67,19 @@ module _ (numbers : List ℕ) (old new : BTreeMap ℕ ℕ) (start end place most
     best = counted_at (get_or numbers start 0) true (eq-eqb (get_or numbers start 0) (get_or numbers start 0) refl);
   }
 
-  pub tally_when_no_more : count ≤ most → IsTally numbers new end place most
+  pub tally_when_no_more : count ≤ most → IsTally numbers new end index most
   tally_when_no_more low = record {
     within = run.within;
     stands = tally.stands;
     counts_are = λ other. counts_next other (other == get_or numbers start 0) refl;
     at_most = λ other. at_most_next most (omega arith) low other (other == get_or numbers start 0) refl;
-    best = best_kept low (get_or numbers place 0 == get_or numbers start 0) refl;
+    best = best_kept low (get_or numbers index 0 == get_or numbers start 0) refl;
   }
 
--- once all are counted, no number stands at more places
-pub most_frequent : (numbers : List ℕ) (counts : BTreeMap ℕ ℕ) (start place most : ℕ) → IsTally numbers counts start place most
-    → length numbers ≤ start → (number : ℕ) → times_in number numbers ≤ times_in (get_or numbers place 0) numbers
-most_frequent numbers counts start place most tally done number =
-    let best = get_or numbers place 0 in
+-- once all are counted, no number is that of more pixels
+pub most_frequent : (numbers : List ℕ) (counts : BTreeMap ℕ ℕ) (start index most : ℕ) → IsTally numbers counts start index most
+    → length numbers ≤ start → (number : ℕ) → times_in number numbers ≤ times_in (get_or numbers index 0) numbers
+most_frequent numbers counts start index most tally done number =
+    let best = get_or numbers index 0 in
     let all = take_all start numbers done in
     omega (arith, ap (times_in number) all, ap (times_in best) all, tally.counts_are number, tally.counts_are best, tally.at_most number, tally.best)

@@ -43,7 +43,7 @@ has_few f colors background parts old new majority few written =
       );
     }
 
--- where they are as long as a limit, or would be
+-- if they are as long as a limit, or would be
 pub long_few : (f : Format) (colors : List Color) (old new limit : ℕ) → HasFew f colors old new → limit ≤ new - old → IsLong f colors limit
 long_few f colors old new limit has long = record {
   background = has.background;
@@ -64,6 +64,6 @@ long_many f colors limit size most is divides has = record {
       omega (arith, up, rest, sizes);
 }
 
--- no more places than there are have another colour
+-- no more pixels than there are have another colour
 pub never_many : (colors : List Color) (most : ℕ) → length colors ≤ most → HasMany colors most → ⊥
 never_many colors most all has = absurd (omega (arith, has.many, count_by-le-length (λ (other : Color). not (is_color has.background other)) colors))

@@ -1,4 +1,4 @@
--- Covering the places of a row, one subrectangle after the other.
+-- Covering the pixels of a row, one subrectangle after the other.
 use Rattle.std.proofs.Common.{◌≡◌, ℕ, ◌+◌, ◌-◌, ◌⊎◌, inl, inr, cond, List, [], ◌∷◌, ◌++◌, slice_index, refl, sym, ◌∙◌, arith, length-append}
 use Rattle.std.specs.Prelude.{nat_le, nat_lt, ◌&&◌}
 use Rattle.std.proofs.lemmas.Bool.{cases_Bool, cases_lt, le-leb, lt-ltb, lt-leb, le-ltb}
@@ -9,7 +9,7 @@ use Rattle.rre.specs.declared.data.Subrectangle.{Subrectangle}
 use Rattle.rre.specs.Encoded.{IsUniform, AreUniform, part_picture, Reaches}
 use Rattle.rre.proofs.Painted.{one_more}
 
--- the places of a subrectangle have its colour, which is theirs
+-- the pixels of a subrectangle have its colour, which is theirs
 good_here : (colors : List Color) (w h : ℕ) (background : Color) (parts : List Subrectangle) (s : Subrectangle) (c r : ℕ) → IsUniform colors w h s → IsIn s.x s.y s.w s.h c r
     → part_picture background (parts ++ s ∷ []) c r ≡ rows_of colors w c r
 good_here colors w h background parts s c r u is =

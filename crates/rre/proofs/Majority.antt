@@ -1,4 +1,4 @@
--- The number that more than half of the places have, by counting.
+-- The number that more than half of the pixels have, by counting.
 use Rattle.std.proofs.Common.{◌≡◌, ℕ, ◌+◌, ◌*◌, ◌<◌, ◌≤◌, ◌==◌, Bool, true, false, cond, List, [], ◌∷◌, length, get_or, refl, sym, ◌∙◌, arith}
 use Rattle.std.proofs.lemmas.Bool.{eq-eqb, eqb-true}
 use Rattle.std.proofs.lemmas.List.Sums.{sum_by-cons}
@@ -10,7 +10,7 @@ one_of_two c d x differ true false is also = omega arith
 one_of_two c d x differ false true is also = omega arith
 one_of_two c d x differ false false is also = omega arith
 
--- two numbers stand at no more places than there are
+-- two numbers have no more pixels than there are
 two_counts : (c d : ℕ) (numbers : List ℕ) → (c ≡ d → ⊥) → times_in c numbers + times_in d numbers ≤ length numbers
 two_counts c d [] differ = omega arith
 two_counts c d (x ∷ numbers) differ =
@@ -23,11 +23,11 @@ different c d away same =
     let yes : (c == d) ≡ true = rw same (eq-eqb d d refl) in
     cc
 
-majority_at : (numbers : List ℕ) (place : ℕ) → ((number : ℕ) → times_in number numbers ≤ times_in (get_or numbers place 0) numbers)
-    → (number : ℕ) (test : Bool) → (number == get_or numbers place 0) ≡ test → length numbers < 2 * times_in number numbers → number ≡ get_or numbers place 0
-majority_at numbers place best number true is most = eqb-true number (get_or numbers place 0) is
-majority_at numbers place best number false is most =
-    absurd (omega (arith, two_counts number (get_or numbers place 0) numbers (different number (get_or numbers place 0) is), best number))
+majority_at : (numbers : List ℕ) (index : ℕ) → ((number : ℕ) → times_in number numbers ≤ times_in (get_or numbers index 0) numbers)
+    → (number : ℕ) (test : Bool) → (number == get_or numbers index 0) ≡ test → length numbers < 2 * times_in number numbers → number ≡ get_or numbers index 0
+majority_at numbers index best number true is most = eqb-true number (get_or numbers index 0) is
+majority_at numbers index best number false is most =
+    absurd (omega (arith, two_counts number (get_or numbers index 0) numbers (different number (get_or numbers index 0) is), best number))
 
-pub counted_majority : (numbers : List ℕ) (place : ℕ) → ((number : ℕ) → times_in number numbers ≤ times_in (get_or numbers place 0) numbers) → HasMajority numbers place
-counted_majority numbers place best number most = majority_at numbers place best number (number == get_or numbers place 0) refl most
+pub counted_majority : (numbers : List ℕ) (index : ℕ) → ((number : ℕ) → times_in number numbers ≤ times_in (get_or numbers index 0) numbers) → HasMajority numbers index
+counted_majority numbers index best number most = majority_at numbers index best number (number == get_or numbers index 0) refl most

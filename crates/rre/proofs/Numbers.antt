@@ -1,5 +1,4 @@
--- Places whose pixels are numbers, and their colours: numbers of pixels and their colours correspond
--- one to one.
+-- Pixels as numbers, and their colours: numbers of pixels and their colours correspond one to one.
 use Rattle.std.proofs.Common.{◌≡◌, ℕ, ◌+◌, ◌*◌, ◌<◌, ◌≤◌, ◌==◌, Bool, true, cond, inl, inr, List, [], ◌∷◌, length, refl, sym, ap, ◌∙◌, arith}
 use Rattle.std.specs.Prelude.{All, count_by, not, ◌&&◌}
 use Rattle.std.proofs.lemmas.Bool.{cases_Bool, and_from, and_parts, eq-eqb, eqb-true}
@@ -51,7 +50,7 @@ count_colors f p q (m ∷ numbers) same all =
     ∙ ap (λ n. cond (q m) 1 0 + n) (count_colors f p q numbers same (All-tail (IsNumber f) m numbers all))
     ∙ sym (sum_by-cons (λ (n : ℕ). cond (q n) 1 0) m numbers)
 
--- a colour stands at as many places as its number
+-- a colour has as many pixels as its number
 pub count_is : (f : Format) (n : ℕ) (numbers : List ℕ) → IsNumber f n → All (IsNumber f) numbers → count_of (number_color f n) (colors_of f numbers) ≡ times_in n numbers
 count_is f n numbers is all = count_colors f (is_color (number_color f n)) (λ m. n == m) numbers (λ m here. is_number f n m is here) all
 
@@ -73,7 +72,7 @@ some_number f color (m ∷ numbers) some all = elim (cases_Bool (is_color color 
       some_number f color numbers (omega (arith, some, rest)) (All-tail (IsNumber f) m numbers all)
 ]
 
--- the number that stands at more than half of the places is that of the colour that does
+-- the number that more than half of the pixels have is that of the colour that they have
 pub majority_color : (f : Format) (numbers : List ℕ) (n : ℕ) → All (IsNumber f) numbers → ((m : ℕ) → length numbers < 2 * times_in m numbers → m ≡ n)
     → IsMajority (colors_of f numbers) (number_color f n)
 majority_color f numbers n all most color more =
@@ -87,7 +86,7 @@ pub colors_within : (f : Format) (numbers : List ℕ) → All (IsNumber f) numbe
 colors_within f numbers all =
     All-map (IsWithin f) (number_color f) numbers (All-weaker (IsNumber f) (λ n. IsWithin f (number_color f n)) (λ n is. is.within) numbers all)
 
--- at most so many parts as there are places of another number are few, and more are many
+-- at most so many parts as there are pixels of another number are few, and more are many
 pub few_others : (f : Format) (n : ℕ) (numbers : List ℕ) (count : ℕ) → IsNumber f n → All (IsNumber f) numbers → count ≤ others_in n numbers
     → count ≤ others_than (number_color f n) (colors_of f numbers)
 few_others f n numbers count is all few = omega (arith, few, others_are f n numbers is all)

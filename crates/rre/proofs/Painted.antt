@@ -1,4 +1,4 @@
--- Painting subrectangles in their order gives each place the colour of the last one there.
+-- Painting subrectangles in their order gives each pixel the colour of the last one there.
 use Rattle.std.proofs.Common.{◌≡◌, ℕ, ◌+◌, ◌-◌, ◌<◌, ◌≤◌, inl, inr, cond, List, [], ◌∷◌, ◌++◌, length, take, drop, refl, sym, ap, ◌∙◌, subst, arith, append_assoc, length-append}
 use Rattle.std.proofs.lemmas.Bool.{cases_Bool}
 use Rattle.std.proofs.lemmas.List.{reverse-append, take_at, drop_at, append-nil}
@@ -45,7 +45,7 @@ pub record Progress (f : Format) (width height x y w h : ℕ) (old new : Picture
   pub left : AreSubrectangles f w h others rest
   pub shows : Agree width height new (painted_over x y w h (content_of content.background done) old)
 
--- the bytes behind the head
+-- the bytes after the head
 pub record Begun (f : Format) (w h : ℕ) (bytes : List ℕ) (content : Content) : Type 0 where
   pub enough : head_bytes f ≤ length bytes
   pub background : pixel_color f (drop 4 (take (head_bytes f) bytes)) ≡ content.background
@@ -56,12 +56,12 @@ begun f w h bytes content is =
     let count = length content.subrectangles in
     let size : length is.head ≡ head_bytes f = head_length f is.head count is.pixel is.head_is in
     let front : take (head_bytes f) bytes ≡ is.head = rw is.bytes_are (take_at is.head is.body (head_bytes f) size) in
-    let behind : drop (head_bytes f) bytes ≡ is.body = rw is.bytes_are (drop_at is.head is.body (head_bytes f) size) in
+    let following : drop (head_bytes f) bytes ≡ is.body = rw is.bytes_are (drop_at is.head is.body (head_bytes f) size) in
     let total : length bytes ≡ length is.head + length is.body = ap length is.bytes_are ∙ length-append is.head is.body in
     record {
       enough = omega (arith, total, size);
       background = ap (λ z. pixel_color f (drop 4 z)) front ∙ ap (pixel_color f) (head_pixel f is.head count is.pixel is.head_is) ∙ sym is.background_is;
-      left = subst (λ z. AreSubrectangles f w h content.subrectangles z) (sym behind) is.body_is;
+      left = subst (λ z. AreSubrectangles f w h content.subrectangles z) (sym following) is.body_is;
     }
 
 -- the first of the subrectangles that are left
@@ -81,7 +81,7 @@ next_is f w h (s ∷ others) rest are some =
     let n = subrectangle_bytes f in
     let size : length are.0 ≡ n = bytes_length f s are.0 are.3 in
     let front : take n rest ≡ are.0 = rw are.2 (take_at are.0 are.1 n size) in
-    let behind : drop n rest ≡ are.1 = rw are.2 (drop_at are.0 are.1 n size) in
+    let following : drop n rest ≡ are.1 = rw are.2 (drop_at are.0 are.1 n size) in
     let total : length rest ≡ length are.0 + length are.1 = ap length are.2 ∙ length-append are.0 are.1 in
     record {
       part = s;
@@ -90,7 +90,7 @@ next_is f w h (s ∷ others) rest are some =
       enough = omega (arith, total, size);
       is = ap (subrectangle_of f) front ∙ bytes_subrectangle f s are.0 are.3;
       within = are.4;
-      left = subst (λ z. AreSubrectangles f w h others z) (sym behind) are.5;
+      left = subst (λ z. AreSubrectangles f w h others z) (sym following) are.5;
     }
 
 -- no bytes are left, and no subrectangles

@@ -6,7 +6,7 @@ use Rattle.terms.specs.Reading.{Got, Bad, ◌>>=◌, field, guard}
 use Rattle.terms.proofs.Readings.{field_got, field_front}
 use Rattle.terms.proofs.Refusals.{bind_bad, field_never_bad, got_never_bad, guard_got_bad}
 use Rattle.terms.proofs.Measured.{measured_bad}
-use Rattle.terms.proofs.Listed.{StopsIn, stops_here, stops_behind}
+use Rattle.terms.proofs.Listed.{StopsIn, stops_here, stops_after}
 use Rattle.terms.specs.Number.{u32_at}
 use Rattle.rre.specs.declared.data.Subrectangle.{Subrectangle}
 use Rattle.rre.specs.declared.fault.Measure.TheVariants as answers
@@ -52,7 +52,7 @@ subrectangles_bad f w h (suc count) bytes e =
       | inr b ↦
           let r = subrectangle_read f w h bytes b.value b.rest b.first in
           elim (bind_bad (subrectangles_at f w h count b.rest) (λ others end. Got (b.value ∷ others) end) Outside b.then) [
-            | inl bad ↦ stops_behind (AreSubrectangles f w h) (Leaves f w h) b.value count bytes r.first b.rest r.bytes_are
+            | inl bad ↦ stops_after (AreSubrectangles f w h) (Leaves f w h) b.value count bytes r.first b.rest r.bytes_are
                 (subrectangles_bad f w h count b.rest bad) (λ others body are. (r.first, body, refl, r.is, r.within, are))
             | inr d ↦ absurd (got_never_bad _ _ _ d.then)
           ]

@@ -74,27 +74,27 @@ parts_inside f w h count left front part same some whole inside more =
     ∙ ap (λ n. judged (subrectangles_at f w h n (part ++ more))) is
     ∙ part_inside f w h (left - 1) part more whole inside
 
-pub parts_outside : (f : Format) (w h count left : ℕ) (front part behind bytes : List ℕ)
+pub parts_outside : (f : Format) (w h count left : ℕ) (front part following bytes : List ℕ)
     → ((more : List ℕ) → judged (subrectangles_at f w h count (front ++ more)) ≡ judged (subrectangles_at f w h left more))
-    → bytes ≡ front ++ (part ++ behind)
+    → bytes ≡ front ++ (part ++ following)
     → 0 < left → length part ≡ subrectangle_bytes f → is_inside w h (subrectangle_of f part) ≡ false
     → (more : List ℕ) → judged (subrectangles_at f w h count (bytes ++ more)) ≡ Bad Outside
 unfolding resume
-parts_outside f w h count left front part behind bytes same is some whole outside more =
+parts_outside f w h count left front part following bytes same is some whole outside more =
     let next : left ≡ suc (left - 1) = omega arith in
     ap (λ z. judged (subrectangles_at f w h count (z ++ more))) is
-    ∙ ap (λ z. judged (subrectangles_at f w h count z)) (append_assoc front (part ++ behind) more)
-    ∙ same ((part ++ behind) ++ more)
-    ∙ ap (λ z. judged (subrectangles_at f w h left z)) (append_assoc part behind more)
-    ∙ ap (λ n. judged (subrectangles_at f w h n (part ++ (behind ++ more)))) next
-    ∙ part_outside f w h (left - 1) part (behind ++ more) whole outside
+    ∙ ap (λ z. judged (subrectangles_at f w h count z)) (append_assoc front (part ++ following) more)
+    ∙ same ((part ++ following) ++ more)
+    ∙ ap (λ z. judged (subrectangles_at f w h left z)) (append_assoc part following more)
+    ∙ ap (λ n. judged (subrectangles_at f w h n (part ++ (following ++ more)))) next
+    ∙ part_outside f w h (left - 1) part (following ++ more) whole outside
 
 -- bytes that are split in two
-pub parts_of : (n : ℕ) (bytes front behind : List ℕ) → front ≡ take n bytes → behind ≡ drop n bytes → bytes ≡ front ++ behind
-parts_of n bytes front behind e d = rw (e, d) (sym (take-append-drop n bytes))
+pub parts_of : (n : ℕ) (bytes front following : List ℕ) → front ≡ take n bytes → following ≡ drop n bytes → bytes ≡ front ++ following
+parts_of n bytes front following e d = rw (e, d) (sym (take-append-drop n bytes))
 
-pub taken_behind : (bytes front behind : List ℕ) (size taken : ℕ) → bytes ≡ front ++ behind → length front ≡ size → take (size + taken) bytes ≡ front ++ take taken behind
-taken_behind bytes front behind size taken is whole = rw (is, ← whole) (take-append-add front behind taken)
+pub taken_after : (bytes front following : List ℕ) (size taken : ℕ) → bytes ≡ front ++ following → length front ≡ size → take (size + taken) bytes ≡ front ++ take taken following
+taken_after bytes front following size taken is whole = rw (is, ← whole) (take-append-add front following taken)
 
 -- ---- all the fields of bytes
 

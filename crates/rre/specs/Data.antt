@@ -25,7 +25,7 @@ pub record AreBytesOf (f : Format) (s : Subrectangle) (bytes : List ℕ) : Type 
   pub w_is : s.w ≡ u16_at area 4
   pub h_is : s.h ≡ u16_at area 6
 
--- subrectangles one behind the other, all within the rectangle
+-- subrectangles one after the other, all within the rectangle
 abbrev pub AreSubrectangles : Format → ℕ → ℕ → List Subrectangle → List ℕ → Type 0
 AreSubrectangles f w h [] bytes = bytes ≡ []
 AreSubrectangles f w h (s ∷ others) bytes =
@@ -52,7 +52,7 @@ pub record IsData (f : Format) (w h : ℕ) (bytes : List ℕ) (content : Content
 abbrev pub AreData : Format → ℕ → ℕ → List ℕ → Type 0
 AreData f w h bytes = (content : Content) × IsData f w h bytes content
 
--- The bytes begin with a subrectangle that leaves the rectangle, behind the head and the
+-- The bytes begin with a subrectangle that leaves the rectangle, after the head and the
 -- subrectangles before it.
 pub record IsRefused (f : Format) (w h : ℕ) (bytes : List ℕ) : Type 0 where
   pub head : List ℕ

@@ -27,7 +27,7 @@ abbrev pub data_bytes : Format → Content → List ℕ
 data_bytes f content = bytes_high_first 4 (length content.subrectangles)
     ++ (pixel_of f content.background ++ flat_map (part_bytes f) content.subrectangles)
 
--- bytes are data of a rectangle whose picture is the colours, at every place
+-- bytes are data of a rectangle whose picture is the colours, at every pixel
 pub record Shows (f : Format) (w h : ℕ) (colors : List Color) (bytes : List ℕ) : Type 0 where
   pub content : Content
   pub is : IsData f w h bytes content
@@ -38,11 +38,11 @@ pub record Shows (f : Format) (w h : ℕ) (colors : List Color) (bytes : List �
 abbrev pub data_size : Format → ℕ → ℕ
 data_size f n = 4 + pixel_bytes f + n * (pixel_bytes f + 8)
 
--- the colour of more than half of the places, if one colour has so many
+-- the colour of more than half of the pixels, if one colour has so many
 abbrev pub IsMajority : List Color → Color → Type 0
 IsMajority colors background = (color : Color) → length colors < 2 * count_of color colors → color ≡ background
 
--- Data over such a background, with one subrectangle for each place of another colour, have so many
+-- Data over such a background, with one subrectangle for each pixel of another colour, have so many
 -- bytes, or more.
 pub record IsLong (f : Format) (colors : List Color) (limit : ℕ) : Type 0 where
   pub background : Color
@@ -51,7 +51,7 @@ pub record IsLong (f : Format) (colors : List Color) (limit : ℕ) : Type 0 wher
 
 -- ---- how the encoder goes on
 
--- a subrectangle all of whose places have its colour
+-- a subrectangle all of whose pixels have its colour
 pub record IsUniform (colors : List Color) (w h : ℕ) (s : Subrectangle) : Type 0 where
   pub within : LiesWithin w h s
   pub across : 0 < s.w
@@ -62,15 +62,15 @@ abbrev pub AreUniform : List Color → ℕ → ℕ → List Subrectangle → Typ
 AreUniform colors w h [] = Unit {0}
 AreUniform colors w h (s ∷ ss) = IsUniform colors w h s × AreUniform colors w h ss
 
--- the place stands before another one, by rows
+-- the pixel comes before another one, by rows
 abbrev pub StandsBefore : ℕ → ℕ → ℕ → ℕ → Type 0
 StandsBefore c r column row = (r < row) ⊎ ((r ≡ row) × (c < column))
 
 abbrev pub part_picture : Color → List Subrectangle → Picture
 part_picture background parts = picture_of (record { background = background; subrectangles = parts })
 
--- The places before (column, row) have their colours; in each column also those from there to its
--- reach; and no place has a wrong colour but the background's.
+-- The pixels before (column, row) have their colours; in each column also those from there to its
+-- reach; and no pixel has a wrong colour but the background's.
 pub record Reaches (colors : List Color) (w h : ℕ) (background : Color) (parts : List Subrectangle) (reach : List ℕ) (column row : ℕ) : Type 0 where
   pub uniform : AreUniform colors w h parts
   pub few : length parts ≤ row * w + column
@@ -89,7 +89,7 @@ pub record IsAreaOf (s : Subrectangle) (bytes : List ℕ) : Type 0 where
   pub w_is : s.w ≡ u16_at bytes 4
   pub h_is : s.h ≡ u16_at bytes 6
 
--- subrectangles one behind the other
+-- subrectangles one after the other
 abbrev pub AreBytesOfAll : Format → List Subrectangle → List ℕ → Type 0
 AreBytesOfAll f = AreEach (AreBytesOf f)
 
@@ -103,7 +103,7 @@ pub record IsWritten (f : Format) (background : Color) (parts : List Subrectangl
   pub background_is : background ≡ pixel_color f pixel
   pub body_is : AreBytesOfAll f parts body
 
--- data over such a background of no more subrectangles than there are places of another colour
+-- data over such a background of no more subrectangles than there are pixels of another colour
 pub record HasFew (f : Format) (colors : List Color) (old new : ℕ) : Type 0 where
   pub background : Color
   pub majority : IsMajority colors background
@@ -111,7 +111,7 @@ pub record HasFew (f : Format) (colors : List Color) (old new : ℕ) : Type 0 wh
   pub few : count ≤ others_than background colors
   pub length_is : new ≡ old + data_size f count
 
--- more places than so many have another colour than such a background
+-- more pixels than so many have another colour than such a background
 pub record HasMany (colors : List Color) (most : ℕ) : Type 0 where
   pub background : Color
   pub majority : IsMajority colors background

@@ -40,7 +40,7 @@ unfoldable pub subrectangle_at : Format → ℕ → ℕ → List ℕ → Reading
 subrectangle_at f w h bytes = field (subrectangle_bytes f) bytes >>= λ whole rest.
     guard (is_inside w h (subrectangle_of f whole)) Outside (Got (subrectangle_of f whole) rest)
 
--- so many subrectangles, one behind the other
+-- so many subrectangles, one after the other
 unfoldable pub subrectangles_at : Format → ℕ → ℕ → ℕ → List ℕ → Reading (List Subrectangle) Fault
 subrectangles_at f w h zero bytes = Got [] bytes
 subrectangles_at f w h (suc count) bytes = subrectangle_at f w h bytes >>= λ first rest.

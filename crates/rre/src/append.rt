@@ -26,7 +26,7 @@ fn area_of(part: Subrectangle) -> [u8; 8]
     [x, x_low, y, y_low, w, w_low, h, h_low]
 }
 
-// Appends a subrectangle: its pixel, and its place and size.
+// Appends a subrectangle: its pixel, its corner and its size.
 fn append_part(
     format: &PixelFormat,
     part: Subrectangle,

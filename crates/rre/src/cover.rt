@@ -38,7 +38,7 @@ fn count_more(counts: &mut Counts, number: u32, more: usize) -> Result<usize, No
     Ok(*count)
 }
 
-// The end of the run of one number that begins at a place.
+// The end of the run of one number that begins at an index.
 fn end_of_run(numbers: &[u32], start: usize) -> usize
     requires { start < length numbers.now }
     ensures some { start < result }
@@ -48,17 +48,17 @@ fn end_of_run(numbers: &[u32], start: usize) -> usize
     end_of_number(numbers, start + 1, numbers[start])
 }
 
-// The index of a number that stands at the most places: none stands at more. `None` where the
+// The index of a number that the most pixels have: no other number has more of them. `None` if the
 // numbers are too many to be counted. Each run of one number is one look into a map of the numbers
 // so far.
 fn most_counted(alloc: Global, numbers: &[u32]) -> Result<Option<usize>, NoMemory>
     requires { 0 < length numbers.now }
-    ensures within { IfOk result (λ found. IfSome found (λ place. place < length numbers.now)) }
-    ensures frequent { IfOk result (λ found. IfSome found (λ place. (number : ℕ)
-        → times_in number numbers.now ≤ times_in (slice_index numbers.now place) numbers.now)) }
+    ensures within { IfOk result (λ found. IfSome found (λ index. index < length numbers.now)) }
+    ensures frequent { IfOk result (λ found. IfSome found (λ index. (number : ℕ)
+        → times_in number numbers.now ≤ times_in (slice_index numbers.now index) numbers.now)) }
 {
     let mut counts = BTreeMap::new(alloc);
-    let mut place = 0;
+    let mut index = 0;
     let mut most = 0;
     let mut start = 0;
     while start < numbers.len() {
@@ -68,29 +68,29 @@ fn most_counted(alloc: Global, numbers: &[u32]) -> Result<Option<usize>, NoMemor
         let end = end_of_run(numbers, start);
         let count = count_more(&mut counts, numbers[start], end - start)?;
         if most < count {
-            place = start;
+            index = start;
             most = count;
         }
         start = end;
     }
-    Ok(Some(place))
+    Ok(Some(index))
 }
 
-/// The index of a number that stands at the most places where the numbers are few, and else of the
-/// one that stands at more than half of them, if one does.
+/// The index of a number that the most pixels have if the numbers are few, and else of the one that
+/// more than half of them have, if there is one.
 pub(crate) fn background(alloc: Global, numbers: &[u32]) -> Result<usize, NoMemory>
     requires { 0 < length numbers.now }
-    ensures within { IfOk result (λ place. place < length numbers.now) }
+    ensures within { IfOk result (λ index. index < length numbers.now) }
     ensures majority { IfOk result (HasMajority numbers.now) }
 {
     let counted = most_counted(alloc, numbers)?;
-    if let Some(place) = counted {
-        return Ok(place);
+    if let Some(index) = counted {
+        return Ok(index);
     }
     Ok(most_voted(numbers, end_of_run(numbers, 0)))
 }
 
-// Whether so many places of a row, from a column on, have the number.
+// Whether so many pixels of a row, from a column on, have the number.
 fn has_number(numbers: &[u32], start: usize, width: u16, number: u32) -> bool
     requires { start + width ≤ length numbers.now }
     ensures { IsTrue result → (k : ℕ) → k < width → slice_index numbers.now (start + k) ≡ number }
@@ -103,7 +103,7 @@ fn has_number(numbers: &[u32], start: usize, width: u16, number: u32) -> bool
     true
 }
 
-// The end of the run of places of one number that begins at a column, up to a place that is
+// The end of the run of pixels of one number that begins at a column, up to a pixel that is
 // covered.
 fn run_end(numbers: &[u32], start: usize, column: u16, row: u16, reach: &[u16]) -> u16
     requires some { column < length reach.now }
@@ -124,7 +124,7 @@ fn run_end(numbers: &[u32], start: usize, column: u16, row: u16, reach: &[u16]) 
     end
 }
 
-// The subrectangle of one colour that begins at a place: as wide as its row lets it be, and then as
+// The subrectangle of one colour that begins at a pixel: as wide as its row lets it be, and then as
 // high as it can be.
 fn grow(
     format: &PixelFormat,
@@ -171,7 +171,7 @@ fn raise(reach: &mut [u16], column: u16, width: u16, end: u16)
     }
 }
 
-// Covers the places of a row that have another number than the background. Answers whether so many
+// Covers the pixels of a row that have another number than the background. Answers whether so many
 // parts in all are enough.
 fn cover_row(
     format: &PixelFormat,
@@ -213,8 +213,8 @@ fn cover_row(
     Ok(true)
 }
 
-/// At most so many subrectangles of one colour each that, over the background, give every place its
-/// colour; `None` where they would be more. Each place is looked at a bounded number of times.
+/// At most so many subrectangles of one colour each that, over the background, give every pixel its
+/// colour; `None` if they would be more. Each pixel is looked at a bounded number of times.
 pub(crate) fn cover(
     alloc: Global,
     format: &PixelFormat,

@@ -14,7 +14,7 @@ use terms::{NoMemory, whole_or_none};
 
 const BLACK: Color = Color { r: 0, g: 0, b: 0 };
 
-// The number of the background: black's where there are no places.
+// The number of the background: black's if there are no pixels.
 fn background_number(alloc: Global, format: &PixelFormat, numbers: &[u32]) -> Result<u32, NoMemory>
     requires { All (IsNumber format.now) numbers.now }
     ensures number { IfOk result (IsNumber format.now) }
@@ -23,11 +23,11 @@ fn background_number(alloc: Global, format: &PixelFormat, numbers: &[u32]) -> Re
     if numbers.is_empty() {
         return Ok(format.number_of(BLACK));
     }
-    let place = background(alloc, numbers)?;
-    Ok(numbers[place])
+    let index = background(alloc, numbers)?;
+    Ok(numbers[index])
 }
 
-// Appends data of at most so many subrectangles, and answers whether they are enough. Where they
+// Appends data of at most so many subrectangles, and answers whether they are enough. If they
 // aren't, and when memory runs out, `bytes` stays as it was.
 fn append_few(
     alloc: Global,
@@ -62,10 +62,10 @@ fn append_few(
 /// Appends data of a rectangle of w by h that has these colours, by rows from the top and each from
 /// the left, in a format to whose maxima they keep (RFC 6143, section 7.7.3). Bits of a pixel that
 /// belong to no channel are 0. Which background and which subrectangles it lists isn't promised:
-/// today the background is a colour that stands at the most places where the colours are few, else
-/// one that stands at more than half of them, if there is one; and the subrectangles are as wide,
-/// and then as high, as one colour reaches. It looks at each place a bounded number of times.
-/// Running out of memory leaves `bytes` as it was.
+/// today the background is a colour that the most pixels have if the colours are few, else one that
+/// more than half of them have, if there is one; and the subrectangles are as wide, and then as
+/// high, as one colour reaches. It looks at each pixel a bounded number of times. Running out of
+/// memory leaves `bytes` as it was.
 pub fn encode(
     alloc: Global,
     format: &PixelFormat,
@@ -93,9 +93,9 @@ pub fn encode(
 
 /// Appends data of a rectangle that has these pixels, as [`encode`] does of their colours, if they
 /// have fewer bytes than the limit, and answers whether they have. It stops listing subrectangles
-/// once they have as many. It answers `false` only where data that list each place of another
-/// colour than the background's by itself have as many bytes as the limit; then, and when memory
-/// runs out, `bytes` stays as it was.
+/// once they have as many. It answers `false` only if data that list each pixel of another colour
+/// than the background's by itself have as many bytes as the limit; then, and when memory runs out,
+/// `bytes` stays as it was.
 pub fn encode_numbers_below(
     alloc: Global,
     format: &PixelFormat,

@@ -63,12 +63,12 @@ fn judge_parts(
     let mut left = count;
     let mut rest = bytes;
     while left > 0 && rest.len() >= size {
-        let (part, behind) = rest.split_at(size);
+        let (part, following) = rest.split_at(size);
         if !is_part_inside(format, part, w, h) {
             return Err(Measure::Bad);
         }
         left -= 1;
-        rest = behind;
+        rest = following;
     }
     Ok((bytes.len() - rest.len(), next_of(left)))
 }
@@ -86,9 +86,9 @@ impl Measuring {
         }
     }
 
-    /// Judges the whole fields that the bytes begin with, in a rectangle of w by h. Answers how many
-    /// bytes they have, and the field behind them, which isn't whole in the bytes, `None` where the
-    /// data end; and `Measure::Bad` where one of them is a subrectangle that leaves the rectangle.
+    /// Judges the whole fields that the bytes begin with, in a rectangle of w by h. Answers how
+    /// many bytes they have, and the field after them, which isn't whole in the bytes, `None` if
+    /// the data end; and `Measure::Bad` if one of them is a subrectangle that leaves the rectangle.
     pub fn run(
         self,
         format: &PixelFormat,

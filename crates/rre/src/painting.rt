@@ -10,9 +10,9 @@ ghost use Rattle.rre.specs.Picture.{painted_over};
 use crate::data::read_subrectangle;
 use pixel_format::{Canvas, PixelFormat};
 
-/// Paints a rectangle of w by h whose upper left corner is the place (x, y) of the canvas, from its
+/// Paints a rectangle of w by h whose upper left corner is the pixel (x, y) of the canvas, from its
 /// data: the bytes that [`measure`](crate::measure) takes whole (RFC 6143, section 7.7.3). The
-/// other places stay as they were. The canvas can have the colours of the format's pixels. It takes
+/// other pixels stay as they were. The canvas can have the colours of the format's pixels. It takes
 /// no memory.
 pub fn paint<C: Canvas>(
     format: &PixelFormat,
@@ -37,9 +37,9 @@ pub fn paint<C: Canvas>(
     let (head, mut rest) = bytes.split_at(4 + format.bytes());
     canvas.fill(x, y, w, h, format.pixel(&head[4..]));
     while !rest.is_empty() {
-        let (field, behind) = rest.split_at(format.bytes() + 8);
+        let (field, following) = rest.split_at(format.bytes() + 8);
         let part = read_subrectangle(format, field);
         canvas.fill(x + part.x, y + part.y, part.w, part.h, part.color);
-        rest = behind;
+        rest = following;
     }
 }

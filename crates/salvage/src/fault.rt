@@ -22,7 +22,7 @@ pub enum SalvageFault {
     /// Out of memory.
     #[error("out of memory")]
     NoMemory,
-    /// The blocks that are right end beyond 2^40 bytes, where no recording does.
+    /// The blocks that are right end beyond 2^40 bytes, as no recording does.
     #[error("the recording would be too long")]
     Full,
 }

@@ -1,4 +1,4 @@
-//! Where viewers come in: one thread accepts, and each connection has a thread of its own.
+//! How viewers come in: one thread accepts, and each connection has a thread of its own.
 
 use crate::accepting::accept_until_rung;
 use crate::greeter::Comer;
@@ -19,7 +19,7 @@ use telling::Event;
 use watching::{Live, Played, Watching};
 
 impl<'a, D: Disk, M: Mark, R: Clock + Wait> Service<'a, D, M, R> {
-    // Shows a viewer the recording, from a seat. One that begins behind a message takes its seat at
+    // Shows a viewer the recording, from a seat. One that begins after a message takes its seat at
     // the last key screen before, so that no more than a block is read under the lock at a time;
     // what lies between is painted for it before it is answered.
     fn watch<C: Connection>(&self, viewer: &Viewer<M, C>) -> Result<(), ViewerEnd> {

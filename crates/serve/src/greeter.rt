@@ -15,14 +15,15 @@ use std::time::Clock;
 use telling::{Event, Telling};
 use terms::ScreenSize;
 
-/// One who came while the recording was read, and from where. The handshake is whole, or goes on.
+/// One who came while the recording was read, and the address that it came from. The handshake is
+/// whole, or goes on.
 #[derive(Drop)]
 pub struct Comer {
     pub guest: Guest<TcpStream>,
     pub from: SocketAddr,
 }
 
-/// Where those come who are greeted while the recording is read.
+/// The door for those who are greeted while the recording is read.
 #[derive(Drop)]
 pub struct Door<'a, R> {
     pub rt: &'a R,

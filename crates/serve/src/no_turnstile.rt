@@ -1,4 +1,4 @@
-//! What the program has in the place of a turnstile, which only tests look into.
+//! What the program has instead of a turnstile, which only tests look into.
 
 use shared_book::{Point, Turnstile};
 

@@ -7,7 +7,7 @@ use std::sync::Wait;
 use std::time::Clock;
 use telling::Telling;
 
-/// Says why the recorder is refused, behind what was told before, for which it waits a second at
+/// Says why the recorder is refused, after what was told before, for which it waits a second at
 /// most.
 pub fn refuse<R: Clock + Wait, E: Write>(
     rt: &R,

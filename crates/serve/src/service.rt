@@ -24,7 +24,7 @@ pub struct Service<'a, D: Disk, M: Mark, R> {
     pub rt: &'a R,
     pub shared: &'a Shared<D, M>,
     pub room: &'a Room<M>,
-    /// Where viewers come.
+    /// The listener for viewers.
     pub listener: &'a TcpListener,
     /// The host's stream, if there is a host, to be shut.
     pub stream: &'a Option<TcpStream>,
@@ -48,7 +48,7 @@ pub struct Outcome {
 }
 
 impl Outcome {
-    /// How many messages are committed, where all is done; else how it ended.
+    /// How many messages are committed, if all is done; else how it ended.
     pub fn result(self, committed: u64) -> Result<u64, Stopped> {
         match (self.told, self.refusal) {
             (Err(error), _) => Err(Stopped::Failed(error)),
@@ -100,7 +100,7 @@ impl<'a, D: Disk, M: Mark, R: Clock + Wait> Service<'a, D, M, R> {
         end
     }
 
-    // Tells where the device doesn't answer, and where it goes on, until the bell rings.
+    // Tells when the device doesn't answer, and when it goes on, until the bell rings.
     fn watch_device(&self) {
         let room = self.room;
         let mut silence = Silence::new();
@@ -140,7 +140,7 @@ impl<'a, D: Disk, M: Mark, R: Clock + Wait> Service<'a, D, M, R> {
         }
     }
 
-    // Ends what was started, where a thread couldn't be made. What was accepted is committed, so that
+    // Ends what was started, if a thread couldn't be made. What was accepted is committed, so that
     // a host's worker that waits for room has some, and ends.
     fn give_up(&self) {
         self.room.stop(self.rt);
@@ -170,8 +170,8 @@ impl<'a, D: Disk, M: Mark, R: Threads + Clock + Wait> Service<'a, D, M, R> {
         }
     }
 
-    // Records until the host has ended, says at once where that is refused, and waits until nobody
-    // is left to be served.
+    // Records until the host has ended, says at once if that is refused, and waits until nobody is
+    // left to be served.
     fn conduct<W: Write>(&self, crew: Crew, err: &mut W) -> Outcome {
         let Crew { host, viewers } = crew;
         let ends = self.record_all(host);
@@ -200,7 +200,7 @@ impl<'a, D: Disk + Send, M: Mark + Send + Sync, R: Threads + Clock + Wait + Sync
     M,
     R,
 > {
-    // Starts the threads beside the flusher's; none where one of them can't be made.
+    // Starts the threads beside the flusher's; `None` if one of them can't be made.
     fn start<E>(
         &'a self,
         scope: &'a Scope<'a, E>,

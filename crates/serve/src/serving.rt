@@ -111,7 +111,7 @@ struct WatchedReading<'a> {
 }
 
 impl WatchedReading<'_> {
-    // Says that it is over, and waits for the thread: where few threads can be had, others need it.
+    // Says that it is over, and waits for the thread: if few threads can be had, others need it.
     fn end<R: Threads + Wait>(self, rt: &R) {
         let WatchedReading { reading, watcher } = self;
         reading.end(rt);
@@ -121,7 +121,7 @@ impl WatchedReading<'_> {
     }
 }
 
-// Where viewers come, who watches, and who came already.
+// The listener for viewers, who watches, and who came already.
 #[derive(Drop)]
 struct Arrivals {
     listener: TcpListener,
@@ -129,7 +129,7 @@ struct Arrivals {
     comers: Vec<Comer>,
 }
 
-// Whether viewers are greeted while the recording is read. Who begins behind a count of messages is
+// Whether viewers are greeted while the recording is read. Who begins after a count of messages is
 // told in the handshake if there are fewer, and so waits until that is known.
 fn greets_early(origin: Origin) -> bool {
     !matches!(origin, Origin::Count(_))
@@ -182,7 +182,7 @@ where
     })
 }
 
-// Finds the recording, the host and where viewers come, and reads or makes the recording.
+// Finds the recording, the host and the listener for viewers, and reads or makes the recording.
 fn open<R, L>(opening: &Opening<'_, R>, listen: L) -> Result<(Box<Opened>, Box<Arrivals>), Stopped>
 where
     R: AllocGlobal + Clock + Eprint + Files<File = File> + Sync + Threads + Wait,
@@ -235,7 +235,7 @@ where
         written: &written,
         reading: watched.reading,
     };
-    // These come first, so that no file is made where they can't be had.
+    // These come first, so that no file is made if they can't be had.
     let bell = opening.given(Bell::new(rt), "make a bell for", plan.listen, Refusal::Net)?;
     let token = Token::new(rt.alloc())?;
     let opened = open(&opening, listen);
@@ -253,7 +253,7 @@ where
     Ok(say(out, format_args!("committed {committed}"))?)
 }
 
-// Whether a recorder is done that ended so; where it is refused, that is said.
+// Whether a recorder is done that ended so; if it is refused, that is said.
 fn outcome_of<R: Clock + Wait, E: Write>(
     rt: &R,
     telling: &Telling,

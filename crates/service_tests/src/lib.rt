@@ -5,7 +5,8 @@ ghost use Rattle.std.specs.Prelude.{◌≡◌};
 
 use serve::{Audience, Format, Origin, Plan, Stop, Told};
 
-/// A plan of a test: what it serves, to whom, and where they begin. It ends with its viewers.
+/// A plan of a test: what it serves, to whom, and the position at which they begin. It ends with
+/// its viewers.
 pub fn plan_of<'a>(
     file: &'a str,
     host: Option<&'a str>,

@@ -5,7 +5,7 @@ ghost use Rattle.shared_book.specs.Receipts.{IsOfSize, has_start, fresh_after, p
 
 use rfb_wire::HostMessage;
 
-/// A place in a worker's work that a test may hold it at.
+/// A point of a worker's work at which a test may hold it.
 #[derive(Clone, Copy, Debug, PartialEq, Eq)]
 pub enum Point {
     /// The message of this number was accepted.
@@ -55,29 +55,29 @@ pub trait ReceiptSink<T>: Drop {
     /// later. It is told so at each try that fails.
     fn shortage(&mut self) {}
 
-    /// Takes word that there is memory again, behind one such try or more.
+    /// Takes word that there is memory again, after one such try or more.
     fn relief(&mut self) {}
 }
 
 /// What a viewer wants next.
 #[derive(Clone, Copy, Debug, PartialEq, Eq)]
 pub enum ViewerWish {
-    /// The messages behind its position, so many at most.
+    /// The messages after its position, so many at most.
     Want(u32),
     /// To wait until there are some, host and flusher have ended, or the viewer has left.
     Wait,
-    /// To go on behind the first so many messages, with the screen there.
+    /// To go on after the first so many messages, with the screen there.
     Seek(u64),
-    /// To go on behind all that are committed, with the screen there.
+    /// To go on after all that are committed, with the screen there.
     Newest,
     /// To end.
     Stop,
 }
 
-/// What takes a viewer's receipts. Each is of the sink's size and begins where the sink stands:
-/// where its seat is, of which it is told, behind the receipt before, or where it asked to go on. It
-/// has a start in the first and the last of these cases, and in no other. An ending says that the
-/// sink has all.
+/// What takes a viewer's receipts. Each is of the sink's size and begins at the position of the
+/// sink: that of its seat, of which it is told, that after the receipt before, or that at which it
+/// asked to go on. It has a start in the first and the last of these cases, and in no other. An
+/// ending says that the sink has all.
 pub trait ViewerSink<T, E>: Drop {
     ghost use Rattle.std.specs.Prelude.{ℕ, Bool};
     ghost use Rattle.replay.specs.declared.slice.Slice.{Slice};
@@ -100,14 +100,14 @@ pub trait ViewerSink<T, E>: Drop {
         false
     }
 
-    /// Takes word of its seat, at first and at each `Newest`: it stands behind so many messages
+    /// Takes word of its seat, at first and at each `Newest`: it stands after so many messages
     /// then, without a screen.
     fn seated(&mut self, count: u64)
         ensures size { (width self.new ≡ width self.old) × (height self.new ≡ height self.old) }
         ensures moved { position self.new ≡ count }
         ensures bare { fresh self.new ≡ true };
 
-    /// What it wants. At `Seek` it stands behind so many messages from then on, without a screen.
+    /// What it wants. At `Seek` it stands after so many messages from then on, without a screen.
     fn wish(&mut self) -> ViewerWish
         ensures size { (width self.new ≡ width self.old) × (height self.new ≡ height self.old) }
         ensures moved { position self.new ≡ position_after result (position self.old) }
@@ -116,14 +116,14 @@ pub trait ViewerSink<T, E>: Drop {
     /// Takes a receipt, and stands at its end then, with a screen.
     fn slice(&mut self, receipt: T)
         requires sized { IsOfSize (width self.old) (height self.old) (slice_of receipt) }
-        requires place { (slice_of receipt).first ≡ position self.old }
+        requires stands { (slice_of receipt).first ≡ position self.old }
         requires start { has_start (slice_of receipt) ≡ fresh self.old }
         requires room { (slice_of receipt).first + length (slice_of receipt).messages.items < 2 ^ 64 }
         ensures size { (width self.new ≡ width self.old) × (height self.new ≡ height self.old) }
         ensures moved { position self.new ≡ (slice_of receipt).first + length (slice_of receipt).messages.items }
         ensures shown { fresh self.new ≡ false };
 
-    /// Takes word that it was handed all: host and flusher have ended, and it stands behind the last
+    /// Takes word that it was handed all: host and flusher have ended, and it stands after the last
     /// committed message, with a screen. It is told so at each `Wait` there, which doesn't sleep: a
     /// sink that stays waits for its viewer by itself.
     fn end(&mut self, ending: E)
@@ -139,8 +139,8 @@ pub trait ViewerSink<T, E>: Drop {
         ensures stays { (position self.new ≡ position self.old) × (fresh self.new ≡ fresh self.old) }
     {}
 
-    /// Takes word that the device failed, so that nothing is handed to it: whether it is asked again.
-    /// Its worker ends where it isn't.
+    /// Takes word that the device failed, so that nothing is handed to it: whether it is asked
+    /// again. Its worker ends if it isn't.
     fn device_failed(&mut self) -> bool
         ensures size { (width self.new ≡ width self.old) × (height self.new ≡ height self.old) }
         ensures stays { (position self.new ≡ position self.old) × (fresh self.new ≡ fresh self.old) }

@@ -59,7 +59,7 @@ impl<M: Mark> Model for Part<M> {
 impl<M: Mark> Part<M> {
     ghost use Rattle.keyed_entries.specs.Entry.{body_size};
 
-    /// How many: of one block, more than one take 16 MiB of it at most; none where none is committed
+    /// How many: of one block, more than one take 16 MiB of it at most; none if none is committed
     /// there.
     pub fn count(&self) -> u32
         ensures count { result ≡ self.now.count }
@@ -71,7 +71,7 @@ impl<M: Mark> Part<M> {
     }
 
     /// Does nothing: its contract is that the messages of a receipt from there on, no more than so
-    /// many, take 16 MiB at most, where they are more than one.
+    /// many, take 16 MiB at most, if they are more than one.
     pub fn bounds(&self, receipt: &Receipt<M>)
         ensures { M.is_modelled → receipt.now.first ≡ self.now.first → length receipt.now.messages.items ≤ self.now.count → 1 < length receipt.now.messages.items → body_size receipt.now.messages.items ≤ 2 ^ 24 }
     {

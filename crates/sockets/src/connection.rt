@@ -21,8 +21,8 @@ pub trait Connection: Drop {
     fn read(&self, buffer: &mut [u8]) -> io::Result<usize>
         ensures { IfOk result (λ count. count ≤ length buffer.old) };
 
-    /// Writes all these bytes within so many seconds as a whole; `TimedOut` or `WouldBlock` where
-    /// the viewer doesn't take them.
+    /// Writes all these bytes within so many seconds as a whole; `TimedOut` or `WouldBlock` if the
+    /// viewer doesn't take them.
     fn write_within<R: Clock>(&self, rt: &R, bytes: &[u8], seconds: u64) -> io::Result<()>;
 
     /// Waits for so long at most until something came, or the bell rings.

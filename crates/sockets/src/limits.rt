@@ -34,8 +34,8 @@ fn value(number: u32) -> [u8; 16] {
     ]
 }
 
-/// Has small writes go out at once, and a peer that vanished noticed: within two minutes, also where
-/// nothing is written to it. Where the system refuses one of these options, the rest stands.
+/// Has small writes go out at once, and a peer that vanished noticed: within two minutes, also if
+/// nothing is written to it. If the system refuses one of these options, the rest stands.
 pub fn watch_over(stream: &TcpStream) -> io::Result<()> {
     stream.set_nodelay(true)?;
     let socket = stream.as_raw_fd();
@@ -57,7 +57,7 @@ pub fn pause() -> Duration {
     Duration::from_millis(SHORTAGE)
 }
 
-/// What is left of so many seconds that began at this moment; `TimedOut` where nothing is.
+/// What is left of so many seconds that began at this moment; `TimedOut` if nothing is.
 pub fn time_left<R: Clock>(rt: &R, started: Instant, seconds: u64) -> io::Result<Duration> {
     match Duration::from_secs(seconds).checked_sub(started.elapsed(rt)?) {
         Some(left) if !left.is_zero() => Ok(left),
@@ -65,8 +65,8 @@ pub fn time_left<R: Clock>(rt: &R, started: Instant, seconds: u64) -> io::Result
     }
 }
 
-/// Writes all these bytes within so many seconds as a whole, however many pieces the peer takes them
-/// in; `TimedOut` or `WouldBlock` where it doesn't.
+/// Writes all these bytes within so many seconds as a whole, however many pieces the peer takes
+/// them in; `TimedOut` or `WouldBlock` if it doesn't.
 pub fn write_within<R: Clock>(
     rt: &R,
     stream: &TcpStream,

@@ -6,18 +6,18 @@ use std::io;
 use std::net::{SocketAddr, TcpListener, TcpStream};
 use std::os::fd::AsRawFd;
 
-/// What the system answers where it is short of descriptors or memory: ENOMEM, ENFILE, EMFILE and
+/// What the system answers when it is short of descriptors or memory: ENOMEM, ENFILE, EMFILE and
 /// ENOBUFS of Linux.
 const SHORTAGES: [i32; 4] = [12, 23, 24, 105];
 
-/// What it answers where the listener itself is of no more use: EBADF, EINVAL, ENOTSOCK and
+/// What it answers when the listener itself is of no more use: EBADF, EINVAL, ENOTSOCK and
 /// EOPNOTSUPP. Each other failure is of one connection.
 const FINAL: [i32; 4] = [9, 22, 88, 95];
 
 /// What came of a wait for a connection.
 #[derive(Debug, Drop)]
 pub enum Accepted {
-    /// A connection, and where it is from.
+    /// A connection, and the address that it is from.
     Connection(TcpStream, SocketAddr),
     /// The bell rang.
     Rung,

@@ -6,9 +6,9 @@ infixl 10 ◌>>=◌
 abbrev pub ◌>>=◌ : {A B : Type 0} → Option A → (A → Option B) → Option B
 o >>= f = option_and_then f o
 
--- what stands before the first such byte, and behind it
+-- what stands before the first such byte, and after it
 abbrev pub parted : ℕ → List ℕ → Option (List ℕ × List ℕ)
-parted mark word = option_map (λ place. (take place word, drop (place + 1) word)) (position (λ byte. byte == mark) word)
+parted mark word = option_map (λ at. (take at word, drop (at + 1) word)) (position (λ byte. byte == mark) word)
 
 -- a number in digits
 abbrev pub number : List ℕ → Option ℕ
@@ -18,7 +18,7 @@ number word = number_of (2 ^ 32) word
 abbrev pub sixtieths : List ℕ → Option ℕ
 sixtieths word = if length word == 2 then number_of 60 word else None
 
--- the digits behind a point, in thousandths: one to three
+-- the digits after a point, in thousandths: one to three
 abbrev pub thousandths : List ℕ → Option ℕ
 thousandths word =
     if length word == 1 then option_map (λ tenths. tenths * 100) (number word)
@@ -48,7 +48,8 @@ after_colon front rest (Some parts) = do
   milliseconds ← seconds_by sixtieths parts.1
   Some (hours * 3600000 + minutes * 60000 + milliseconds)
 
--- M:SS or H:MM:SS, with thousandths behind a point or without; front stands before the first colon, rest behind it
+-- M:SS or H:MM:SS, with thousandths after a point or without; front stands before the first colon,
+-- rest after it
 abbrev pub clock : List ℕ → List ℕ → Option ℕ
 clock front rest = after_colon front rest (parted 58 rest)
 
@@ -68,6 +69,6 @@ abbrev pub below : ℕ → Option ℕ → Option ℕ
 below limit None = None
 below limit (Some n) = if nat_lt n limit then Some n else None
 
--- the moment that a word names: what it means, where a recording has such a time
+-- the moment that a word names: what it means, if a recording has such a time
 abbrev pub moment_of : List ℕ → Option ℕ
 moment_of word = below (2 ^ 32) (milliseconds word)

@@ -5,22 +5,22 @@ ghost use Rattle.spelling.specs.Moments.{clock, milliseconds, moment_of, number,
 
 use terms::decimal_number;
 
-// Where the first such byte of a word stands.
+// The index of the first such byte of a word.
 fn first(word: &[u8], mark: u8) -> Option<usize>
     ensures { result ≡ position (λ byte. byte == mark) word.now }
 {
     word.iter().position(|byte| *byte == mark)
 }
 
-// What stands before the first such byte of a word, and behind it.
+// What stands before the first such byte of a word, and after it.
 fn parts(word: &[u8], mark: u8) -> Option<(&[u8], &[u8])>
     ensures { option_map (λ parts. (parts.0.now, parts.1.now)) result ≡ parted mark word.now }
 {
     match first(word, mark) {
         None => None,
-        Some(place) => {
-            let (front, _) = word.split_at(place);
-            let (_, rest) = word.split_at(place + 1);
+        Some(at) => {
+            let (front, _) = word.split_at(at);
+            let (_, rest) = word.split_at(at + 1);
             Some((front, rest))
         }
     }
@@ -46,7 +46,7 @@ fn sixtieth(word: &[u8]) -> Option<u64>
     decimal_number(word).filter(|number| *number < 60)
 }
 
-// The digits behind a point, in thousandths: one to three.
+// The digits after a point, in thousandths: one to three.
 fn fraction(word: &[u8]) -> Option<u64>
     ensures value { result ≡ thousandths word.now }
     ensures below { IfSome result (λ number. number < 2 ^ 32 * 100) }
@@ -82,7 +82,7 @@ fn clock_seconds(word: &[u8]) -> Option<u64>
     }
 }
 
-// A time of a clock in milliseconds: minutes or hours, and what stands behind the first colon.
+// A time of a clock in milliseconds: minutes or hours, and what stands after the first colon.
 fn clock_time(front: &[u8], rest: &[u8]) -> Option<u64>
     ensures { result ≡ clock front.now rest.now }
 {
@@ -110,9 +110,9 @@ fn meaning(word: &[u8]) -> Option<u64>
     }
 }
 
-/// The moment that a word names, in milliseconds of a recording: `61210` is in milliseconds, `61.2s`
-/// in seconds, `1:01.2` in minutes and seconds, and `1:02:03` in hours, minutes and seconds. A point
-/// has one to three digits behind it. Behind a colon stand two digits, below 60. None where a word is
+/// The moment that a word names, in milliseconds of a recording: `61210` is in milliseconds,
+/// `61.2s` in seconds, `1:01.2` in minutes and seconds, and `1:02:03` in hours, minutes and
+/// seconds. One to three digits follow a point, and two, below 60, a colon. `None` if a word is
 /// none of these, or names a time that no recording has.
 pub fn moment(word: &str) -> Option<u32>
     ensures { result ≡ moment_of word.now }

@@ -75,9 +75,9 @@ fn found(alloc: Global, disk: MemoryDisk, messages: &[Stamped]) -> Left {
     }
 }
 
-// The target behind a migration, and whether a device stopped in it; none where anything else ended
+// The target after a migration, and whether a device stopped in it; `None` if anything else ended
 // it.
-fn target_behind(
+fn target_after(
     alloc: Global,
     source: &mut Indexed<FusedDisk>,
     target: FusedDisk,
@@ -108,7 +108,7 @@ fn migrate_onto(
     messages: &[Stamped],
     fill: Fill,
 ) -> io::Result<Run> {
-    let Some((disk, is_stopped)) = target_behind(alloc, source, target) else {
+    let Some((disk, is_stopped)) = target_after(alloc, source, target) else {
         return Err(io::ErrorKind::InvalidData.into());
     };
     Ok(Run {

@@ -7,7 +7,7 @@ use libc::types::pollfd;
 use std::io;
 use std::os::fd::RawFd;
 
-/// How many bytes are written at a time: as many as a pipe takes at once where `poll` says that it
+/// How many bytes are written at a time: as many as a pipe takes at once when `poll` says that it
 /// can be written to.
 const PIECE: usize = 4096;
 
@@ -57,7 +57,7 @@ impl Output {
         poll(&mut watched, PATIENCE) > 0
     }
 
-    /// Writes the first of these bytes, as many as go at once: how many; none where the system
+    /// Writes the first of these bytes, as many as go at once: how many; `None` if the system
     /// refuses them.
     pub fn write(&self, bytes: &[u8]) -> Option<usize>
         ensures { IfSome result (λ count. count ≤ length bytes.now) }

@@ -39,8 +39,8 @@ impl Silence {
         Silence { told: None }
     }
 
-    /// Looks at the device at this time, where the call that it is to answer, if there is one, began
-    /// at that time: what is told.
+    /// Looks at the device at time `now`, given the time at which the call that it is to answer
+    /// began, if there is one: what is told.
     pub fn look(&mut self, now: u64, call: Option<u64>) -> Option<Answering>
         // A call that lasts ten seconds is told of,
         ensures silent { self.old ≡ None → (began : ℕ) → call ≡ Some began

@@ -9,7 +9,7 @@ use Rattle.terms.specs.Appending.{Appends, Grows, AreEach}
 pub grows_none : (old : List ℕ) → Grows old old
 grows_none old = record { bytes = []; is = sym (append-nil old); are = tt }
 
--- bytes, and bytes behind them
+-- bytes, and bytes after them
 pub joined : (old first second between new : List ℕ) → between ≡ old ++ first → new ≡ between ++ second → new ≡ old ++ (first ++ second)
 joined old first second between new a b = b ∙ ap (λ z. z ++ second) a ∙ append_assoc old first second
 
@@ -32,7 +32,7 @@ each_more Is all k d old between new less before last = record {
       (each_push Is (take k all) (get_or all k d) before.bytes last.bytes before.are last.are);
 }
 
--- the same where its bytes are given
+-- the same if its bytes are given
 pub mapped_more : {A : Type 0} (g : A → List ℕ) (all : List A) (k : ℕ) (d : A) (old between new : List ℕ) → k < length all
     → between ≡ old ++ flat_map g (take k all) → new ≡ between ++ g (get_or all k d) → new ≡ old ++ flat_map g (take (k + 1) all)
 mapped_more g all k d old between new lt before last =

@@ -1,11 +1,11 @@
--- The places of areas.
+-- The pixels of areas.
 use Rattle.std.proofs.Common.{◌≡◌, ℕ, ◌+◌, ◌-◌, ◌<◌, ◌≤◌, inl, inr, Bool, true, false, refl, sym, ◌∙◌, arith}
 use Rattle.std.specs.Prelude.{◌||◌, ◌&&◌, min, max, ◌⊎◌, Option, Some, None}
 use Rattle.std.proofs.lemmas.Bool.{and_parts, ltb-true, leb-true, lt-ltb, le-leb, cases_lt}
 use Rattle.terms.specs.declared.area.Area.{Area}
-use Rattle.terms.specs.Area.{is_in, HasPlaces, IsSmallest, IsSmallestOf}
+use Rattle.terms.specs.Area.{is_in, HasPixels, IsSmallest, IsSmallestOf}
 
--- the place lies in the area, as a fact
+-- the pixel lies in the area, as a fact
 pub record IsIn (area : Area) (x y : ℕ) : Type 0 where
   pub left : area.x ≤ x
   pub right : x < area.x + area.w
@@ -48,14 +48,14 @@ both_true a b p q = rw (p, q) refl
 corner : (area : Area) (x y : ℕ) → area.x ≤ x → x < area.x + area.w → area.y ≤ y → y < area.y + area.h → is_in area x y ≡ true
 corner area x y l r t b = is_in_true area x y (record { left = l; right = r; top = t; bottom = b })
 
--- a place of an area is one of an area around it
+-- a pixel of an area is one of an area around it
 wider : (inner outer : Area) (x y : ℕ) → outer.x ≤ inner.x → inner.x + inner.w ≤ outer.x + outer.w → outer.y ≤ inner.y → inner.y + inner.h ≤ outer.y + outer.h
     → is_in inner x y ≡ true → is_in outer x y ≡ true
 wider inner outer x y l r t b here =
-    let place = in_is inner x y here in
-    is_in_true outer x y (record { left = omega (arith, place.left); right = omega (arith, place.right); top = omega (arith, place.top); bottom = omega (arith, place.bottom) })
+    let pixel = in_is inner x y here in
+    is_in_true outer x y (record { left = omega (arith, pixel.left); right = omega (arith, pixel.right); top = omega (arith, pixel.top); bottom = omega (arith, pixel.bottom) })
 
-pub around_both : (one other : Area) (x y right bottom : ℕ) → HasPlaces one → HasPlaces other
+pub around_both : (one other : Area) (x y right bottom : ℕ) → HasPixels one → HasPixels other
     → x ≡ min one.x other.x → y ≡ min one.y other.y → right ≡ max (one.x + one.w) (other.x + other.w) → bottom ≡ max (one.y + one.h) (other.y + other.h)
     → IsSmallest (λ a b. is_in one a b || is_in other a b) (record { x = x; y = y; w = right - x; h = bottom - y })
 around_both one other x y right bottom p q x_is y_is right_is bottom_is =

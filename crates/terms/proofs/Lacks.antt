@@ -4,7 +4,7 @@ use Rattle.terms.specs.Fault.{UnlessMemory}
 use Rattle.terms.specs.declared.wire_fault.WireFault.{WireFault}
 use Rattle.terms.specs.declared.wire_fault.WireFault.TheVariants as faults
 
--- it holds where another fault is there
+-- it holds if there is another fault
 pub unless_other : (f : WireFault) (P : Type 0) → f ≢ faults.NoMemory → UnlessMemory f P → P
 unless_other faults.UnknownType P other p = p
 unless_other faults.OutsideScreen P other p = p

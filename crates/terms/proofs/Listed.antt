@@ -16,11 +16,11 @@ none_read Are bytes all rest e none =
     let rest_is : bytes ≡ rest = cc in
     rw is (record { body = []; bytes_are = rest_is; count_is = refl; are = none })
 
--- one element, and those behind it
-pub one_more_read : {A E : Type 0} (Are Behind : List A → List ℕ → Type 0) (a : A) (others all : List A) (first bytes between after rest : List ℕ) (count : ℕ)
-    → bytes ≡ first ++ between → ListRead Behind count between others after → ◌≡◌ {A = Reading (List A) E} (Got (a ∷ others) after) (Got all rest)
-    → ((body : List ℕ) → Behind others body → Are (a ∷ others) (first ++ body)) → ListRead Are (suc count) bytes all rest
-one_more_read Are Behind a others all first bytes between after rest count front read e are =
+-- one element, and those after it
+pub one_more_read : {A E : Type 0} (Are After : List A → List ℕ → Type 0) (a : A) (others all : List A) (first bytes between after rest : List ℕ) (count : ℕ)
+    → bytes ≡ first ++ between → ListRead After count between others after → ◌≡◌ {A = Reading (List A) E} (Got (a ∷ others) after) (Got all rest)
+    → ((body : List ℕ) → After others body → Are (a ∷ others) (first ++ body)) → ListRead Are (suc count) bytes all rest
+one_more_read Are After a others all first bytes between after rest count front read e are =
     let is : all ≡ a ∷ others = cc in
     let rest_is : after ≡ rest = cc in
     rw is (record {
@@ -30,7 +30,7 @@ one_more_read Are Behind a others all first bytes between after rest count front
       are = are read.body read.are;
     })
 
--- behind fewer elements than so many stand bytes of which this holds
+-- after fewer elements than so many stand bytes of which this holds
 pub record StopsIn {A : Type 0} (Are : List A → List ℕ → Type 0) (Stops : List ℕ → Type 0) (count : ℕ) (bytes : List ℕ) : Type 0 where
   pub earlier : List A
   pub body : List ℕ
@@ -45,9 +45,9 @@ pub stops_here : {A : Type 0} (Are : List A → List ℕ → Type 0) (Stops : Li
 stops_here Are Stops count bytes none stops =
     record { earlier = []; body = []; last = bytes; bytes_are = refl; body_is = none; one_of_them = omega arith; stops = stops }
 
-pub stops_behind : {A : Type 0} (Are : List A → List ℕ → Type 0) (Stops : List ℕ → Type 0) (a : A) (count : ℕ) (bytes first rest : List ℕ) → bytes ≡ first ++ rest
+pub stops_after : {A : Type 0} (Are : List A → List ℕ → Type 0) (Stops : List ℕ → Type 0) (a : A) (count : ℕ) (bytes first rest : List ℕ) → bytes ≡ first ++ rest
     → StopsIn Are Stops count rest → ((others : List A) (body : List ℕ) → Are others body → Are (a ∷ others) (first ++ body)) → StopsIn Are Stops (suc count) bytes
-stops_behind Are Stops a count bytes first rest front others are =
+stops_after Are Stops a count bytes first rest front others are =
     let less = others.one_of_them in
     record {
       earlier = a ∷ others.earlier;

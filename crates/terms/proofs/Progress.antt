@@ -10,7 +10,7 @@ pub record Progress {X : Type 0} (Are : List X → List ℕ → Type 0) (items r
   pub all : items ≡ done ++ rest
   pub are : Appends (Are done) old new
 
--- what holds of some items and of others holds of both, one behind the other
+-- what holds of some items and of others holds of both, one after the other
 abbrev pub Joins : {X : Type 0} → (List X → List ℕ → Type 0) → Type 0
 Joins {X} Are = (a b : List X) (p q : List ℕ) → Are a p → Are b q → Are (a ++ b) (p ++ q)
 
@@ -29,11 +29,11 @@ both_appended Are joins a b old between new first second = record {
 pub begins : {X : Type 0} (Are : List X → List ℕ → Type 0) → Are [] [] → (items : List X) (old : List ℕ) → Progress Are items items old old
 begins Are none items old = record { done = []; all = refl; are = record { bytes = []; is = sym (append-nil old); are = none } }
 
-pub goes_on : {X : Type 0} (Are : List X → List ℕ → Type 0) → Joins Are → (items rest some behind : List X) (old between new : List ℕ) → rest ≡ some ++ behind
-    → Progress Are items rest old between → Appends (Are some) between new → Progress Are items behind old new
-goes_on Are joins items rest some behind old between new split so_far more = record {
+pub goes_on : {X : Type 0} (Are : List X → List ℕ → Type 0) → Joins Are → (items rest some following : List X) (old between new : List ℕ) → rest ≡ some ++ following
+    → Progress Are items rest old between → Appends (Are some) between new → Progress Are items following old new
+goes_on Are joins items rest some following old between new split so_far more = record {
   done = so_far.done ++ some;
-  all = so_far.all ∙ ap (λ z. so_far.done ++ z) split ∙ sym (append_assoc so_far.done some behind);
+  all = so_far.all ∙ ap (λ z. so_far.done ++ z) split ∙ sym (append_assoc so_far.done some following);
   are = both_appended Are joins so_far.done some old between new so_far.are more;
 }
 

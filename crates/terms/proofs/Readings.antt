@@ -44,7 +44,7 @@ field_got n bytes f rest e = elim (true_or_false (nat_lt (length bytes) n)) [
       record { enough = ltb-false (length bytes) n long; is = a; rest_is = b })
 ]
 
--- a field and what stands behind it
+-- a field and what follows it
 pub field_front : (n : ℕ) (bytes f rest : List ℕ) → FieldIs n bytes f rest → (bytes ≡ f ++ rest) × (length f ≡ n)
 field_front n bytes f rest is =
     (rw (is.is, is.rest_is) (sym (take-append-drop n bytes)), rw is.is (length-take-le n bytes is.enough))
@@ -87,7 +87,7 @@ within_got limit fault read bytes x after e =
     let g = beyond_got limit fault bytes (read (take limit bytes)) x after e in
     record { rest = g.0; first = g.1; after_is = g.2 }
 
--- a whole field and what stands behind it
+-- a whole field and what follows it
 pub field-whole : {E : Type 0} (n : ℕ) (f more : List ℕ) → length f ≡ n → field {E = E} n (f ++ more) ≡ Got f more
 unfolding field
 field-whole n f more e =

@@ -1,4 +1,4 @@
--- Areas: the places that one has, and how it stands on the wire (RFC 6143, sections 7.5.3 and
+-- Areas: the pixels that one has, and how it stands on the wire (RFC 6143, sections 7.5.3 and
 -- 7.6.1).
 use Rattle.std.specs.Prelude.{◌≡◌, ℕ, ◌+◌, ◌-◌, ◌/◌, ◌%◌, ◌<◌, ◌^◌, nat_le, nat_lt, Bool, true, ◌&&◌, List, [], ◌∷◌, Option, Some, None}
 use Rattle.terms.specs.declared.area.Area.{Area}
@@ -7,29 +7,29 @@ use Rattle.terms.specs.declared.area.Area.{Area}
 abbrev pub area_bytes : Area → List ℕ
 area_bytes a = a.x / 256 ∷ a.x % 256 ∷ a.y / 256 ∷ a.y % 256 ∷ a.w / 256 ∷ a.w % 256 ∷ a.h / 256 ∷ a.h % 256 ∷ []
 
--- the place of this column and row lies in the area
+-- the pixel of this column and row lies in the area
 abbrev pub is_in : Area → ℕ → ℕ → Bool
 is_in area x y = (nat_le area.x x && nat_lt x (area.x + area.w)) && (nat_le area.y y && nat_lt y (area.y + area.h))
 
--- an area of some places, all of whose ends have a number of 16 bits
-pub record HasPlaces (area : Area) : Type 0 where
+-- an area of some pixels, all of whose ends have a number of 16 bits
+pub record HasPixels (area : Area) : Type 0 where
   pub across : 0 < area.w
   pub down : 0 < area.h
   pub columns : area.x + area.w < 2 ^ 16
   pub rows : area.y + area.h < 2 ^ 16
 
--- The area has just the places that pass a test, and there are some.
+-- The area has just the pixels that pass a test, and there are some.
 pub record HasJust (p : ℕ → ℕ → Bool) (area : Area) : Type 0 where
   pub across : 0 < area.w
   pub down : 0 < area.h
   pub just : (x y : ℕ) → is_in area x y ≡ p x y
 
--- or no place passes
+-- or no pixel passes
 abbrev pub HasJustOf : (ℕ → ℕ → Bool) → Option Area → Type 0
 HasJustOf p None = (x y : ℕ) → p x y ≡ true → ⊥
 HasJustOf p (Some area) = HasJust p area
 
--- The smallest area that holds each place that passes a test: one stands on each of its edges.
+-- The smallest area that holds each pixel that passes a test: one stands on each of its edges.
 pub record IsSmallest (p : ℕ → ℕ → Bool) (area : Area) : Type 0 where
   pub holds_each : (x y : ℕ) → p x y ≡ true → is_in area x y ≡ true
   pub left : (y : ℕ) × (p area.x y ≡ true)
@@ -37,7 +37,7 @@ pub record IsSmallest (p : ℕ → ℕ → Bool) (area : Area) : Type 0 where
   pub top : (x : ℕ) × (p x area.y ≡ true)
   pub bottom : (x : ℕ) × (p x (area.y + area.h - 1) ≡ true)
 
--- or no place passes
+-- or no pixel passes
 abbrev pub IsSmallestOf : (ℕ → ℕ → Bool) → Option Area → Type 0
 IsSmallestOf p None = (x y : ℕ) → p x y ≡ true → ⊥
 IsSmallestOf p (Some area) = IsSmallest p area

@@ -5,7 +5,7 @@ use Rattle.terms.specs.declared.format_fault.FormatFault.TheVariants as format
 use Rattle.terms.specs.declared.wire_fault.WireFault.{WireFault}
 use Rattle.terms.specs.declared.wire_fault.WireFault.TheVariants as faults
 
--- the number of a fault: its place among the faults, the first of which has number 1
+-- the number of a fault: its position among the faults, the first of which has number 1
 pub record IsNumber {A : Type 0} (faults : List A) (fault : A) (number : ℕ) : Type 0 where
   pub counted : 0 < number
   pub is : slice_get faults (number - 1) ≡ Some fault

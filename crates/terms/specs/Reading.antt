@@ -3,14 +3,14 @@
 use Rattle.std.specs.Prelude.{◌≡◌, ℕ, ◌-◌, Bool, List, length, take, drop, ◌++◌, nat_lt, Result, Ok, Err, if◌then◌else◌}
 
 pub data Reading (A E : Type 0) : Type 0 where
-  -- a value, and the bytes behind it
+  -- a value, and the bytes after it
   Got : A → List ℕ → Reading A E
   -- no fault, and too few bytes
   More : Reading A E
   -- the first fault
   Bad : E → Reading A E
 
--- what a value, once it is read, says about the bytes behind it
+-- what a value, once it is read, says about the bytes after it
 infixl 10 ◌>>=◌
 abbrev pub ◌>>=◌ : {A B E : Type 0} → Reading A E → (A → List ℕ → Reading B E) → Reading B E
 (Got x rest) >>= f = f x rest
@@ -21,7 +21,7 @@ More >>= f = More
 unfoldable pub field : {E : Type 0} → ℕ → List ℕ → Reading (List ℕ) E
 field n bytes = if nat_lt (length bytes) n then More else Got (take n bytes) (drop n bytes)
 
--- a fault where a test fails
+-- a fault if a test fails
 abbrev pub guard : {A E : Type 0} → Bool → E → Reading A E → Reading A E
 guard passes fault next = if passes then next else Bad fault
 

@@ -6,7 +6,7 @@ ghost use Rattle.terms.specs.Appending.{room_for};
 use crate::NoMemory;
 use std::alloc::AllocError;
 
-/// Takes back what was appended behind the first so many bytes, unless all of it was. Answers what
+/// Takes back what was appended after the first so many bytes, unless all of it was. Answers what
 /// the appending answered.
 pub fn whole_or_none(
     appended: Result<(), NoMemory>,
@@ -23,7 +23,7 @@ pub fn whole_or_none(
     appended
 }
 
-/// Appends bytes that came. Where they need more room, it takes room for no more than twice as many
+/// Appends bytes that came. If they need more room, it takes room for no more than twice as many
 /// bytes as there are then, and 8. When memory runs out, `bytes` stays as it was, but for its room.
 pub fn append_come(bytes: &mut Vec<u8>, come: &[u8]) -> Result<(), NoMemory>
     ensures ok { OnOk result (bytes.new.items ≡ bytes.old.items ++ come.now) }

@@ -1,12 +1,12 @@
 //! A part of a screen.
 
 ghost use Rattle.std.specs.Prelude.{◌≡◌, ◌+◌, ◌<◌, ◌≤◌, ◌&&◌, ◌||◌, nat_lt, min, max, MatchOption};
-ghost use Rattle.terms.specs.Area.{area_bytes, is_in, HasPlaces, HasJustOf, IsSmallest};
+ghost use Rattle.terms.specs.Area.{area_bytes, is_in, HasPixels, HasJustOf, IsSmallest};
 
 use crate::number::two_bytes;
 use crate::screen_size::ScreenSize;
 
-/// A rectangle of places: its upper left corner, its width and its height.
+/// A rectangle of pixels: its upper left corner, its width and its height.
 #[derive(Clone, Copy, Debug, PartialEq, Eq)]
 pub struct Area {
     pub x: u16,
@@ -72,7 +72,7 @@ impl Area {
         [x, x_low, y, y_low, w, w_low, h, h_low]
     }
 
-    /// The places that it has in common with another area, if any.
+    /// The pixels that it has in common with another area, if any.
     pub fn common(self, other: Area) -> Option<Area>
         ensures { HasJustOf (λ x y. is_in self x y && is_in other x y) result }
     {
@@ -88,7 +88,7 @@ impl Area {
         })
     }
 
-    /// Its part on a screen of this size, in places, if any.
+    /// Its part on a screen of this size, in pixels, if any.
     pub fn cut(self, size: ScreenSize) -> Option<Area>
         ensures { HasJustOf (λ x y. is_in self x y && (nat_lt x size.width && nat_lt y size.height)) result }
     {
@@ -102,8 +102,8 @@ impl Area {
 
     /// The smallest area that holds it and another.
     pub fn around(self, other: Area) -> Area
-        requires one { HasPlaces self }
-        requires other { HasPlaces other }
+        requires one { HasPixels self }
+        requires other { HasPixels other }
         ensures { IsSmallest (λ x y. is_in self x y || is_in other x y) result }
     {
         let x = self.x.min(other.x);

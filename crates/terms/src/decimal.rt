@@ -11,8 +11,8 @@ fn is_number(word: &[u8]) -> bool
     word.iter().all(|digit| digit.is_ascii_digit())
 }
 
-/// The number that a word writes in decimal digits alone, one or more, where it fits: none where
-/// there is a sign or a space, which `parse` of the standard library would take in part.
+/// The number that a word writes in decimal digits alone, one or more, if it fits: none if there is
+/// a sign or a space, which `parse` of the standard library would take in part.
 pub fn decimal_number(word: &[u8]) -> Option<u64>
     ensures { result ≡ number_of (2 ^ 64) word.now }
 {

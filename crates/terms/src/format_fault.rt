@@ -11,7 +11,7 @@ pub enum FormatFault {
     /// A pixel has other than 8, 16 or 32 bits.
     #[error("a pixel of other than 8, 16 or 32 bits")]
     BadBits = 1,
-    /// Pixels are no colours, but places of a colour map.
+    /// Pixels are no colours, but indices into a colour map.
     #[error("not a true-color format")]
     NoTrueColor,
     /// A channel's maximum is not one less than a power of two.

@@ -5,7 +5,7 @@ ghost use Rattle.terms.specs.Reading.{Got, More};
 ghost use Rattle.terms.specs.Reading as reading;
 ghost use Rattle.terms.specs.declared.wire_fault.WireFault.{WireFault};
 
-/// The first bytes, where there are so many, and the bytes behind them.
+/// The first bytes, if there are so many, and the bytes after them.
 pub fn field(count: usize, bytes: &[u8]) -> Option<(&[u8], &[u8])>
     ensures reads { MatchOption result (reading.field {E = WireFault} count bytes.now ≡ More)
         (λ x. reading.field {E = WireFault} count bytes.now ≡ Got x.0.now x.1.now) }

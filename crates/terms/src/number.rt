@@ -6,7 +6,7 @@ ghost use Rattle.terms.specs.Number.{u16_at, u32_at, u16_bytes, u32_bytes};
 
 use byteorder::{ByteOrder, NetworkEndian};
 
-/// The number in two bytes of a field, from this place on.
+/// The number in two bytes of a field, from this offset on.
 pub fn read_u16(field: &[u8], at: usize) -> u16
     requires { at + 2 ≤ length field.now }
     ensures { result ≡ u16_at field.now at }
@@ -14,7 +14,7 @@ pub fn read_u16(field: &[u8], at: usize) -> u16
     NetworkEndian::read_u16(&field[at..])
 }
 
-/// The number in four bytes of a field, from this place on.
+/// The number in four bytes of a field, from this offset on.
 pub fn read_u32(field: &[u8], at: usize) -> u32
     requires { at + 4 ≤ length field.now }
     ensures { result ≡ u32_at field.now at }

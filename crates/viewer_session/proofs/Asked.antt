@@ -13,15 +13,15 @@ use Rattle.terms.specs.Area.{is_in, HasJust, IsSmallest}
 use Rattle.gated_journal.specs.Recording.{Head}
 use Rattle.keyed_entries.specs.declared.entry.Stamped.{Stamped}
 use Rattle.terms.proofs.Areas.{in_is, is_in_true, or_parts, or_right, same_smallest}
-use Rattle.place_sets.proofs.Looked.{around_within}
-use Rattle.place_sets.specs.Places.{PlaceSet, SameSize, holds}
+use Rattle.pixel_sets.proofs.Looked.{around_within}
+use Rattle.pixel_sets.specs.Pixels.{PixelSet, SameSize, holds}
 use Rattle.viewer_session.specs.declared.copies.KeptCopy.{KeptCopy}
 use Rattle.viewer_session.specs.Copies.{IsPart, IsCopyWithin, ShowsSource}
 use Rattle.viewer_session.specs.declared.view.View.{View}
 use Rattle.viewer_session.specs.View.{IsRight, IsSound, IsKept, Asks, IsAsked, IsReformatted, IsReencoded, IsTaken, AreTaken, is_left, is_pending, stale_at}
 use Rattle.viewer_session.proofs.Views.{neither}
 
--- a place between the edges of an area
+-- a pixel between the edges of an area
 corner : (area : Area) (x y : ℕ) → area.x ≤ x → x < area.x + area.w → area.y ≤ y → y < area.y + area.h → is_in area x y ≡ true
 corner area x y l r t b = is_in_true area x y (record { left = l; right = r; top = t; bottom = b })
 
@@ -58,7 +58,7 @@ part_itself width height area p =
       bottom = (area.x, corner area area.x (area.y + area.h - 1) (omega arith) (omega arith) (omega arith) (omega arith));
     }
 
--- The stale places are those before and those of a part, which is asked for whole where there are
+-- The stale pixels are those before and those of a part, which is asked for whole if there are
 -- such; and all else is as it was.
 pub record IsMarked (old mid : View) (whole : Bool) (marked : ℕ → ℕ → Bool) : Type 0 where
   pub kept : mid ≡ record old { stale = mid.stale; asked_whole = mid.asked_whole; copy = mid.copy }
@@ -105,9 +105,9 @@ kept_stale old new c same more kept =
     record {
       within = subst (λ (s : Framebuffer). IsCopyWithin s.width s.height c) (sym same) kept.within;
       stale = λ x y here.
-          let place = in_is c.area x y here in
-          let r = place.right in
-          let b = place.bottom in
+          let pixel = in_is c.area x y here in
+          let r = pixel.right in
+          let b = pixel.bottom in
           more x y (omega arith) (omega arith) (kept.stale x y here);
     }
 
@@ -138,7 +138,7 @@ sound_asked old mid whole marked pending sound is part =
 
 -- ---- a view stays right
 
--- where no place becomes clean
+-- if no pixel becomes clean
 pub right_kept : (head : Head) (old new : View) (seen : Picture) (messages : List Stamped) → new.screen ≡ old.screen → new.position ≡ old.position → new.format ≡ old.format
     → ((x y : ℕ) → x < new.screen.width → y < new.screen.height → stale_at new x y ≡ false → stale_at old x y ≡ false)
     → ((new.copy ≡ None) ⊎ (new.copy ≡ old.copy))
@@ -172,7 +172,7 @@ pub right_reencoded : (head : Head) (old new : View) (numbers : List ℤ) (seen 
 right_reencoded head old new numbers seen messages is right =
     let stale : new.stale ≡ old.stale = ap (λ (v : View). v.stale) is.kept in
     right_kept head old new seen messages (ap (λ (v : View). v.screen) is.kept) (ap (λ (v : View). v.position) is.kept) (ap (λ (v : View). v.format) is.kept)
-    (λ x y across down clean. sym (ap (λ (s : PlaceSet). holds s x y) stale) ∙ clean) (inl (ap (λ (v : View). v.copy) is.kept)) right
+    (λ x y across down clean. sym (ap (λ (s : PixelSet). holds s x y) stale) ∙ clean) (inl (ap (λ (v : View). v.copy) is.kept)) right
 
 pub right_reformatted : (head : Head) (old new : View) (f : Format) (seen : Picture) (messages : List Stamped) → IsReformatted old new f
     → IsRight head old seen messages → IsRight head new seen messages

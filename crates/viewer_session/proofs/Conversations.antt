@@ -12,7 +12,7 @@ use Rattle.terms.specs.declared.area.Area.{Area}
 use Rattle.terms.specs.Area.{is_in}
 use Rattle.rect_codec.specs.Update.{all_painted}
 use Rattle.painter.specs.Framebuffer.{Framebuffer}
-use Rattle.painter.proofs.Places.{in_is}
+use Rattle.painter.proofs.Region.{in_is}
 use Rattle.gated_journal.specs.Recording.{Head}
 use Rattle.keyed_entries.specs.declared.entry.Stamped.{Stamped}
 use Rattle.client_wire.specs.declared.message.ClientMessage.{ClientMessage}
@@ -34,7 +34,7 @@ use Rattle.viewer_session.proofs.Handshakes.{whole_more}
 last_or_before : (p : ℕ → Bool) (n k : ℕ) → p n ≡ false → ((k : ℕ) → k < n → p k ≡ false) → k < suc n → p k ≡ false
 last_or_before p n k here none h = elim (cases_lt k n) [
   | inl before ↦ none k before
-  | inr behind ↦ (let e : k ≡ n = omega arith in ap p e ∙ here)
+  | inr following ↦ (let e : k ≡ n = omega arith in ap p e ∙ here)
 ]
 
 below : (p : ℕ → Bool) (n : ℕ) → ((k : ℕ) × (p k ≡ true)) ⊎ ((k : ℕ) → k < n → p k ≡ false)
@@ -47,22 +47,22 @@ below p (suc n) = elim (below p n) [
   ]
 ]
 
-place_below : (p : ℕ → ℕ → Bool) (w h : ℕ) → ((x : ℕ) × (y : ℕ) × (p x y ≡ true)) ⊎ ((x y : ℕ) → x < w → y < h → p x y ≡ false)
-place_below p zero h = inr (λ x y a b. absurd (omega arith))
-place_below p (suc w) h = elim (place_below p w h) [
+pixel_below : (p : ℕ → ℕ → Bool) (w h : ℕ) → ((x : ℕ) × (y : ℕ) × (p x y ≡ true)) ⊎ ((x y : ℕ) → x < w → y < h → p x y ≡ false)
+pixel_below p zero h = inr (λ x y a b. absurd (omega arith))
+pixel_below p (suc w) h = elim (pixel_below p w h) [
   | inl some ↦ inl some
   | inr none ↦ elim (below (p w) h) [
     | inl here ↦ inl (w, here.0, here.1)
     | inr column ↦ inr (λ x y a b. elim (cases_lt x w) [
       | inl before ↦ none x y before b
-      | inr behind ↦ (let e : x ≡ w = omega arith in ap (λ z. p z y) e ∙ column y b)
+      | inr following ↦ (let e : x ≡ w = omega arith in ap (λ z. p z y) e ∙ column y b)
     ])
   ]
 ]
 
 due_by : (v : View) (o : Option Area) → v.pending ≡ o → v.started ≡ true → IsDue v ⊎ (IsDue v → ⊥)
 due_by v None is started = inr (λ due. let e = sym (ap (λ (p : Option Area). is_pending p due.x due.y) is) ∙ due.asked in absurd (cc))
-due_by v (Some area) is started = elim (place_below (λ x y. is_in area x y && stale_at v x y) (area.x + area.w) (area.y + area.h)) [
+due_by v (Some area) is started = elim (pixel_below (λ x y. is_in area x y && stale_at v x y) (area.x + area.w) (area.y + area.h)) [
   | inl some ↦
       (let parts = and_parts (is_in area some.0 some.1) (stale_at v some.0 some.1) some.2 in
       inl (record {
@@ -74,9 +74,9 @@ due_by v (Some area) is started = elim (place_below (λ x y. is_in area x y && s
       }))
   | inr none ↦ inr (λ due.
       let asked : is_in area due.x due.y ≡ true = sym (ap (λ (p : Option Area). is_pending p due.x due.y) is) ∙ due.asked in
-      let place = in_is area due.x due.y asked in
+      let pixel = in_is area due.x due.y asked in
       let both : (is_in area due.x due.y && stale_at v due.x due.y) ≡ true = rw (asked, due.stale) refl in
-      let never = none due.x due.y place.right place.bottom in
+      let never = none due.x due.y pixel.right pixel.bottom in
       let clash = sym both ∙ never in
       absurd (cc))
 ]

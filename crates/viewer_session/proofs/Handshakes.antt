@@ -58,7 +58,7 @@ pub other_version : (width height : ℕ) (name heard : List ℕ) → 12 ≤ leng
 other_version width height name heard le e =
     ap (say version) (version_step width height name heard le) ∙ ap (λ (b : Bool). say version (versioned width height name b (drop 12 heard))) e
 
--- behind the version
+-- after the version
 same_version : (width height : ℕ) (name heard : List ℕ) → 12 ≤ length heard → bytes_eq (take 12 heard) version ≡ true
     → handshake_at width height name heard ≡ say version (say none_offered (choice_at width height name (drop 12 heard)))
 same_version width height name heard le e =

@@ -1,4 +1,4 @@
--- Areas that have a place in common.
+-- Areas that have a pixel in common.
 use Rattle.std.proofs.Common.{◌≡◌, true, sym, ◌∙◌, arith}
 use Rattle.std.specs.Prelude.{◌&&◌, Option, Some, None}
 use Rattle.std.specs.Option.{is_some}

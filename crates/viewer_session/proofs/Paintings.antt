@@ -42,7 +42,7 @@ pub record Sees (v : View) (seen : Picture) : Type 0 where
 
 -- ---- a rectangle
 
--- where a place of a rectangle that copies comes from
+-- the source of a pixel of a rectangle that copies
 copied_from : (r : Rectangle) (bytes : List ℕ) (c : KeptCopy) (before : Picture) (x y : ℕ) → IsCopyBy r bytes c → x < c.area.w → y < c.area.h
     → painted_data host_format r.encoding r.area bytes before (c.area.x + x) (c.area.y + y) ≡ before (c.source_x + x) (c.source_y + y)
 unfolding painted_data copied_picture
@@ -57,7 +57,7 @@ copied_from r bytes c before x y is across down =
     ∙ ap (λ (n : ℕ). before n (c.source_y + (c.area.y + y - c.area.y))) column
     ∙ ap (λ (n : ℕ). before (c.source_x + x) n) row)
 
--- a place off the rectangle is as it was
+-- a pixel off the rectangle is as it was
 off_rectangle : (r : Rectangle) (bytes : List ℕ) (before : Picture) (x y : ℕ) → is_in r.area x y ≡ false → painted_data host_format r.encoding r.area bytes before x y ≡ before x y
 unfolding painted_data
 off_rectangle r bytes before x y off = rw off refl
@@ -77,7 +77,7 @@ pub record Step (m : Host) (r : Rectangle) (old new : View) : Type 0 where
   pub sound : IsSound old
   pub is : IsPainted old new m.bytes r
 
--- the rectangle's own copy lies on the screen, and is to stale places
+-- the rectangle's own copy lies on the screen, and is to stale pixels
 own_kept : (m : Host) (r : Rectangle) (old new : View) (copy : Option KeptCopy) → Step m r old new
     → MatchOption copy ((c : KeptCopy) → CanBeKept old r (slice_range m.bytes r.start r.end) c → ⊥) (CanBeKept old r (slice_range m.bytes r.start r.end)) → IfSome copy (IsKept new)
 own_kept m r old new None s can = tt
@@ -97,9 +97,9 @@ own_kept m r old new (Some c) s can =
       };
       stale = λ x y here.
           let at : is_in r.area x y ≡ true = sym (ap (λ (t : Area). is_in t x y) can.is.area) ∙ here in
-          let place = in_is r.area x y at in
-          let right = place.right in
-          let bottom = place.bottom in
+          let pixel = in_is r.area x y at in
+          let right = pixel.right in
+          let bottom = pixel.bottom in
           s.is.stale x y (omega arith) (omega arith) ∙ or_left (is_in r.area x y) (stale_at old x y) at;
     }
 
@@ -113,9 +113,9 @@ kept_on m r old new c s kept =
     record {
       within = rw (wide, high) kept.within;
       stale = λ x y here.
-          let place = in_is c.area x y here in
-          let right = place.right in
-          let bottom = place.bottom in
+          let pixel = in_is c.area x y here in
+          let right = pixel.right in
+          let bottom = pixel.bottom in
           s.is.stale x y (omega arith) (omega arith) ∙ or_right (is_in r.area x y) (stale_at old x y) (kept.stale x y here);
     }
 
@@ -135,7 +135,7 @@ sound_on m r old new s =
       copy = copy_kept m r old new s s.is.copy;
     }
 
--- a place of the screen off the rectangle shows what it showed
+-- a pixel of the screen off the rectangle shows what it showed
 same_color : (m : Host) (r : Rectangle) (old new : View) (x y : ℕ) → Step m r old new → x < old.screen.width → y < old.screen.height → is_in r.area x y ≡ false
     → converted old.format (color_at old.screen x y) ≡ converted new.format (color_at new.screen x y)
 same_color m r old new x y s across down off =

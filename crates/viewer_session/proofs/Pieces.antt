@@ -44,7 +44,7 @@ fed_more a b c stream front part told messages f goes =
           (subst (λ (ms : List ClientMessage). IsAfter c ((stream ++ front) ++ part) ms told) (append_assoc messages f.more g.more) g.after);
     }
 
--- a fault stays where it is, whatever follows
+-- a fault stays as it is, whatever follows
 pub ends_more : (w h : ℕ) (name : List ℕ) (reader : Option Reader) (stream more : List ℕ) (messages : List ClientMessage) (said : List ℕ) (f : SessionFault)
     → Ends w h name reader stream messages said f → Ends w h name reader (stream ++ more) messages said f
 ends_more w h name None stream more messages said f e = record { reads = bad_more w h name stream more said f e.reads; none = e.none }
@@ -63,9 +63,9 @@ ends_more w h name (Some r) stream more messages said faults.Security e = absurd
 ends_more w h name (Some r) stream more messages said faults.Closed e = absurd e
 
 -- a part in which the session is stopped, and what follows it
-pub fed_stopped : (a b c : Session) (stream front part behind told : List ℕ) (messages : List ClientMessage) (f : SessionFault) → Fed a b (stream ++ front) messages told
-    → ((s t : List ℕ) (ms : List ClientMessage) → IsAfter b s ms t → Stopped b c (s ++ part) ms t f) → Stopped a c (stream ++ (front ++ (part ++ behind))) messages told f
-fed_stopped a b c stream front part behind told messages f fed stops =
+pub fed_stopped : (a b c : Session) (stream front part following told : List ℕ) (messages : List ClientMessage) (f : SessionFault) → Fed a b (stream ++ front) messages told
+    → ((s t : List ℕ) (ms : List ClientMessage) → IsAfter b s ms t → Stopped b c (s ++ part) ms t f) → Stopped a c (stream ++ (front ++ (part ++ following))) messages told f
+fed_stopped a b c stream front part following told messages f fed stops =
     let g = stops (stream ++ front) told (messages ++ fed.more) fed.after in
     let first : IsStopped c ((stream ++ front) ++ part) (messages ++ (fed.more ++ g.more)) told f =
     subst (λ (ms : List ClientMessage). IsStopped c ((stream ++ front) ++ part) ms told f) (append_assoc messages fed.more g.more) g.ends in
@@ -73,8 +73,8 @@ fed_stopped a b c stream front part behind told messages f fed stops =
       more = fed.more ++ g.more;
       taken = taken_append a.view b.view c.view fed.more g.more fed.taken g.taken;
       ends = subst (λ (z : List ℕ). IsStopped c z (messages ++ (fed.more ++ g.more)) told f)
-          (append_assoc (stream ++ front) part behind ∙ append_assoc stream front (part ++ behind))
-          (ends_more c.width c.height c.name c.reader ((stream ++ front) ++ part) behind (messages ++ (fed.more ++ g.more)) (told ++ c.due) f first);
+          (append_assoc (stream ++ front) part following ∙ append_assoc stream front (part ++ following))
+          (ends_more c.width c.height c.name c.reader ((stream ++ front) ++ part) following (messages ++ (fed.more ++ g.more)) (told ++ c.due) f first);
     }
 
 -- what is kept twice is kept

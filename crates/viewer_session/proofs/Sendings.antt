@@ -18,8 +18,8 @@ use Rattle.rect_codec.specs.declared.parts.Part.TheVariants as parts
 use Rattle.rect_codec.specs.Parts.{Draws, DrawsCopy, PartLiesWithin}
 use Rattle.rect_codec.specs.Update.{Drawn, HasColors, painted, all_painted}
 use Rattle.painter.specs.Framebuffer.{Framebuffer, color_at}
-use Rattle.place_sets.specs.Places.{is_in_some}
-use Rattle.place_sets.proofs.Sent.{IsInside}
+use Rattle.pixel_sets.specs.Pixels.{is_in_some}
+use Rattle.pixel_sets.proofs.Sent.{IsInside}
 use Rattle.viewer_session.specs.declared.copies.KeptCopy.{KeptCopy}
 use Rattle.viewer_session.specs.Copies.{IsCopyWithin, ShowsSource, is_copied}
 use Rattle.viewer_session.specs.View.{AreConverted, AreDrawn, is_covered}
@@ -35,12 +35,12 @@ colors_shown : (f : Format) (screen : Framebuffer) (area : Area) (colors : List 
     → ShowsArea f screen area before after
 colors_shown f screen area colors before after are has = record {
   here = λ x y e.
-      let place = in_is area x y e in
-      let l = place.left in
-      let r = place.right in
+      let pixel = in_is area x y e in
+      let l = pixel.left in
+      let r = pixel.right in
       let column : area.x + (x - area.x) ≡ x = omega arith in
-      let t = place.top in
-      let u = place.bottom in
+      let t = pixel.top in
+      let u = pixel.bottom in
       let row : area.y + (y - area.y) ≡ y = omega arith in
       ap (λ (n : ℕ). after n y) (sym column) ∙ ap (λ (n : ℕ). after (area.x + (x - area.x)) n) (sym row)
       ∙ has.here (x - area.x) (y - area.y) (omega arith) (omega arith)
@@ -73,7 +73,7 @@ all_shown f asked screen (a ∷ areas) (p ∷ list) [] are draw = absurd draw
 all_shown f asked screen (a ∷ areas) (p ∷ list) (d ∷ drawn) are draw =
     (part_shown f asked screen a p d are.0 draw.0, all_shown f asked screen areas list drawn are.1 draw.1)
 
--- they cover the places of the areas
+-- they cover the pixels of the areas
 pub covered_is : (f : Format) (screen : Framebuffer) (areas : List Area) (drawn : List Drawn) → AllZip (IsShown f screen) areas drawn → (x y : ℕ) → is_covered drawn x y ≡ is_in_some areas x y
 covered_is f screen [] [] are x y = refl
 covered_is f screen [] (d ∷ drawn) are x y = absurd are
@@ -88,7 +88,7 @@ areas_are f screen [] (d ∷ drawn) are = absurd are
 areas_are f screen (a ∷ areas) [] are = absurd are
 areas_are f screen (a ∷ areas) (d ∷ drawn) are = ap (λ (b : Area). b ∷ map (λ (e : Drawn). e.area) drawn) are.0.area_is ∙ ap (λ (l : List Area). a ∷ l) (areas_are f screen areas drawn are.1)
 
--- places of no area are as they were
+-- pixels of no area are as they were
 pub elsewhere : (f : Format) (screen : Framebuffer) (areas : List Area) (drawn : List Drawn) → AllZip (IsShown f screen) areas drawn → (before : Picture) (x y : ℕ)
     → is_in_some areas x y ≡ false → all_painted f drawn before x y ≡ before x y
 elsewhere f screen [] [] are before x y off = refl
@@ -113,7 +113,7 @@ shown f screen (a ∷ areas) (d ∷ drawn) are before x y on = elim (cases_Bool 
   | inr last ↦ elsewhere f screen areas drawn are.1 (painted f d before) x y last ∙ (are.0.shows before).here x y (here_alone (is_in a x y) (is_in_some areas x y) on last)
 ]
 
--- ---- behind a copy
+-- ---- after a copy
 
 -- a rectangle that copies, if there is a copy, and one for each area
 abbrev pub AreShown : Format → Framebuffer → Option KeptCopy → List Area → List Drawn → Type 0
@@ -152,17 +152,17 @@ all_here f screen None areas drawn are before x y on = shown f screen areas draw
 all_here f screen (Some c) areas [] are before x y on = absurd are
 all_here f screen (Some c) areas (d ∷ drawn) are before x y on = shown f screen areas drawn are.1 (painted f d before) x y on
 
--- a place that is copied, and isn't sent again
+-- a pixel that is copied, and isn't sent again
 pub all_copied : (f : Format) (screen : Framebuffer) (copy : Option KeptCopy) (areas : List Area) (drawn : List Drawn) → AreShown f screen copy areas drawn → (before : Picture) (x y : ℕ)
     → IfSome copy (ShowsSource f screen before) → is_copied copy x y ≡ true → is_in_some areas x y ≡ false → all_painted f drawn before x y ≡ converted f (color_at screen x y)
 all_copied f screen None areas drawn are before x y shows on off = absurd (cc)
 all_copied f screen (Some c) areas [] are before x y shows on off = absurd are
 all_copied f screen (Some c) areas (d ∷ drawn) are before x y shows on off =
-    let place = in_is c.area x y on in
-    let l = place.left in
-    let r = place.right in
-    let t = place.top in
-    let u = place.bottom in
+    let pixel = in_is c.area x y on in
+    let l = pixel.left in
+    let r = pixel.right in
+    let t = pixel.top in
+    let u = pixel.bottom in
     let column : c.area.x + (x - c.area.x) ≡ x = omega arith in
     let row : c.area.y + (y - c.area.y) ≡ y = omega arith in
     elsewhere f screen areas drawn are.1 (painted f d before) x y off

@@ -26,7 +26,7 @@ pub if_err : {U E : Type 0} (r : Result U E) (P Q : E → Type 0) → ((e : E) �
 if_err (Ok u) P Q f p = tt
 if_err (Err e) P Q f p = f e p
 
--- ---- behind the handshake
+-- ---- after the handshake
 
 gets_more : (w h : ℕ) (name stream piece : List ℕ) (messages more : List ClientMessage) (said tail rest : List ℕ)
     → Gets w h name stream messages said tail → Gives message_at itself [] more (tail ++ piece) rest
@@ -193,7 +193,7 @@ pub in_messages : (g : Greeting) (before : Option Reader) (r : Reader) (stream t
 in_messages g before r stream told messages some is =
     subst (λ (x : Option Reader). Stands g.size.width g.size.height g.name.items g.heard.items x stream messages (told ++ due_by g)) some is
 
--- what is left of a piece is heard behind the handshake
+-- what is left of a piece is heard after the handshake
 pub rest_goes : (g : Greeting) (r after : Reader) (stream piece rest told : List ℕ) (messages more : List ClientMessage) (n : ℕ) → rest ≡ drop n piece
     → GoesIn r after rest more → IsListening g.size.width g.size.height g.name.items r (stream ++ take n piece) messages (told ++ due_by g)
     → IsListening g.size.width g.size.height g.name.items after (stream ++ piece) (messages ++ more) (told ++ due_by g)

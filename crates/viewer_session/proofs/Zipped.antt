@@ -21,7 +21,7 @@ use Rattle.painter.specs.declared.update.ScreenPart.{ScreenPart}
 use Rattle.painter.specs.declared.update.ScreenPart.TheVariants.{Copy}
 use Rattle.viewer_session.specs.declared.copies.KeptCopy.{KeptCopy}
 use Rattle.viewer_session.specs.Encoded.{IsScreenPart, copy_parts}
-use Rattle.viewer_session.specs.Parts.{places_of, screen_copy, screen_parts}
+use Rattle.viewer_session.specs.Parts.{pixels_of, screen_copy, screen_parts}
 
 pub zip_length : {A B : Type 0} (R : A → B → Type 0) (xs : List A) (ys : List B) → AllZip R xs ys → length xs ≡ length ys
 zip_length R [] [] are = refl
@@ -41,7 +41,7 @@ color_within f c is = record {
   blue = channel_within f.blue.max c.b is.blue;
 }
 
--- what is sent of an area are its places' colours
+-- what is sent of an area are its pixels' colours
 sent_converted : (f : Format) (screen : Framebuffer) (area : Area) → AreColorsOf screen area (area_colors screen area) → AreConverted f screen area (sent_colors f screen area)
 sent_converted f screen area are =
     let colors = area_colors screen area in
@@ -59,7 +59,7 @@ sent_converted f screen area are =
 -- the parts of areas say what the screen shows there
 pub parts_are : (f : Format) (asked : Encoding) (screen : Framebuffer) (areas : List Area)
     → ((area : Area) → area.x + area.w ≤ screen.width → area.y + area.h ≤ screen.height → AreColorsOf screen area (area_colors screen area))
-    → All (LiesWithin screen.width screen.height) areas → AllZip (IsScreenPart f asked screen) areas (parts_of f screen (map (places_of asked) areas))
+    → All (LiesWithin screen.width screen.height) areas → AllZip (IsScreenPart f asked screen) areas (parts_of f screen (map (pixels_of asked) areas))
 parts_are f asked screen [] known within = tt
 parts_are f asked screen (a ∷ areas) known within =
     let here = All-head (LiesWithin screen.width screen.height) a areas within in (
@@ -67,37 +67,37 @@ parts_are f asked screen (a ∷ areas) known within =
       parts_are f asked screen areas known (All-tail (LiesWithin screen.width screen.height) a areas within),
     )
 
--- behind the part of a copy
+-- after the part of a copy
 pub copy_in_front : (f : Format) (asked : Encoding) (screen : Framebuffer) (copy : Option KeptCopy) (areas : List Area)
-    → parts_of f screen (screen_parts copy asked areas) ≡ copy_parts copy ++ parts_of f screen (map (places_of asked) areas)
+    → parts_of f screen (screen_parts copy asked areas) ≡ copy_parts copy ++ parts_of f screen (map (pixels_of asked) areas)
 copy_in_front f asked screen None areas = refl
 copy_in_front f asked screen (Some c) areas = refl
 
-areas_sent : (asked : Encoding) (screen : Framebuffer) (areas : List Area) → All (LiesWithin screen.width screen.height) areas → All (CanBeSent screen) (map (places_of asked) areas)
+areas_sent : (asked : Encoding) (screen : Framebuffer) (areas : List Area) → All (LiesWithin screen.width screen.height) areas → All (CanBeSent screen) (map (pixels_of asked) areas)
 areas_sent asked screen [] within = All-nil (CanBeSent screen)
 areas_sent asked screen (a ∷ areas) within =
-    All-cons (CanBeSent screen) (places_of asked a) (map (places_of asked) areas) (All-head (LiesWithin screen.width screen.height) a areas within)
+    All-cons (CanBeSent screen) (pixels_of asked a) (map (pixels_of asked) areas) (All-head (LiesWithin screen.width screen.height) a areas within)
     (areas_sent asked screen areas (All-tail (LiesWithin screen.width screen.height) a areas within))
 
 -- and can be sent
 pub parts_sent : (copy : Option KeptCopy) (asked : Encoding) (screen : Framebuffer) (areas : List Area) → All (LiesWithin screen.width screen.height) areas → All (CanBeSent screen) (screen_parts copy asked areas)
 parts_sent None asked screen areas within = areas_sent asked screen areas within
 parts_sent (Some c) asked screen areas within =
-    All-cons (CanBeSent screen) (Copy c.area c.source_x c.source_y) (map (places_of asked) areas) tt (areas_sent asked screen areas within)
+    All-cons (CanBeSent screen) (Copy c.area c.source_x c.source_y) (map (pixels_of asked) areas) tt (areas_sent asked screen areas within)
 
 pub parts_few : (copy : Option KeptCopy) (asked : Encoding) (areas : List Area) → length (screen_parts copy asked areas) ≤ length areas + 1
-parts_few None asked areas = omega (arith, length-map areas (places_of asked))
-parts_few (Some c) asked areas = omega (arith, length-map areas (places_of asked))
+parts_few None asked areas = omega (arith, length-map areas (pixels_of asked))
+parts_few (Some c) asked areas = omega (arith, length-map areas (pixels_of asked))
 
-map_more : (asked : Encoding) (xs ys : List Area) → map (places_of asked) (xs ++ ys) ≡ map (places_of asked) xs ++ map (places_of asked) ys
+map_more : (asked : Encoding) (xs ys : List Area) → map (pixels_of asked) (xs ++ ys) ≡ map (pixels_of asked) xs ++ map (pixels_of asked) ys
 map_more asked [] ys = refl
-map_more asked (x ∷ xs) ys = ap (λ (l : List ScreenPart). places_of asked x ∷ l) (map_more asked xs ys)
+map_more asked (x ∷ xs) ys = ap (λ (l : List ScreenPart). pixels_of asked x ∷ l) (map_more asked xs ys)
 
 -- one area more
 pub parts_more : (copy : Option KeptCopy) (asked : Encoding) (areas : List Area) (i : ℕ) (d : Area) → i < length areas
-    → screen_parts copy asked (take i areas) ++ places_of asked (get_or areas i d) ∷ [] ≡ screen_parts copy asked (take (i + 1) areas)
+    → screen_parts copy asked (take i areas) ++ pixels_of asked (get_or areas i d) ∷ [] ≡ screen_parts copy asked (take (i + 1) areas)
 parts_more copy asked areas i d lt =
-    append_assoc (screen_copy copy) (map (places_of asked) (take i areas)) (places_of asked (get_or areas i d) ∷ [])
+    append_assoc (screen_copy copy) (map (pixels_of asked) (take i areas)) (pixels_of asked (get_or areas i d) ∷ [])
     ∙ ap (λ (l : List ScreenPart). screen_copy copy ++ l) (sym (map_more asked (take i areas) (get_or areas i d ∷ [])))
     ∙ ap (λ (z : List Area). screen_parts copy asked z) (sym (take_more areas i d lt))
 

@@ -27,7 +27,7 @@ IsReadAs width height u = update_at u.format width height u.bytes ≡ Got u.draw
 abbrev pub bytes_of : Sent → List ℕ
 bytes_of u = u.bytes
 
--- what a viewer shows that paints updates, one behind another, over what it showed
+-- what a viewer shows that paints updates, one after another, over what it showed
 abbrev pub painted_by : List Sent → Picture → Picture
 painted_by [] shown = shown
 painted_by (u ∷ us) shown = painted_by us (all_painted u.format u.drawn shown)
@@ -62,7 +62,7 @@ pub record IsAnswered (old new : Session) (before after : List ℕ) : Type 0 whe
   pub screen : new.view.screen ≡ old.view.screen
   pub kept : new ≡ record old { due = []; view = new.view }
 
--- an update in the viewer's format is put out where one is due, and else none
+-- an update in the viewer's format is put out if one is due, and else none
 abbrev pub IsPutOut : Session → List Sent → Type 0
 IsPutOut s [] = IsDue s.view → ⊥
 IsPutOut s (u ∷ us) = IsDue s.view × (u.format ≡ s.view.format) × (us ≡ [])

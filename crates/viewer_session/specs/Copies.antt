@@ -1,4 +1,4 @@
--- A copy that a viewer can be sent in place of colours (RFC 6143, section 7.7.2).
+-- A copy that a viewer can be sent instead of colours (RFC 6143, section 7.7.2).
 use Rattle.std.specs.Prelude.{◌≡◌, ℕ, ◌+◌, ◌<◌, nat_le, Bool, false, ◌&&◌, Option, Some, None, if◌then◌else◌}
 use Rattle.terms.specs.declared.area.Area.{Area}
 use Rattle.terms.specs.Area.{is_in}
@@ -13,23 +13,23 @@ use Rattle.viewer_session.specs.declared.copies.KeptCopy.{KeptCopy}
 abbrev pub source : KeptCopy → Area
 source c = record { x = c.source_x; y = c.source_y; w = c.area.w; h = c.area.h }
 
--- a part of a screen of this size, of some places
+-- a part of a screen of this size, of some pixels
 pub record IsPart (width height : ℕ) (area : Area) : Type 0 where
   pub within : LiesWithin width height area
   pub across : 0 < area.w
   pub down : 0 < area.h
 
--- a copy of some places to others of a screen of this size
+-- a copy of some pixels to others of a screen of this size
 pub record IsCopyWithin (width height : ℕ) (c : KeptCopy) : Type 0 where
   pub area : IsPart width height c.area
   pub source : LiesWithin width height (source c)
 
--- the place is one of those that it is copied to
+-- the pixel is one of those that it is copied to
 abbrev pub is_copied : Option KeptCopy → ℕ → ℕ → Bool
 is_copied None x y = false
 is_copied (Some c) x y = is_in c.area x y
 
--- what a viewer shows at the places that are copied is the screen, in a format, at those that they
+-- what a viewer shows at the pixels that are copied is the screen, in a format, at those that they
 -- are copied to
 abbrev pub ShowsSource : Format → Framebuffer → Picture → KeptCopy → Type 0
 ShowsSource f screen seen c = (x y : ℕ) → x < c.area.w → y < c.area.h
@@ -40,7 +40,7 @@ abbrev pub lies_in : Area → Area → Bool
 lies_in area outer =
     (nat_le outer.x area.x && nat_le (area.x + area.w) (outer.x + outer.w)) && (nat_le outer.y area.y && nat_le (area.y + area.h) (outer.y + outer.h))
 
--- a copy to places that are all asked for
+-- a copy to pixels that are all asked for
 abbrev pub copy_in : Option KeptCopy → Area → Option KeptCopy
 copy_in None pending = None
 copy_in (Some c) pending = if lies_in c.area pending then Some c else None

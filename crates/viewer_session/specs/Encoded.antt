@@ -22,9 +22,9 @@ abbrev pub copy_parts : Option KeptCopy → List Part
 copy_parts None = []
 copy_parts (Some c) = parts.Copy c.area c.source_x c.source_y ∷ []
 
--- An update of a copy, if there is one, and of these areas of a screen behind it, in their order, for
--- one who asked for an encoding: each other rectangle is in that, or in Raw where the encoding would
--- be longer or can't be written; with 0 in padding and in the bits of no channel.
+-- An update of a copy, if there is one, and of these areas of a screen after it, in their order,
+-- for one who asked for an encoding: each other rectangle is in that, or in Raw if the encoding
+-- would be longer or can't be written; with 0 in padding and in the bits of no channel.
 pub record IsUpdateOf (f : Format) (asked : Encoding) (screen : Framebuffer) (copy : Option KeptCopy) (areas : List Area) (update : List ℕ) : Type 0 where
   pub parts : List Part
   pub each : AllZip (IsScreenPart f asked screen) areas parts

@@ -13,7 +13,7 @@ abbrev pub Takes : Session → Session → List ℕ → Type 0
 Takes old new piece = (stream told : List ℕ) → (messages : List ClientMessage) → IsAfter old stream messages told
     → Fed old new (stream ++ piece) messages told
 
--- This fault stands in the stream, where the piece is behind it.
+-- This fault stands in the stream with the piece after it.
 abbrev pub StopsIn : Session → Session → List ℕ → SessionFault → Type 0
 StopsIn old new piece f = (stream told : List ℕ) → (messages : List ClientMessage) → IsAfter old stream messages told
     → Stopped old new (stream ++ piece) messages told f

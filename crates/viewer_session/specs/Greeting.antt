@@ -26,12 +26,12 @@ pub record HearsSo (old new : Greeting) (piece : List ℕ) (n : ℕ) (reading : 
   pub heard : new.heard.items ≡ old.heard.items ++ take n piece
   pub reads : (talk_by new).heard ≡ reading
 
--- the piece is heard, and the handshake isn't whole; or it is whole behind so many bytes
+-- the piece is heard, and the handshake isn't whole; or it is whole after so many bytes
 abbrev pub Hears : Greeting → Greeting → List ℕ → Option ℕ → Type 0
 Hears old new piece None = HearsSo old new piece (length piece) More
 Hears old new piece (Some n) = HearsSo old new piece n (Got tt [])
 
--- it is refused behind some
+-- it is refused after some
 pub record Refuses (old new : Greeting) (piece : List ℕ) (f : SessionFault) : Type 0 where
   pub n : ℕ
   pub hears : HearsSo old new piece n (Bad f)

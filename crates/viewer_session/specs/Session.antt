@@ -12,7 +12,7 @@ use Rattle.viewer_session.specs.Stream.{Stands, Ends}
 use Rattle.viewer_session.specs.View.{AreTaken, IsSound}
 
 -- The screen's size and name, which the viewer is told; of the viewer's stream, the bytes that are
--- heard of the handshake; the bytes that are still due of its answers; behind the handshake, the
+-- heard of the handshake; the bytes that are still due of its answers; after the handshake, the
 -- reader of the messages; the viewer's view; and the fault that was met, if one was.
 pub record Session : Type 0 where
   pub width : ℕ
@@ -40,8 +40,8 @@ IsAfter s stream messages told = Stands s.width s.height s.name s.heard s.reader
 abbrev pub IsStopped : Session → List ℕ → List ClientMessage → List ℕ → SessionFault → Type 0
 IsStopped s stream messages told f = Ends s.width s.height s.name s.reader stream messages (told ++ s.due) f
 
--- What feed does: the messages that are whole now are taken, one behind another, and the session is
--- behind the piece.
+-- What feed does: the messages that are whole now are taken, one after another, and the session is
+-- after the piece.
 pub record Fed (old new : Session) (stream : List ℕ) (messages : List ClientMessage) (told : List ℕ) : Type 0 where
   pub more : List ClientMessage
   pub taken : AreTaken old.view new.view more

@@ -29,7 +29,7 @@ init_of width height name stages.Whole = server_init width height name
 abbrev pub said_at : ℕ → ℕ → List ℕ → Stage → List ℕ
 said_at width height name stage = greeting_of stage ++ init_of width height name stage
 
--- what is heard of it, where nothing follows
+-- what is heard of it, if nothing follows
 abbrev pub heard_at : Stage → Reading (Unit {0}) SessionFault
 heard_at stages.Version = More
 heard_at stages.OtherVersion = Bad faults.Version

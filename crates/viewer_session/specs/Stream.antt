@@ -1,5 +1,5 @@
 -- What a session has made of a viewer's stream, in the words of the stream: the handshake and its
--- answers, and the messages behind it (RFC 6143, sections 7.1 to 7.3 and 7.5).
+-- answers, and the messages after it (RFC 6143, sections 7.1 to 7.3 and 7.5).
 use Rattle.std.specs.Prelude.{◌≡◌, ℕ, List, [], Option, Some, None}
 use Rattle.terms.specs.Reading.{Got, More, Bad}
 use Rattle.client_wire.specs.declared.message.ClientMessage.{ClientMessage}
@@ -19,7 +19,7 @@ pub record IsGreeting (width height : ℕ) (name heard stream : List ℕ) (messa
   pub reads : handshake_at width height name stream ≡ record { said = said; heard = More }
   pub none : messages ≡ []
 
--- The handshake is whole, and is answered with this. The messages are those behind it, before the
+-- The handshake is whole, and is answered with this. The messages are those after it, before the
 -- tail.
 pub record Gets (width height : ℕ) (name stream : List ℕ) (messages : List ClientMessage) (said tail : List ℕ) : Type 0 where
   pub rest : List ℕ
@@ -49,7 +49,7 @@ pub record EndsListening (width height : ℕ) (name stream : List ℕ) (messages
   pub gets : Gets width height name stream messages said tail
   pub fault : UnlessMemory f (message_at tail ≡ Bad f)
 
--- Behind the handshake no fault is met but those of the wire.
+-- After the handshake no fault is met but those of the wire.
 abbrev pub Ends : ℕ → ℕ → List ℕ → Option Reader → List ℕ → List ClientMessage → List ℕ → SessionFault → Type 0
 Ends width height name None stream messages said f = EndsInHandshake width height name stream messages said f
 Ends width height name (Some r) stream messages said (faults.Wire f) = EndsListening width height name stream messages said f

@@ -24,31 +24,31 @@ use Rattle.keyed_entries.specs.declared.entry.Stamped.{Stamped}
 use Rattle.keyed_entries.specs.Entry.{IsStampedOf}
 use Rattle.replay.specs.Screens.{IsScreenAt}
 use Rattle.replay.specs.declared.slice.Slice.{Slice}
-use Rattle.place_sets.specs.Places.{PlaceSet, holds, AreJust, HasNone, AreSent}
-use Rattle.place_sets.specs.Places as sets
+use Rattle.pixel_sets.specs.Pixels.{PixelSet, holds, AreJust, HasNone, AreSent}
+use Rattle.pixel_sets.specs.Pixels as sets
 use Rattle.viewer_session.specs.declared.copies.KeptCopy.{KeptCopy}
 use Rattle.viewer_session.specs.declared.view.View.{View}
 use Rattle.viewer_session.specs.Copies.{source, IsPart, IsCopyWithin, ShowsSource, is_copied, copy_asked}
 
--- The place is stale: the viewer may not show its colour.
+-- The pixel is stale: the viewer may not show its colour.
 abbrev pub stale_at : View → ℕ → ℕ → Bool
 stale_at v x y = holds v.stale x y
 
--- just the places that pass this test are stale
+-- just the pixels that pass this test are stale
 abbrev pub AreStale : View → (ℕ → ℕ → Bool) → Type 0
 AreStale v p = (x y : ℕ) → x < v.screen.width → y < v.screen.height → stale_at v x y ≡ p x y
 
 -- The right view, of a viewer's picture and a list of messages: the session's screen is what the
 -- messages before its position paint, and the viewer has the screen's colour, in its own format, at
--- each place that isn't stale. Where a copy is kept, the viewer has at the places that are copied
--- what the screen has, in that format, at those that they are copied to.
+-- each pixel that isn't stale. If a copy is kept, the viewer has at the pixels that are copied what
+-- the screen has, in that format, at those that they are copied to.
 pub record IsRight (head : Head) (v : View) (seen : Picture) (messages : List Stamped) : Type 0 where
   pub shows : IsScreenAt head messages v.position v.screen
   pub converts : (x y : ℕ) → x < v.screen.width → y < v.screen.height → stale_at v x y ≡ false
       → seen x y ≡ converted v.format (color_at v.screen x y)
   pub copied : IfSome v.copy (ShowsSource v.format v.screen seen)
 
--- a copy that is kept lies on the screen, and is to stale places
+-- a copy that is kept lies on the screen, and is to stale pixels
 pub record IsKept (v : View) (c : KeptCopy) : Type 0 where
   pub within : IsCopyWithin v.screen.width v.screen.height c
   pub stale : (x y : ℕ) → is_in c.area x y ≡ true → stale_at v x y ≡ true
@@ -63,7 +63,7 @@ pub record IsSound (v : View) : Type 0 where
 
 -- ---- what comes of the recording
 
--- a rectangle covers the place
+-- a rectangle covers the pixel
 abbrev pub is_touched : List Rectangle → ℕ → ℕ → Bool
 is_touched [] x y = false
 is_touched (r ∷ rs) x y = is_in r.area x y || is_touched rs x y
@@ -77,7 +77,7 @@ abbrev pub is_there : {X : Type 0} → Option X → Bool
 is_there None = false
 is_there (Some x) = true
 
--- a start makes each place stale, and a painted rectangle its places
+-- a start makes each pixel stale, and a painted rectangle its pixels
 abbrev pub is_stale_after : Slice → ℕ → ℕ → Bool
 is_stale_after slice x y = is_there slice.start || is_touched_by slice.messages.items x y
 
@@ -88,7 +88,7 @@ pub record IsNext (v : View) (slice : Slice) : Type 0 where
   pub joined : slice.start ≡ None → slice.first ≡ v.position
   pub counted : slice.first + length slice.messages.items < 2 ^ 64
 
--- the copy that a rectangle makes, whose data these are: it is of some places
+-- the copy that a rectangle makes, whose data these are: it is of some pixels
 pub record IsCopyBy (r : Rectangle) (bytes : List ℕ) (c : KeptCopy) : Type 0 where
   pub encoding : r.encoding ≡ encodings.CopyRect
   pub area : c.area ≡ r.area
@@ -96,22 +96,22 @@ pub record IsCopyBy (r : Rectangle) (bytes : List ℕ) (c : KeptCopy) : Type 0 w
   pub across : 0 < r.area.w
   pub down : 0 < r.area.h
 
--- A viewer that takes copies, and hasn't asked for what it may have already, may be sent it in place
--- of what the rectangle paints: no place that is copied is stale before.
+-- A viewer that takes copies, and hasn't asked for what it may have already, may be sent it instead
+-- of what the rectangle paints: no pixel that is copied is stale before.
 pub record CanBeKept (v : View) (r : Rectangle) (bytes : List ℕ) (c : KeptCopy) : Type 0 where
   pub is : IsCopyBy r bytes c
   pub takes : v.takes_copies ≡ true
   pub asked : v.asked_whole ≡ false
   pub clean : HasNone v.stale (source c)
 
--- the areas have a place in common
+-- the areas have a pixel in common
 pub record Meet (one other : Area) : Type 0 where
   pub x : ℕ
   pub y : ℕ
   pub in_one : is_in one x y ≡ true
   pub in_other : is_in other x y ≡ true
 
--- The copy that was kept is kept on: the rectangle meets none of the places that it goes to.
+-- The copy that was kept is kept on: the rectangle meets none of the pixels that it goes to.
 pub record KeepsOn (old : Option KeptCopy) (area : Area) (new : Option KeptCopy) : Type 0 where
   pub copy : KeptCopy
   pub old_is : old ≡ Some copy
@@ -127,7 +127,7 @@ pub record KeepsOwn (v : View) (r : Rectangle) (bytes : List ℕ) (new : Option 
 abbrev pub IsKeptAfter : View → Rectangle → List ℕ → Option KeptCopy → Type 0
 IsKeptAfter v r bytes new = KeepsOn v.copy r.area new ⊎ KeepsOwn v r bytes new
 
--- A view paints a rectangle of a message's bytes, and its places are stale.
+-- A view paints a rectangle of a message's bytes, and its pixels are stale.
 pub record IsPainted (old new : View) (bytes : List ℕ) (r : Rectangle) : Type 0 where
   pub size : SameSize old.screen new.screen
   pub painted : Has new.screen (painted_rectangle bytes r (color_at old.screen))
@@ -136,7 +136,7 @@ pub record IsPainted (old new : View) (bytes : List ℕ) (r : Rectangle) : Type 
   pub copy : IsKeptAfter old r (slice_range bytes r.start r.end) new.copy
   pub kept : new ≡ record old { screen = new.screen; stale = new.stale; copy = new.copy }
 
--- rectangles, one behind another
+-- rectangles, one after another
 abbrev pub ArePainted : List ℕ → View → View → List Rectangle → Type 0
 ArePainted bytes old new [] = new ≡ old
 ArePainted bytes old new (r ∷ rs) = (v : View) × IsPainted old v bytes r × ArePainted bytes v new rs
@@ -146,8 +146,8 @@ abbrev pub AreAllPainted : View → View → List Stamped → Type 0
 AreAllPainted old new [] = new ≡ old
 AreAllPainted old new (m ∷ ms) = (v : View) × ArePainted m.message.bytes old v m.message.rectangles × AreAllPainted v new ms
 
--- A view begins at a slice's start, with no copy and all places stale; or goes on from its own screen.
--- It is then to stand at this position.
+-- A view begins at a slice's start, with no copy and all pixels stale; or goes on from its own
+-- screen. It is then to stand at this position.
 pub record Starts (old new : View) (start : Framebuffer) (end : ℕ) : Type 0 where
   pub stale : AreStale new (λ x y. true)
   pub kept : new ≡ record old { screen = start; stale = new.stale; started = true; copy = None; position = end }
@@ -164,22 +164,22 @@ pub record GoesOn (old new : View) (slice : Slice) : Type 0 where
 
 -- ---- what is answered
 
--- the place is asked for
+-- the pixel is asked for
 abbrev pub is_pending : Option Area → ℕ → ℕ → Bool
 is_pending None x y = false
 is_pending (Some area) x y = is_in area x y
 
--- what is left of an area that is asked for: its places that are on the screen
+-- what is left of an area that is asked for: its pixels that are on the screen
 abbrev pub is_left : ℕ → ℕ → Area → ℕ → ℕ → Bool
 is_left width height area x y = is_in area x y && (nat_lt x width && nat_lt y height)
 
 -- What is pending once an area was asked for: the smallest area that holds what was pending and
--- what is left of this one; and what was pending, where nothing is left.
+-- what is left of this one; and what was pending, if nothing is left.
 pub record IsWidened (left : ℕ → ℕ → Bool) (old new : Option Area) : Type 0 where
   pub some : (x y : ℕ) → left x y ≡ true → IsSmallestOf (λ a b. is_pending old a b || left a b) new
   pub none : ((x y : ℕ) → left x y ≡ true → ⊥) → new ≡ old
 
--- Some place passes the test of what the viewer asks for whole: the kept copy is dropped.
+-- Some pixel passes the test of what the viewer asks for whole: the kept copy is dropped.
 pub record AsksWhole (whole : ℕ → ℕ → Bool) (new : View) : Type 0 where
   pub x : ℕ
   pub y : ℕ
@@ -196,7 +196,7 @@ pub record AsksChanges (whole : ℕ → ℕ → Bool) (old new : View) : Type 0 
 abbrev pub Asks : (ℕ → ℕ → Bool) → View → View → Type 0
 Asks whole old new = AsksWhole whole new ⊎ AsksChanges whole old new
 
--- A request is taken: without the flag incremental its places are stale, and the area that is asked
+-- A request is taken: without the flag incremental its pixels are stale, and the area that is asked
 -- for is asked for whole.
 pub record IsAsked (old new : View) (incremental : Bool) (area : Area) : Type 0 where
   pub stale : AreStale new (λ x y. (not incremental && is_left old.screen.width old.screen.height area x y) || stale_at old x y)
@@ -204,7 +204,7 @@ pub record IsAsked (old new : View) (incremental : Bool) (area : Area) : Type 0 
   pub whole : Asks (λ x y. not incremental && is_left old.screen.width old.screen.height area x y) old new
   pub kept : new ≡ record old { stale = new.stale; pending = new.pending; asked_whole = new.asked_whole; copy = new.copy }
 
--- A format is taken: all places are stale, and no copy is kept.
+-- A format is taken: all pixels are stale, and no copy is kept.
 pub record IsReformatted (old new : View) (f : Format) : Type 0 where
   pub stale : AreStale new (λ x y. true)
   pub kept : new ≡ record old { format = f; stale = new.stale; copy = None }
@@ -213,8 +213,8 @@ pub record IsReformatted (old new : View) (f : Format) : Type 0 where
 abbrev pub takes_copies : List ℤ → Bool
 takes_copies numbers = list_any (λ n. int_eq n (pos 1)) numbers
 
--- Encodings are taken: updates are in the first that is known, and in Raw where none is; copies are
--- sent where CopyRect is among them. No copy is kept.
+-- Encodings are taken: updates are in the first that is known, and in Raw if none is; copies are
+-- sent if CopyRect is among them. No copy is kept.
 pub record IsReencoded (old new : View) (numbers : List ℤ) : Type 0 where
   pub given : StandsFirst numbers new.encoding ⊎ (All IsOther numbers × (new.encoding ≡ encodings.Raw))
   pub kept : new ≡ record old { encoding = new.encoding; takes_copies = takes_copies numbers; copy = None }
@@ -226,12 +226,12 @@ IsTaken old new (messages.SetEncodings numbers) = IsReencoded old new numbers
 IsTaken old new (messages.Request incremental x y w h) = IsAsked old new incremental (record { x = x; y = y; w = w; h = h })
 IsTaken old new (messages.Input kind) = new ≡ old
 
--- what messages change, one behind another
+-- what messages change, one after another
 abbrev pub AreTaken : View → View → List ClientMessage → Type 0
 AreTaken old new [] = new ≡ old
 AreTaken old new (m ∷ ms) = (v : View) × IsTaken old v m × AreTaken v new ms
 
--- An update is due: a start has come, and a place that is asked for is stale.
+-- An update is due: a start has come, and a pixel that is asked for is stale.
 pub record IsDue (v : View) : Type 0 where
   pub started : v.started ≡ true
   pub x : ℕ
@@ -239,23 +239,23 @@ pub record IsDue (v : View) : Type 0 where
   pub asked : is_pending v.pending x y ≡ true
   pub stale : stale_at v x y ≡ true
 
--- the copy with which an update begins: the kept one, where all places that it goes to are asked for
+-- the copy with which an update begins: the kept one, if all pixels that it goes to are asked for
 abbrev pub copy_due : View → Option KeptCopy
 copy_due v = copy_asked v.copy v.pending
 
--- a set without the places that a copy goes to
-pub record IsWithout (copy : Option KeptCopy) (old new : PlaceSet) : Type 0 where
+-- a set without the pixels that a copy goes to
+pub record IsWithout (copy : Option KeptCopy) (old new : PixelSet) : Type 0 where
   pub size : sets.SameSize old new
   pub just : AreJust new (λ x y. holds old x y && not (is_copied copy x y))
 
--- An update is due, and these are the areas by which the stale places are sent that are asked for,
+-- An update is due, and these are the areas by which the stale pixels are sent that are asked for,
 -- but for those of a copy that is sent before: of each tile that has some the smallest that holds
--- those, or one for all where there would be too many.
+-- those, or one for all if there would be too many.
 pub record AreDueIn (v : View) (areas : List Area) : Type 0 where
   pub due : IsDue v
   pub pending : Area
   pub pending_is : v.pending ≡ Some pending
-  pub left : PlaceSet
+  pub left : PixelSet
   pub left_is : IsWithout (copy_due v) v.stale left
   pub sent : AreSent left pending areas
 
@@ -265,14 +265,14 @@ pub record AreConverted (f : Format) (screen : Framebuffer) (area : Area) (color
   pub within : All (IsWithin f) colors
   pub value : (x y : ℕ) → x < area.w → y < area.h → rows_of colors area.w x y ≡ converted f (color_at screen (area.x + x) (area.y + y))
 
--- one of the rectangles of an update covers the place
+-- one of the rectangles of an update covers the pixel
 abbrev pub is_covered : List Drawn → ℕ → ℕ → Bool
 is_covered [] x y = false
 is_covered (d ∷ ds) x y = is_in d.area x y || is_covered ds x y
 
 -- An update answers what is asked for. A viewer reads it, in its format, as rectangles that lie in
--- the pending area and cover the stale places there. Those that they cover are clean afterwards, and
--- no others. Once the viewer has painted them its view is right if it was before, and shows the
+-- the pending area and cover the stale pixels there. Those that they cover are clean afterwards,
+-- and no others. Once the viewer has painted them its view is right if it was before, and shows the
 -- converted screen in the whole area that was asked for.
 pub record Answers (old new : View) (update : List ℕ) : Type 0 where
   pub drawn : List Drawn

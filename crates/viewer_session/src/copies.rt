@@ -1,17 +1,18 @@
-//! A copy that a viewer can be sent in place of colours.
+//! A copy that a viewer can be sent instead of colours.
 
 ghost use Rattle.std.specs.Prelude.{◌≡◌, ◌||◌, ◌&&◌, not, pos, IfSome, None, length};
 ghost use Rattle.std.specs.List.{list_any};
 ghost use Rattle.rect_data.specs.Data.{LiesWithin};
 ghost use Rattle.rect_data.specs.Grammar.{source_of};
-ghost use Rattle.place_sets.specs.Places.{holds, AreJust, SameSize};
+ghost use Rattle.pixel_sets.specs.Pixels.{holds, AreJust, SameSize};
 ghost use Rattle.viewer_session.specs.Copies.{source, is_copied, lies_in};
 
-use place_sets::Places;
+use pixel_sets::Pixels;
 use rect_data::source_at;
 use terms::Area;
 
-/// Places that a viewer can copy from others, which it shows as it should (RFC 6143, section 7.7.2).
+/// Pixels that a viewer can copy from others, which it shows as it should (RFC 6143, section
+/// 7.7.2).
 #[derive(Clone, Copy)]
 pub struct KeptCopy {
     /// What it is copied to.
@@ -57,8 +58,8 @@ pub fn lies_in(area: Area, outer: Area) -> bool
     (outer.x <= area.x && right) && (outer.y <= area.y && bottom)
 }
 
-/// Takes the places that a copy goes to out of a set, if there is a copy.
-pub fn take_out(stale: &mut Places, copy: Option<KeptCopy>)
+/// Takes the pixels that a copy goes to out of a set, if there is a copy.
+pub fn take_out(stale: &mut Pixels, copy: Option<KeptCopy>)
     requires { IfSome copy (λ c. LiesWithin stale.old.width stale.old.height c.area) }
     ensures size { SameSize stale.old stale.new }
     ensures just { AreJust stale.new (λ x y. holds stale.old x y && not (is_copied copy x y)) }
@@ -70,7 +71,7 @@ pub fn take_out(stale: &mut Places, copy: Option<KeptCopy>)
 }
 
 /// Puts them into the set.
-pub fn put_back(stale: &mut Places, copy: Option<KeptCopy>)
+pub fn put_back(stale: &mut Pixels, copy: Option<KeptCopy>)
     requires { IfSome copy (λ c. LiesWithin stale.old.width stale.old.height c.area) }
     ensures size { SameSize stale.old stale.new }
     ensures just { AreJust stale.new (λ x y. is_copied copy x y || holds stale.old x y) }

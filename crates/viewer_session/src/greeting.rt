@@ -43,7 +43,7 @@ fn write_length(count: u32, out: &mut Vec<u8>) -> Result<(), NoMemory>
     Ok(())
 }
 
-// Appends ServerInit, or a part of it where memory runs out.
+// Appends ServerInit, or a part of it if memory runs out.
 fn write_server_init(size: ScreenSize, name: &[u8], out: &mut Vec<u8>) -> Result<(), NoMemory>
     requires { length name.now < 2 ^ 32 }
     ensures { OnOk result (out.new.items ≡ out.old.items ++ server_init size.width size.height name.now) }
@@ -75,7 +75,7 @@ impl Greeting {
         }
     }
 
-    /// Takes a piece, up to the handshake's end. Where that is whole now, answers how many bytes of
+    /// Takes a piece, up to the handshake's end. If that is whole now, answers how many bytes of
     /// the piece it took.
     pub fn hear(&mut self, piece: &[u8]) -> Result<Option<usize>, SessionFault>
         requires sound { IsSoundGreeting self.old }
@@ -95,8 +95,7 @@ impl Greeting {
         Ok(None)
     }
 
-    // Appends all that the handshake is answered with so far, or a part of it where memory runs
-    // out.
+    // Appends all that the handshake is answered with so far, or a part of it if memory runs out.
     fn write_said(&self, out: &mut Vec<u8>) -> Result<(), NoMemory>
         requires { IsSoundGreeting self.now }
         ensures { OnOk result (out.new.items ≡ out.old.items ++ said_by self.now) }

@@ -55,7 +55,7 @@ pub fn stage_of(heard: &[u8]) -> Stage
     Stage::Whole
 }
 
-/// All that a viewer is told up to a stage, but for ServerInit, which stands behind it.
+/// All that a viewer is told up to a stage, but for ServerInit, which follows it.
 pub fn greeting(stage: Stage) -> &'static [u8]
     ensures { result.now ≡ greeting_of stage }
 {

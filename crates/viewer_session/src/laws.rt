@@ -21,14 +21,14 @@ pub fn any_cut_gives_the_same()
         → (messages ≡ others) × (told ++ s.due ≡ put ++ t.due) }
 {}
 
-/// No session goes on behind a stream in which another one is stopped, unless memory ran out.
+/// No session goes on after a stream in which another one is stopped, unless memory ran out.
 pub fn a_refused_stream_is_not_followed()
     ensures { (s t : Session) → (stream told put : List ℕ) → (messages others : List ClientMessage)
         → (f : SessionFault) → AreAlike s t → IsAfter s stream messages told
         → IsStopped t stream others put f → f ≡ faults.Wire wire.NoMemory }
 {}
 
-/// A stream is refused with one fault, also where more of it has come. Two sessions of one size and
+/// A stream is refused with one fault, also if more of it has come. Two sessions of one size and
 /// name that were stopped in it, however it was cut, have taken the same messages before the fault,
 /// and put out or owe the same bytes of the handshake; but for those of which memory ran out.
 pub fn one_refusal()

@@ -1,4 +1,4 @@
-//! What a viewer of a recording sees: the screen at a position, the places that it lacks, and the
+//! What a viewer of a recording sees: the screen at a position, the pixels that it lacks, and the
 //! updates that answer what it asks for (RFC 6143).
 #![tactic(auto)]
 

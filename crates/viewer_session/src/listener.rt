@@ -9,14 +9,14 @@ use crate::greeting::Greeting;
 use client_wire::{ClientMessage, ClientReader};
 use std::alloc::Global;
 
-/// Where a session stands in the stream: in the handshake, or behind it.
+/// How far a session is in the stream: in the handshake, or after it.
 #[derive(Drop)]
 pub struct Listener {
     pub greeting: Greeting,
     pub reader: Option<ClientReader>,
 }
 
-// Takes a piece of the messages behind the handshake.
+// Takes a piece of the messages after the handshake.
 fn listen(
     reader: &mut ClientReader,
     piece: &[u8],

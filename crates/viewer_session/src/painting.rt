@@ -52,8 +52,8 @@ impl View {
         Some(copy)
     }
 
-    // Paints the rectangle of this number of a message, and makes its places stale. Whether it makes
-    // a copy is asked before.
+    // Paints the rectangle of this number of a message, and makes its pixels stale. Whether it
+    // makes a copy is asked before.
     fn paint_rectangle(&mut self, message: &HostMessage, number: usize)
         requires sound { IsSound self.old }
         requires width { message.now.width ≡ self.old.screen.width }

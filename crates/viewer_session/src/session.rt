@@ -59,8 +59,8 @@ impl Model for Session {
 }
 
 impl Session {
-    /// A session at the start of a viewer's stream, for a screen of this size, in places, and a
-    /// name: black, before the first message, in the host format and Raw, with all places stale.
+    /// A session at the start of a viewer's stream, for a screen of this size, in pixels, and a
+    /// name: black, before the first message, in the host format and Raw, with all pixels stale.
     pub fn new(alloc: Global, size: ScreenSize, name: &[u8]) -> Result<Session, NoMemory>
         requires { length name.now < 2 ^ 32 }
         ensures after { IfOk result (λ s. IsAfter s [] [] []) }
@@ -115,8 +115,7 @@ impl Session {
 
     /// Takes the next piece of the viewer's stream, and what its messages ask for. A fault is
     /// answered at the last byte of the field that holds it, once the messages before it are taken;
-    /// from then on each call answers the same fault and does nothing else, also where memory ran
-    /// out.
+    /// from then on each call answers the same fault and does nothing else, also if memory ran out.
     pub fn feed(&mut self, piece: &[u8]) -> Result<(), SessionFault>
         ensures goes { OnOk result (Takes self.old self.new piece.now) }
         ensures faults { IfErr result (λ f. self.old.fault ≡ None → StopsIn self.old self.new piece.now f) }
@@ -131,9 +130,9 @@ impl Session {
         }
         let mut rest = piece;
         'parts: while !rest.is_empty() {
-            let (part, behind) = rest.split_at(rest.len().min(PART));
+            let (part, following) = rest.split_at(rest.len().min(PART));
             self.feed_part(part)?;
-            rest = behind;
+            rest = following;
         }
         Ok(())
     }
@@ -184,10 +183,10 @@ impl Session {
     }
 
     /// Appends the handshake's answers that are due, each byte once, and then the update that is
-    /// due, whose places are taken as clean: a rectangle that copies, where a copy is kept all of
-    /// whose places are asked for; and one for each tile of 16 by 16 with other stale places that
-    /// are asked for, or one for all where there would be more than 4,096, each in the encoding
-    /// that the viewer asked for or in Raw. Running out of memory changes nothing. After a fault it
+    /// due, whose pixels are taken as clean: a rectangle that copies, if a copy is kept all of
+    /// whose pixels are asked for; and one for each tile of 16 by 16 with other stale pixels that
+    /// are asked for, or one for all if there would be more than 4,096, each in the encoding that
+    /// the viewer asked for or in Raw. Running out of memory changes nothing. After a fault it
     /// still gives what was due.
     pub fn answer(&mut self, out: &mut Vec<u8>) -> Result<(), NoMemory>
         ensures due { OnOk result (IsDue self.old.view
@@ -219,7 +218,7 @@ impl Session {
         Ok(())
     }
 
-    /// Ends the session: from now on `feed` answers `Closed`, where it met no fault before.
+    /// Ends the session: from now on `feed` answers `Closed`, if it met no fault before.
     pub fn close(&mut self)
         ensures { self.new ≡ record self.old { fault = Some (closed_by self.old.fault) } }
     {

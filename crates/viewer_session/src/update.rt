@@ -13,7 +13,7 @@ use rect_data::Encoding;
 use std::alloc::Global;
 use terms::{Area, NoMemory};
 
-// The parts of an update of a copy, if there is one, and of these areas behind it.
+// The parts of an update of a copy, if there is one, and of these areas after it.
 fn parts_of(
     alloc: Global,
     copy: Option<KeptCopy>,
@@ -31,7 +31,7 @@ fn parts_of(
         })?;
     }
     for area in areas {
-        parts.push(ScreenPart::Places {
+        parts.push(ScreenPart::Region {
             area: *area,
             encoding,
         })?;
@@ -39,7 +39,7 @@ fn parts_of(
     Ok(parts)
 }
 
-/// Appends an update of a copy, if there is one, and of these areas of a screen behind it, in their
+/// Appends an update of a copy, if there is one, and of these areas of a screen after it, in their
 /// order, for one who takes this format and asked for this encoding. Running out of memory leaves
 /// `out` as it was.
 pub fn write_areas(

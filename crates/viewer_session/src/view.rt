@@ -20,7 +20,7 @@ use crate::update::write_areas;
 use client_wire::ClientMessage;
 use painter::Screen;
 use pixel_format::PixelFormat;
-use place_sets::Places;
+use pixel_sets::Pixels;
 use rect_codec::{pick, written_parts_are_read};
 use rect_data::Encoding;
 use replay::Slice;
@@ -42,15 +42,15 @@ pub struct View {
     pub position: u64,
     /// Whether a start has come.
     pub started: bool,
-    /// The places whose colours the viewer may not show.
-    pub stale: Places,
+    /// The pixels whose colours the viewer may not show.
+    pub stale: Pixels,
     /// The area that it asks for, if any.
     pub pending: Option<Area>,
     /// Whether some of that is to be sent whatever the viewer has.
     pub asked_whole: bool,
     /// Whether the viewer takes rectangles that copy.
     pub takes_copies: bool,
-    /// The places that it can copy from others, if any.
+    /// The pixels that it can copy from others, if any.
     pub copy: Option<KeptCopy>,
 }
 
@@ -89,7 +89,7 @@ impl View {
             screen: Screen::black(alloc, size)?,
             position: 0,
             started: false,
-            stale: Places::all(alloc, size)?,
+            stale: Pixels::all(alloc, size)?,
             pending: None,
             asked_whole: false,
             takes_copies: false,
@@ -97,7 +97,7 @@ impl View {
         })
     }
 
-    // Begins on a slice, from its start or from where the screen stands. It is then to stand at the
+    // Begins on a slice, from its start or from the screen's position. It is then to stand at the
     // slice's end.
     fn begin(&mut self, slice: &Slice)
         requires sound { IsSound self.old }
@@ -116,7 +116,7 @@ impl View {
         self.position = slice.end();
     }
 
-    /// Goes on by a slice, from its start or from where the screen stands. It takes no memory.
+    /// Goes on by a slice, from its start or from the screen's position. It takes no memory.
     pub fn advance(&mut self, slice: &Slice)
         requires sound { IsSound self.old }
         requires next { IsNext self.old slice.now }
@@ -137,7 +137,7 @@ impl View {
         self.paint_all(&slice.messages);
     }
 
-    // The copy with which an update begins, if any: all places that it goes to are asked for.
+    // The copy with which an update begins, if any: all pixels that it goes to are asked for.
     fn copy_due(&self, pending: Area) -> Option<KeptCopy>
         ensures { result ≡ copy_in self.now.copy pending }
     {
@@ -148,8 +148,8 @@ impl View {
         Some(copy)
     }
 
-    // Appends an update of a copy, if there is one, and of the stale places of an area, and answers
-    // by which areas; nothing where there is neither.
+    // Appends an update of a copy, if there is one, and of the stale pixels of an area, and answers
+    // by which areas; nothing if there is neither.
     fn send(
         &self,
         alloc: Global,
@@ -181,11 +181,11 @@ impl View {
         Ok(Some(areas))
     }
 
-    /// Appends the update that is due, and takes its places as clean; nothing where none is due. It
-    /// begins with the kept copy, where all places that this goes to are asked for. It has a
-    /// rectangle for each tile of 16 by 16 with stale places that are asked for, beside those of
-    /// the copy, the smallest that holds those; or one for all, where there would be more than
-    /// 4,096. Running out of memory changes nothing.
+    /// Appends the update that is due, and takes its pixels as clean; nothing if none is due. It
+    /// begins with the kept copy, if all pixels that this goes to are asked for. It has a rectangle
+    /// for each tile of 16 by 16 with stale pixels that are asked for, beside those of the copy,
+    /// the smallest that holds those; or one for all, if there would be more than 4,096. Running
+    /// out of memory changes nothing.
     pub fn answer(&mut self, alloc: Global, out: &mut Vec<u8>) -> Result<(), NoMemory>
         requires sound { IsSound self.old }
         ensures sound { IsSound self.new }
@@ -246,8 +246,8 @@ impl View {
         self.pending = Some(widened(self.pending, area, size));
     }
 
-    /// Takes a message of the viewer. A request is cut to the screen, and dropped where nothing of
-    /// it is left. It takes no memory.
+    /// Takes a message of the viewer. A request is cut to the screen, and dropped if nothing of it
+    /// is left. It takes no memory.
     pub fn take(&mut self, message: ClientMessage)
         requires sound { IsSound self.old }
         ensures sound { IsSound self.new }
@@ -280,7 +280,7 @@ impl View {
     }
 }
 
-/// Takes messages of the viewer, one behind another. It takes no memory.
+/// Takes messages of the viewer, one after another. It takes no memory.
 pub fn take_all(view: &mut View, messages: Vec<ClientMessage>)
     requires { IsSound view.old }
     ensures sound { IsSound view.new }

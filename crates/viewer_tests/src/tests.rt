@@ -28,12 +28,12 @@ const GREEN: [u8; 20] = *b"\0\0\0\x01\0\x01\0\0\0\x01\0\x01\0\0\0\0\0\xff\0\0";
 
 const BOTH: [u8; 24] = *b"\0\0\0\x01\0\0\0\0\0\x02\0\x01\0\0\0\0\0\0\xff\0\0\xff\0\0";
 
-// Red, green and blue; then a copy of the first two places to the last two.
+// Red, green and blue; then a copy of the first two pixels to the last two.
 const THREE: [u8; 28] = *b"\0\0\0\x01\0\0\0\0\0\x03\0\x01\0\0\0\0\0\0\xff\0\0\xff\0\0\xff\0\0\0";
 
 const COPIED: [u8; 20] = *b"\0\0\0\x01\0\x01\0\0\0\x02\0\x01\0\0\0\x01\0\0\0\0";
 
-// A request for the first place.
+// A request for the first pixel.
 const FIRST: [u8; 10] = *b"\x03\0\0\0\0\0\0\x01\0\x01";
 
 // A session, boxed, so that a test that ends early doesn't take it apart.
@@ -57,7 +57,7 @@ fn painted_once(alloc: Global, width: u16, update: &[u8]) -> Result<Screen, Fail
     Ok(screen)
 }
 
-// A session behind its handshake, whose start was painted by one update.
+// A session after its handshake, whose start was painted by one update.
 fn started(alloc: Global, width: u16, update: &[u8]) -> Result<Box<Session>, Fail>
     ensures position { IfOk result (λ s. s.value.view.position ≡ 1) }
     ensures width { IfOk result (λ s. s.value.view.screen.width ≡ width) }
@@ -129,8 +129,8 @@ fn handshakes(rt: HostRuntime) -> Result<(), Fail> {
     Ok(())
 }
 
-// A message of an unknown type behind a request, a format without colours, and an end: what was asked
-// for before is answered all the same.
+// A message of an unknown type after a request, a format without colours, and an end: what was
+// asked for before is answered all the same.
 #[test]
 fn faults(rt: HostRuntime) -> Result<(), Fail> {
     let alloc = rt.alloc();
@@ -163,8 +163,8 @@ fn answered_in_row(alloc: Global, width: u8, lists: &[u8]) -> Result<Vec<u8>, Fa
     put_out(alloc, &mut session)
 }
 
-// The encoding of the rectangle: with no list, and an empty one; with Raw, RRE and Hextile first; with
-// unknown ones in front; with CopyRect alone, and in front; and with one list behind another.
+// The encoding of the rectangle: with no list, and an empty one; with Raw, RRE and Hextile first;
+// with unknown ones in front; with CopyRect alone, and in front; and with one list after another.
 #[test]
 fn encodings(rt: HostRuntime) -> Result<(), Fail> {
     let rows: [(&[u8], u8); 9] = [
@@ -186,7 +186,7 @@ fn encodings(rt: HostRuntime) -> Result<(), Fail> {
     Ok(())
 }
 
-// Seventeen columns stand in two tiles: a rectangle for each, and the second one behind 80 bytes.
+// Seventeen columns stand in two tiles: a rectangle for each, and the second one after 80 bytes.
 #[test]
 fn tiles(rt: HostRuntime) -> Result<(), Fail> {
     let answer = answered_in_row(rt.alloc(), 17, b"")?;
@@ -213,7 +213,7 @@ fn go_on(alloc: Global, session: &mut Session, width: u16, update: &[u8]) -> Res
     Ok(())
 }
 
-// The copy of two of three places, for one who takes copies, and else the colours.
+// The copy of two of three pixels, for one who takes copies, and else the colours.
 #[test]
 fn copies(rt: HostRuntime) -> Result<(), Fail> {
     let alloc = rt.alloc();

@@ -11,7 +11,7 @@ pub enum AfterFailure {
     End,
 }
 
-/// What follows where the device failed for a viewer: one that is shown the recording as it grows
+/// What follows when the device failed for a viewer: one that is shown the recording as it grows
 /// goes on at the newest screen, unless that was tried since it was last handed something.
 pub fn after_failure(is_live: bool, was_tried: bool) -> AfterFailure
     ensures newest { is_live ≡ true → was_tried ≡ false → result ≡ AfterFailure.Newest }

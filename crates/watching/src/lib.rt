@@ -3,11 +3,11 @@
 
 mod failure;
 mod live;
-mod place;
 mod played;
+mod viewing;
 mod watching;
 
 pub use live::Live;
-pub use place::Place;
 pub use played::Played;
+pub use viewing::Viewing;
 pub use watching::{Guide, Watching};

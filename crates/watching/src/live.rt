@@ -1,6 +1,6 @@
 //! A recording that is shown as it grows.
 
-use crate::place::Place;
+use crate::viewing::Viewing;
 use crate::watching::Guide;
 use broadcast::Start;
 use connections::Room;
@@ -13,12 +13,12 @@ use std::time::Clock;
 /// How many messages a viewer takes at a time: all that a block has, so that a block is read once.
 pub const LIMIT: u32 = 256;
 
-/// A live viewer that is more messages behind than this goes on at the newest screen.
+/// A live viewer that lags by more messages than this goes on at the newest screen.
 const FAR: u64 = 64;
 
-/// Shows the recording as it grows. A live viewer that is behind, and is sent the whole screen next
-/// whatever comes, goes on at the newest screen once it asks: what lies between isn't read for it. A
-/// viewer that begins behind a message is shown each message that was committed before it came, as
+/// Shows the recording as it grows. A live viewer that lags, and is sent the whole screen next
+/// whatever comes, goes on at the newest screen once it asks: what lies between isn't read for it.
+/// A viewer that begins after a message is shown each message that was committed before it came, as
 /// fast as it asks, and is a live one from there on.
 #[derive(Drop)]
 pub struct Live {
@@ -42,8 +42,8 @@ impl Live {
         }
     }
 
-    // How many messages are taken next: no more than up to where the viewer begins, so that it is
-    // shown just that screen first; then one by one, as far as it is shown each.
+    // How many messages are taken next: no more than up to the position at which the viewer begins,
+    // so that it is shown just that screen first; then one by one, as far as it is shown each.
     fn limit(&self, position: u64, is_fresh: bool) -> u32 {
         match self.start {
             Start::At(_) if is_fresh => 0,
@@ -60,7 +60,7 @@ impl Live {
         self.each_until <= position
     }
 
-    // Whether the viewer is shown the message behind this position by itself, once it has asked.
+    // Whether the viewer is shown the message at this position by itself, once it has asked.
     fn shows_each(&self, position: u64) -> bool {
         match self.start {
             Start::Live => false,
@@ -71,50 +71,50 @@ impl Live {
     // Whether the viewer, which lacks so many messages, goes on at the newest screen.
     fn goes_to_newest<M: Mark, C: Connection, R: Clock + Wait>(
         &self,
-        place: &Place<'_, M, C, R>,
+        viewing: &Viewing<'_, M, C, R>,
         missing: u64,
     ) -> bool {
-        if place.is_fresh {
+        if viewing.is_fresh {
             return self.start == Start::Live;
         }
-        self.follows(place.position)
-            && (missing > FAR || (missing > 0 && place.waits_for_whole_screen()))
+        self.follows(viewing.position)
+            && (missing > FAR || (missing > 0 && viewing.waits_for_whole_screen()))
     }
 }
 
 impl<M: Mark, C: Connection, R: Clock + Wait> Guide<M, C, R> for Live {
-    fn wish(&mut self, place: &Place<'_, M, C, R>) -> ViewerWish {
-        if place.is_at_end {
-            place.rest();
+    fn wish(&mut self, viewing: &Viewing<'_, M, C, R>) -> ViewerWish {
+        if viewing.is_at_end {
+            viewing.rest();
             return ViewerWish::Stop;
         }
-        if !place.is_fresh && self.shows_each(place.position) {
-            place.wait_until_asked();
+        if !viewing.is_fresh && self.shows_each(viewing.position) {
+            viewing.wait_until_asked();
         }
         // The rest is shown to a viewer that stays, unless nothing new comes or there is no memory.
-        let is_waited_for = !place.room.is_alone && !place.is_short;
-        if place.viewer.has_left() || (!is_waited_for && place.is_closing()) {
+        let is_waited_for = !viewing.room.is_alone && !viewing.is_short;
+        if viewing.viewer.has_left() || (!is_waited_for && viewing.is_closing()) {
             return ViewerWish::Stop;
         }
-        if place.has_failed {
+        if viewing.has_failed {
             return ViewerWish::Newest;
         }
-        let missing = place.room.committed().saturating_sub(place.position);
-        if self.goes_to_newest(place, missing) {
+        let missing = viewing.room.committed().saturating_sub(viewing.position);
+        if self.goes_to_newest(viewing, missing) {
             ViewerWish::Newest
-        } else if place.is_fresh || self.has_waited || missing > 0 {
-            ViewerWish::Want(self.limit(place.position, place.is_fresh))
+        } else if viewing.is_fresh || self.has_waited || missing > 0 {
+            ViewerWish::Want(self.limit(viewing.position, viewing.is_fresh))
         } else {
             self.has_waited = true;
             ViewerWish::Wait
         }
     }
 
-    fn is_live(&self, place: &Place<'_, M, C, R>) -> bool {
-        self.follows(place.position)
+    fn is_live(&self, viewing: &Viewing<'_, M, C, R>) -> bool {
+        self.follows(viewing.position)
     }
 
-    fn hold(&mut self, _place: &Place<'_, M, C, R>, _slice: &Slice) {
+    fn hold(&mut self, _place: &Viewing<'_, M, C, R>, _slice: &Slice) {
         self.has_waited = false;
     }
 }

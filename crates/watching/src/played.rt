@@ -1,7 +1,7 @@
 //! A recording that is shown in its own time.
 
 use crate::live::LIMIT;
-use crate::place::Place;
+use crate::viewing::Viewing;
 use crate::watching::Guide;
 use playing::{Program, Timetable};
 use replay::Slice;
@@ -33,7 +33,7 @@ impl Played {
         }
     }
 
-    // How much of so many milliseconds of playing is left; none where they have passed, or the clock
+    // How much of so many milliseconds of playing is left; `None` if they have passed, or the clock
     // can't be read.
     fn left_of<R: Clock>(&self, rt: &R, milliseconds: u64) -> Option<Duration> {
         let played = self.begun?.elapsed(rt).ok()?;
@@ -44,28 +44,28 @@ impl Played {
     // Waits until a message of this time is due, or the playing is cut off.
     fn wait_until_due<M: Mark, C: Connection, R: Clock + Wait>(
         &mut self,
-        place: &Place<'_, M, C, R>,
+        viewing: &Viewing<'_, M, C, R>,
         time: u32,
     ) {
         let due = self.timetable.due(time);
-        for _ in place.rt.forever() {
-            match self.left_of(place.rt, due) {
-                Some(left) if !is_cut_off(place) => place.sleep(left),
+        for _ in viewing.rt.forever() {
+            match self.left_of(viewing.rt, due) {
+                Some(left) if !is_cut_off(viewing) => viewing.sleep(left),
                 _ => return,
             }
         }
     }
 
-    // What is wanted at the end: to begin again, where it is to and there is something to be played.
+    // What is wanted at the end: to begin again, if it is to and there is something to be played.
     fn wish_at_end<M: Mark, C: Connection, R: Clock + Wait>(
         &mut self,
-        place: &Place<'_, M, C, R>,
+        viewing: &Viewing<'_, M, C, R>,
     ) -> ViewerWish {
-        if !self.program.repeats || place.position <= self.program.from {
-            place.rest();
+        if !self.program.repeats || viewing.position <= self.program.from {
+            viewing.rest();
             return ViewerWish::Stop;
         }
-        place.sleep(Duration::from_millis(LAST_SCREEN));
+        viewing.sleep(Duration::from_millis(LAST_SCREEN));
         self.begun = None;
         self.timetable = self.program.timetable();
         ViewerWish::Seek(self.program.from)
@@ -73,44 +73,44 @@ impl Played {
 }
 
 // Whether the playing ends: the viewer has left, or the recorder is closing.
-fn is_cut_off<M: Mark, C: Connection, R: Clock + Wait>(place: &Place<'_, M, C, R>) -> bool {
-    place.viewer.has_left() || place.is_closing()
+fn is_cut_off<M: Mark, C: Connection, R: Clock + Wait>(viewing: &Viewing<'_, M, C, R>) -> bool {
+    viewing.viewer.has_left() || viewing.is_closing()
 }
 
 impl<M: Mark, C: Connection, R: Clock + Wait> Guide<M, C, R> for Played {
-    fn wish(&mut self, place: &Place<'_, M, C, R>) -> ViewerWish {
-        if is_cut_off(place) {
+    fn wish(&mut self, viewing: &Viewing<'_, M, C, R>) -> ViewerWish {
+        if is_cut_off(viewing) {
             return ViewerWish::Stop;
         }
-        if place.is_at_end {
-            return self.wish_at_end(place);
+        if viewing.is_at_end {
+            return self.wish_at_end(viewing);
         }
-        if place.is_fresh {
+        if viewing.is_fresh {
             return ViewerWish::Want(0);
         }
-        if place.position < self.program.from {
-            let left = self.program.from - place.position;
+        if viewing.position < self.program.from {
+            let left = self.program.from - viewing.position;
             return ViewerWish::Want(u32::try_from(left).map_or(LIMIT, |left| left.min(LIMIT)));
         }
         if self.begun.is_none() {
-            self.begun = Instant::now(place.rt).ok();
+            self.begun = Instant::now(viewing.rt).ok();
         }
-        if place.position < place.room.committed() {
+        if viewing.position < viewing.room.committed() {
             ViewerWish::Want(1)
         } else {
             ViewerWish::Wait
         }
     }
 
-    fn is_live(&self, _place: &Place<'_, M, C, R>) -> bool {
+    fn is_live(&self, _place: &Viewing<'_, M, C, R>) -> bool {
         false
     }
 
     // The playing begins once all before its first message was handed over.
-    fn hold(&mut self, place: &Place<'_, M, C, R>, slice: &Slice) {
+    fn hold(&mut self, viewing: &Viewing<'_, M, C, R>, slice: &Slice) {
         if self.begun.is_some() {
             for stamped in &slice.messages {
-                self.wait_until_due(place, stamped.time);
+                self.wait_until_due(viewing, stamped.time);
             }
         }
     }

@@ -21,9 +21,9 @@ pub fn hextile_in_pieces(
         if rest.len() < wants {
             return Err(Measure::NeedMore);
         }
-        let (taken, behind) = stage.run(format, &rest[..wants])?;
+        let (taken, following) = stage.run(format, &rest[..wants])?;
         rest = &rest[taken..];
-        next = behind;
+        next = following;
     }
     Err(Measure::NeedMore)
 }

@@ -13,7 +13,7 @@ pub const WIDTH: u16 = 320;
 /// How many rows a sheet has.
 pub const HEIGHT: u16 = 120;
 
-/// A canvas of 320 by 120 places. It holds the colours of any pixel format.
+/// A canvas of 320 by 120 pixels. It holds the colours of any pixel format.
 #[derive(Drop)]
 pub struct TestCanvas {
     // By rows, from the top and the left.
@@ -39,12 +39,12 @@ impl Canvas for TestCanvas {
     ghost picture = { color_at };
 
     fn fill(&mut self, x: u16, y: u16, w: u16, h: u16, color: Color) {
-        fill_places(&mut self.colors, x, y, w, h, color);
+        fill_slots(&mut self.colors, x, y, w, h, color);
     }
 }
 
-// Gives the places of an area one colour: all places of its rows are looked at.
-fn fill_places(colors: &mut [Color], x: u16, y: u16, w: u16, h: u16, color: Color)
+// Gives the pixels of an area one colour: all pixels of its rows are looked at.
+fn fill_slots(colors: &mut [Color], x: u16, y: u16, w: u16, h: u16, color: Color)
     requires size { length colors.old ≡ 38400 }
     requires columns { x + w ≤ 320 }
     requires rows { y + h ≤ 120 }
@@ -81,7 +81,7 @@ impl TestCanvas {
         }
     }
 
-    /// The colour at a place: column x of row y, counted from 0 at the left and the top.
+    /// The colour of a pixel: column x of row y, counted from 0 at the left and the top.
     pub fn color(&self, x: u16, y: u16) -> Color
         requires column { x < 320 }
         requires row { y < 120 }

@@ -35,8 +35,8 @@ impl From<Untold> for io::Error {
     }
 }
 
-/// What happened, one thing behind the other. Words are compared, so spaces count for nothing but
-/// to part them.
+/// What happened, one thing after the other. Words are compared, so spaces count for nothing but to
+/// part them.
 #[derive(Drop)]
 pub(crate) struct Account {
     pub(crate) alloc: Global,
@@ -52,7 +52,7 @@ impl Account {
         }
     }
 
-    /// Tells what happened, behind a semicolon where it isn't the first.
+    /// Tells what happened, after a semicolon if it isn't the first.
     pub(crate) fn tell(&mut self, told: &str) -> Result<(), NoMemory> {
         let comma = if self.text.is_empty() { "" } else { "; " };
         self.text.push_str(comma)?;
@@ -81,12 +81,12 @@ impl Account {
         self.text.push_str(more)
     }
 
-    /// Adds a number behind a space.
+    /// Adds a number after a space.
     pub(crate) fn add_number<N: Display + Drop>(&mut self, number: N) -> Result<(), NoMemory> {
         write!(self.text, " {number}")
     }
 
-    /// Adds numbers, each behind a space.
+    /// Adds numbers, each after a space.
     pub(crate) fn add_numbers<N: Copy + Display + Drop>(
         &mut self,
         numbers: &[N],
@@ -97,8 +97,8 @@ impl Account {
         Ok(())
     }
 
-    /// Adds bytes in words of hexadecimal digits, 20 bytes each, or one byte and a count where all
-    /// are the same.
+    /// Adds bytes in words of hexadecimal digits, 20 bytes each, or one byte and a count if all are
+    /// the same.
     pub(crate) fn add_bytes(&mut self, bytes: &[u8]) -> Result<(), NoMemory> {
         if let Some(first) = bytes.first() {
             if bytes.len() > 16 && bytes.iter().all(|byte| byte == first) {

@@ -41,7 +41,7 @@ fn tell_format(account: &mut Account, format: &PixelFormat, pixel: &[u8]) -> Res
     account.add_bytes(put)
 }
 
-/// Tells what a format of 16 bytes makes of the pixel behind it, or the number of its fault.
+/// Tells what a format of 16 bytes makes of the pixel after it, or the number of its fault.
 pub(crate) fn run(account: &mut Account, bytes: &[u8]) -> Result<(), Untold> {
     let Some((first, pixel)) = bytes.split_first_chunk::<16>() else {
         return Err(Untold::NoVector);

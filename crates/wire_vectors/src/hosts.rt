@@ -7,7 +7,7 @@ use rfb_wire::{Front, HostMessage, Rectangle, ServerReader, read_message};
 use std::alloc::Global;
 use terms::{Area, NoMemory, WireFault};
 
-// The values that take the place of a byte.
+// The values that replace a byte.
 const VALUES: [u8; 5] = [0, 1, 5, 0x80, 0xff];
 
 /// What reads a host's stream, for a screen.
@@ -82,7 +82,8 @@ fn kind_of(bytes: &[u8]) -> &'static str {
     }
 }
 
-// Adds a rectangle: its area, its encoding's number, and where its data begin and end.
+// Adds a rectangle: its area, its encoding's number, and the offsets at which its data begin and
+// end.
 fn describe_rectangle(account: &mut Account, rectangle: &Rectangle) -> Result<(), NoMemory> {
     let Area { x, y, w, h } = rectangle.area;
     account.add(",")?;
@@ -95,8 +96,8 @@ fn describe_rectangle(account: &mut Account, rectangle: &Rectangle) -> Result<()
     account.add_number(rectangle.end)
 }
 
-// Tells how many streams give the same however they are cut in two, of those in which the byte of
-// each place is another, with five values in turn.
+// Tells how many streams give the same however they are cut in two, of those in which the byte at
+// each offset is another, with five values in turn.
 fn tell_changed(
     account: &mut Account,
     reader: &mut HostReader,
@@ -104,17 +105,17 @@ fn tell_changed(
     stream: &mut [u8],
 ) -> Result<(), NoMemory> {
     let mut alike = 0usize;
-    for (place, byte) in bytes.iter().enumerate() {
+    for (pixel, byte) in bytes.iter().enumerate() {
         for value in &VALUES {
-            if let Some(changed) = stream.get_mut(place) {
+            if let Some(changed) = stream.get_mut(pixel) {
                 *changed = *value;
             }
             if !is_alike(account.alloc, reader, stream)? {
-                return account.tell_number_at(place, "is otherwise with", *value);
+                return account.tell_number_at(pixel, "is otherwise with", *value);
             }
             alike = alike.saturating_add(1);
         }
-        if let Some(changed) = stream.get_mut(place) {
+        if let Some(changed) = stream.get_mut(pixel) {
             *changed = *byte;
         }
     }

@@ -33,7 +33,7 @@ fn run_vector(rt: &HostRuntime, name: &str, vector: &str, expected: &str) -> io:
     Ok(())
 }
 
-// Runs the vector that a part of a file tells: 0 where there is none, else 1.
+// Runs the vector that a part of a file tells: 0 if there is none, else 1.
 fn run_part(rt: &HostRuntime, name: &str, part: &str) -> io::Result<u64> {
     let told = words::without_comments(rt.alloc(), part)?;
     let Some((vector, expected)) = told.split_once("->") else {

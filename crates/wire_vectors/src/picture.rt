@@ -5,9 +5,9 @@ use pixel_format::Color;
 use std::fmt::Write;
 use terms::NoMemory;
 
-/// What has a colour at each place.
-pub(crate) trait Places {
-    /// The colour at a place; none outside.
+/// What has a colour at each pixel.
+pub(crate) trait Pixels {
+    /// The colour of a pixel; none outside.
     fn color_at(&self, x: u16, y: u16) -> Option<Color>;
 }
 
@@ -28,25 +28,25 @@ fn write_letter(account: &mut Account, color: Option<Color>) -> Result<(), NoMem
 }
 
 // Whether a row is as the one before it.
-fn is_repeated<P: Places>(places: &P, width: u16, y: u16) -> bool {
-    y > 0 && (0..width).all(|x| places.color_at(x, y) == places.color_at(x, y - 1))
+fn is_repeated<P: Pixels>(pixels: &P, width: u16, y: u16) -> bool {
+    y > 0 && (0..width).all(|x| pixels.color_at(x, y) == pixels.color_at(x, y - 1))
 }
 
-/// Adds the rows of a picture, each behind a space; a row that is as the one before it is a dash.
-pub(crate) fn write_rows<P: Places>(
+/// Adds the rows of a picture, each after a space; a row that is as the one before it is a dash.
+pub(crate) fn write_rows<P: Pixels>(
     account: &mut Account,
-    places: &P,
+    pixels: &P,
     size: (u16, u16),
 ) -> Result<(), NoMemory> {
     let (width, height) = size;
     for y in 0..height {
         account.add(" ")?;
-        if is_repeated(places, width, y) {
+        if is_repeated(pixels, width, y) {
             account.add("-")?;
             continue;
         }
         for x in 0..width {
-            write_letter(account, places.color_at(x, y))?;
+            write_letter(account, pixels.color_at(x, y))?;
         }
     }
     Ok(())

@@ -15,7 +15,7 @@ pub(crate) trait Reader<M> {
     /// Reads the next piece of the stream.
     fn take(&mut self, piece: &[u8], messages: &mut Vec<M>) -> Result<(), WireFault>;
 
-    /// Reads the first message by the plain function: how many bytes it has, 0 where there are too
+    /// Reads the first message by the plain function: how many bytes it has, 0 if there are too
     /// few.
     fn take_first(
         &self,
@@ -40,7 +40,7 @@ pub(crate) struct Given<M> {
     ends: Vec<usize>,
     fault: Option<WireFault>,
     fault_end: usize,
-    // Whether anything but the same fault came behind the fault.
+    // Whether anything but the same fault came after the fault.
     went_on: bool,
 }
 
@@ -82,7 +82,7 @@ impl<M: Message + Drop> Given<M> {
         Ok(())
     }
 
-    // Reads bytes, up to a cut in pieces of this length, and what is behind it as one piece.
+    // Reads bytes, up to a cut in pieces of this length, and what is after it as one piece.
     fn read<R: Reader<M>>(
         &mut self,
         reader: &mut R,
@@ -92,13 +92,13 @@ impl<M: Message + Drop> Given<M> {
     ) -> Result<(), NoMemory>
         requires { 0 < length }
     {
-        let (front, behind) = bytes.split_at_checked(cut).unwrap_or((bytes, &[]));
+        let (front, following) = bytes.split_at_checked(cut).unwrap_or((bytes, &[]));
         let mut end = 0usize;
         for piece in front.chunks(length) {
             end = end.saturating_add(piece.len());
             self.take(reader, piece, end)?;
         }
-        self.take(reader, behind, bytes.len())
+        self.take(reader, following, bytes.len())
     }
 
     // Reads bytes by the plain function, message by message.
@@ -184,7 +184,7 @@ fn is_plainly_alike<M: Message + Drop, R: Reader<M>>(
 }
 
 // Tells what is given, and what is otherwise if the bytes come in longer pieces, of up to 100 bytes
-// where they aren't very many, or are read by the plain function. The last byte comes alone.
+// when they aren't very many, or are read by the plain function. The last byte comes alone.
 fn tell_all<M: Message + Drop, R: Reader<M>>(
     account: &mut Account,
     reader: &mut R,
@@ -208,7 +208,7 @@ fn tell_all<M: Message + Drop, R: Reader<M>>(
     Ok(())
 }
 
-/// Tells what comes of a stream: each message and the fault, behind the number of bytes that had
+/// Tells what comes of a stream: each message and the fault, after the number of bytes that had
 /// come by then.
 pub(crate) fn run<M: Message + Drop, R: Reader<M> + Drop>(
     account: &mut Account,

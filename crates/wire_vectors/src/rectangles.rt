@@ -2,13 +2,13 @@
 
 use crate::account::{Account, Untold};
 use crate::formats;
-use crate::picture::{Places, write_rows};
+use crate::picture::{Pixels, write_rows};
 use pixel_format::{Color, PixelFormat};
 use rect_data::{Encoding, Judging, measure};
 use terms::{Area, NoMemory, ScreenSize, WireFault};
 use wire_tests::{HEIGHT, Kind, Short, TestCanvas, WIDTH, hextile_in_pieces};
 
-impl Places for TestCanvas {
+impl Pixels for TestCanvas {
     fn color_at(&self, x: u16, y: u16) -> Option<Color> {
         if x < WIDTH && y < HEIGHT {
             Some(self.color(x, y))
@@ -27,7 +27,7 @@ struct Drawn<'a> {
 }
 
 impl Drawn<'_> {
-    // Adds the rows that whole data paint, where they have an area and fit on the canvas.
+    // Adds the rows that whole data paint, if they have an area and fit on the canvas.
     fn write(&self, account: &mut Account, data: &[u8]) -> Result<(), Untold> {
         let (w, h) = self.size;
         if w == 0 || h == 0 || w >= WIDTH || h >= HEIGHT {
@@ -39,7 +39,8 @@ impl Drawn<'_> {
         }
     }
 
-    // Tells at which byte data are whole, and what they paint; or where they are refused.
+    // Tells at which byte data are whole, and what they paint; or the byte at which they are
+    // refused.
     fn tell(&self, account: &mut Account, bytes: &[u8]) -> Result<(), Untold> {
         let (w, h) = self.size;
         for count in 0..=bytes.len() {
@@ -80,7 +81,7 @@ pub(crate) fn run_painted(
     Drawn { kind, format, size }.tell(account, bytes)
 }
 
-// How many bytes data have that are judged field by field; none where they need more.
+// How many bytes data have that are judged field by field; none if they need more.
 fn in_pieces(
     size: ScreenSize,
     encoding: Encoding,
@@ -98,9 +99,9 @@ fn in_pieces(
         if rest.len() < wants {
             return Ok(None);
         }
-        let (taken, behind) = stage.run(&host, size, &rest[..wants])?;
+        let (taken, following) = stage.run(&host, size, &rest[..wants])?;
         rest = &rest[taken..];
-        next = behind;
+        next = following;
     }
     Ok(None)
 }

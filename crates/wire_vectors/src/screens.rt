@@ -3,7 +3,7 @@
 ghost use Rattle.std.specs.Prelude.{◌≡◌, IfOk};
 
 use crate::account::{Account, Untold};
-use crate::picture::{Places, write_rows};
+use crate::picture::{Pixels, write_rows};
 use crate::words::bytes;
 use painter::Screen;
 use pixel_format::{Color, Format};
@@ -11,7 +11,7 @@ use rfb_wire::HostMessage;
 use std::alloc::Global;
 use terms::ScreenSize;
 
-impl Places for Screen {
+impl Pixels for Screen {
     fn color_at(&self, x: u16, y: u16) -> Option<Color> {
         let size = self.size();
         if x < size.width && y < size.height {
@@ -66,7 +66,7 @@ pub(crate) fn painted(alloc: Global, size: ScreenSize, bytes: &[u8]) -> Result<S
     Ok(screen)
 }
 
-// Tells a key screen of this screen, where it paints the same.
+// Tells a key screen of this screen, if it paints the same.
 fn tell_key(account: &mut Account, screen: &Screen) -> Result<(), Untold> {
     let size = screen.size();
     if !Format::One.limits().allow(size) {

@@ -32,7 +32,7 @@ fn started(alloc: Global, size: ScreenSize, start: Screen) -> Result<Box<Session
     Ok(session)
 }
 
-// An update of the recording, behind so many messages.
+// An update of the recording, after so many messages.
 fn slice_of(alloc: Global, first: u64, size: ScreenSize, update: &[u8]) -> Result<Slice, Untold>
     requires { first < 2 ^ 32 }
     ensures next { (view : View) → view.screen.width ≡ size.width
@@ -100,8 +100,8 @@ fn tell_out(account: &mut Account, session: &mut Session, number: usize) -> Resu
     account.add_bytes(&out)
 }
 
-// Takes a part of a vector, an update behind a plus or a piece of the viewer's stream, and tells what
-// is put out then.
+// Takes a part of a vector, an update after a plus or a piece of the viewer's stream, and tells
+// what is put out then.
 fn take_part(
     account: &mut Account,
     session: &mut Session,
@@ -138,8 +138,8 @@ fn take_parts(
 }
 
 /// Tells what a viewer is served that begins with a screen of this size, which an update paints:
-/// what is put out, and the faults, behind the number of the part. Commas part the update, the
-/// pieces of the viewer's stream, and updates by which the recording goes on, each behind a plus.
+/// what is put out, and the faults, after the number of the part. Commas part the update, the
+/// pieces of the viewer's stream, and updates by which the recording goes on, each after a plus.
 pub(crate) fn run(account: &mut Account, size: ScreenSize, text: &str) -> Result<(), Untold> {
     let (update, parts) = text.split_once(",").unwrap_or((text, ""));
     let start = painted(account.alloc, size, &bytes(account.alloc, update)?)?;

@@ -23,7 +23,7 @@ struct Talk {
     messages: Vec<HostMessage>,
     said: Vec<u8>,
     fault: Option<HostFault>,
-    // Whether anything but the same fault came behind the fault.
+    // Whether anything but the same fault came after the fault.
     went_on: bool,
 }
 
@@ -129,7 +129,7 @@ fn is_cut_alike(
     again.comes_to(talk, pieces)
 }
 
-// Tells what comes of the bytes, and what is otherwise where they are cut in two.
+// Tells what comes of the bytes, and what is otherwise if they are cut in two.
 fn tell_all(
     account: &mut Account,
     awaited: Awaited,
@@ -149,8 +149,8 @@ fn tell_all(
 }
 
 /// Tells what comes of what a host sends for a recording of this format, and of this size if one is
-/// expected: what is said to it, its messages and the fault, behind the number of bytes that had come
-/// by then; and in the end the screen's size and name, or the reason.
+/// expected: what is said to it, its messages and the fault, after the number of bytes that had
+/// come by then; and in the end the screen's size and name, or the reason.
 pub(crate) fn run(
     account: &mut Account,
     format: Format,

@@ -22,9 +22,9 @@ impl Reader<ClientMessage> for ClientReader {
         messages: &mut Vec<ClientMessage>,
     ) -> Result<usize, WireFault> {
         match read_client_message(alloc, bytes)? {
-            Some((message, behind)) => {
+            Some((message, following)) => {
                 messages.push(message)?;
-                Ok(bytes.len().saturating_sub(behind.len()))
+                Ok(bytes.len().saturating_sub(following.len()))
             }
             None => Ok(0),
         }

@@ -5,7 +5,7 @@ use std::alloc::Global;
 use std::fmt::Write;
 use terms::NoMemory;
 
-/// The lines of a part of a file that aren't comments, one behind the other.
+/// The lines of a part of a file that aren't comments, one after the other.
 pub(crate) fn without_comments(alloc: Global, part: &str) -> Result<String, NoMemory> {
     let mut kept = String::new(alloc);
     for line in part.lines() {
@@ -27,7 +27,7 @@ pub(crate) fn are_same(first: &str, second: &str) -> bool {
     others.next().is_none()
 }
 
-/// Appends the numbers behind the first word.
+/// Appends the numbers after the first word.
 pub(crate) fn append_numbers(head: &str, numbers: &mut Vec<u16>) -> Result<(), Untold> {
     let mut words = head.split_whitespace();
     let _kind = words.next();
@@ -40,7 +40,7 @@ pub(crate) fn append_numbers(head: &str, numbers: &mut Vec<u16>) -> Result<(), U
     Ok(())
 }
 
-// A word without the count behind its `*`, and that count: 1 where there is none.
+// A word without the count after its `*`, and that count: 1 if there is none.
 fn repeated(word: &str) -> (&str, usize) {
     match word.split_once("*") {
         Some((digits, count)) => (digits, count.parse::<usize>().unwrap_or(0)),
@@ -60,7 +60,7 @@ fn append_word(alloc: Global, word: &str, bytes: &mut Vec<u8>) -> Result<(), Unt
     Ok(())
 }
 
-/// The bytes that words spell: hexadecimal digits, and `*` with a count where they are repeated.
+/// The bytes that words spell: hexadecimal digits, and `*` with a count if they are repeated.
 pub(crate) fn bytes(alloc: Global, text: &str) -> Result<Vec<u8>, Untold> {
     let mut bytes = Vec::new(alloc);
     for word in text.split_whitespace() {

@@ -51,13 +51,13 @@ impl Disk for GrowingDisk {
         Ok(self.file()?.len() as u64)
     }
 
-    fn read_at(&mut self, place: u64, buffer: &mut [u8]) -> Result<(), DiskFault>
-        requires fits { place + length buffer.old < 2 ^ 64 }
+    fn read_at(&mut self, offset: u64, buffer: &mut [u8]) -> Result<(), DiskFault>
+        requires fits { offset + length buffer.old < 2 ^ 64 }
     {
         let file = self.file()?;
         for (n, byte) in buffer.iter_mut().enumerate() {
-            let place = place.saturating_add(n as u64);
-            *byte = match file.get(place as usize) {
+            let offset = offset.saturating_add(n as u64);
+            *byte = match file.get(offset as usize) {
                 Some(there) => *there,
                 None => return Err(DiskFault),
             };
@@ -118,7 +118,7 @@ fn states(alloc: Global, format: Format) -> Result<Vec<Vec<u8>>, Fail> {
     Ok(states)
 }
 
-// How many blocks an opening finds, where the recorder goes on after so many of its calls.
+// How many blocks an opening finds, if the recorder goes on after so many of its calls.
 fn blocks_found(alloc: Global, format: Format, calls: u64) -> Result<u64, Fail> {
     let disk = GrowingDisk {
         states: states(alloc, format)?,

@@ -10,7 +10,7 @@ use gated_journal::ReadFault;
 use shared_book::{Closed, Mark, Receipt, Ticket};
 use std::process::Abort;
 
-/// An update that paints the one place red.
+/// An update that paints the one pixel red.
 const UPDATE: [u8; 20] = [
     0, 0, 0, 1, 0, 0, 0, 0, 0, 1, 0, 1, 0, 0, 0, 0, 0, 0, 0xff, 0,
 ];

@@ -16,7 +16,7 @@ pub enum Fill {
     Held,
     /// What reads gave: each write since the sync is whole.
     Now,
-    /// The length that reads gave, and this byte at each place that was written since the sync.
+    /// The length that reads gave, and this byte at each offset that was written since the sync.
     Byte(u8),
 }
 
@@ -84,7 +84,7 @@ fn undo_to_sync(file: &mut Vec<u8>, events: &mut Vec<Event>)
     }
 }
 
-// Undoes a write, in place.
+// Undoes a write.
 fn undo(file: &mut Vec<u8>, write: &NotedWrite)
     ensures { file.new.items ≡ before_write write.now file.old.items }
 {
@@ -96,14 +96,14 @@ fn undo(file: &mut Vec<u8>, write: &NotedWrite)
 fn put_back(file: &mut [u8], write: &NotedWrite)
     ensures { take write.now.length_before file.new ≡ before_write write.now file.old }
 {
-    let start = write.place.min(file.len());
+    let start = write.offset.min(file.len());
     let count = (file.len() - start)
         .min(write.count)
         .min(write.replaced.len());
     file[start..start + count].copy_from_slice(&write.replaced[..count]);
 }
 
-// Writes this byte at each place that was written since the last sync.
+// Writes this byte at each offset that was written since the last sync.
 fn overwrite_to_sync(file: &mut Vec<u8>, events: &mut Vec<Event>, byte: u8)
     ensures same_length { length file.new.items ≡ length file.old.items }
     ensures each { (p : ℕ) → p < length file.old.items → slice_index file.new.items p
@@ -114,12 +114,12 @@ fn overwrite_to_sync(file: &mut Vec<u8>, events: &mut Vec<Event>, byte: u8)
     }
 }
 
-// Writes this byte at each place of a write's range.
+// Writes this byte at each offset of a write's range.
 fn overwrite(file: &mut [u8], write: &NotedWrite, byte: u8)
     ensures { (p : ℕ) → p < length file.old → slice_index file.new p
-        ≡ (if is_between write.now.place write.now.count p then byte else slice_index file.old p) }
+        ≡ (if is_between write.now.offset write.now.count p then byte else slice_index file.old p) }
 {
-    let start = write.place.min(file.len());
+    let start = write.offset.min(file.len());
     let count = write.count.min(file.len() - start);
     file[start..start + count].fill(byte);
 }

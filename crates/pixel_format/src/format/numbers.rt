@@ -13,7 +13,7 @@ use std::alloc::Global;
 use terms::NoMemory;
 
 impl PixelFormat {
-    /// The number of the pixel of a colour: each channel at its place, and the other bits 0.
+    /// The number of the pixel of a colour: each channel at its shift, and the other bits 0.
     #[inline(always)]
     pub fn number_of(&self, color: Color) -> u32
         requires { IsWithin self.now color }
@@ -27,8 +27,8 @@ impl PixelFormat {
         red + green + blue
     }
 
-    /// The same in a format of at most two bytes a pixel, in 16 bits: a loop over colours puts eight of
-    /// them together in one vector, where it puts four of 32 bits.
+    /// The same in a format of at most two bytes a pixel, in 16 bits: a loop over colours puts
+    /// eight of them together in one vector, instead of four of 32 bits.
     #[inline(always)]
     pub fn short_number_of(&self, color: Color) -> u16
         requires within { IsWithin self.now color }
@@ -78,7 +78,7 @@ impl PixelFormat {
         self.put_number(number, bytes);
     }
 
-    // Appends the pixel of a number, in so many bytes, which the compiler knows where it is called.
+    // Appends the pixel of a number, in so many bytes, which the compiler knows at each call.
     #[inline(always)]
     fn append_sized_number(
         &self,
@@ -98,7 +98,7 @@ impl PixelFormat {
         bytes.extend_from_slice(&pixel[..size])
     }
 
-    /// Appends the pixels of numbers, one behind the other. Running out of memory may leave a part
+    /// Appends the pixels of numbers, one after the other. Running out of memory may leave a part
     /// of them.
     pub fn append_numbers(&self, numbers: &[u32], bytes: &mut Vec<u8>) -> Result<(), NoMemory>
         requires { All (IsNumber self.now) numbers.now }
@@ -148,7 +148,7 @@ fn shift_of(channel: Channel) -> u32
     channel.shift as u32
 }
 
-// A value of a channel, at its place in a pixel's number.
+// A value of a channel, at its shift in a pixel's number.
 #[inline(always)]
 fn shifted(channel: Channel, value: u16) -> u32
     requires within { value ≤ channel.max }
@@ -158,7 +158,7 @@ fn shifted(channel: Channel, value: u16) -> u32
     (value as u32) << shift_of(channel)
 }
 
-// A value of a channel, at its place in a pixel's number of 16 bits.
+// A value of a channel, at its shift in a pixel's number of 16 bits.
 #[inline(always)]
 fn short_shifted(channel: Channel, value: u16) -> u16
     requires within { value ≤ channel.max }

@@ -13,7 +13,7 @@ use std::thread::{Threads, join};
 use std::time::Clock;
 use std::{fs, io};
 
-/// A recording of one place with one message, an update of a red pixel.
+/// A recording of one pixel with one message, an update of a red pixel.
 const RECORDING: [u8; 54] =
     *b"ORFBREC1\0\x01\0\x01\0\x04\0\x01xO\0\0\0\x1d\0\x01\0\0\0\0\0\0\0\0\x14\0\0\0\x01\0\0\0\0\0\x01\0\x01\0\0\0\0\0\0\xff\0C";
 
@@ -21,7 +21,7 @@ const RECORDING: [u8; 54] =
 const TIMES: &str =
     "{\"width\":1,\"height\":1,\"messages\":1,\"length\":0,\"every\":1,\"stretches\":[{\"time\":0,\"message\":0,\"block\":0,\"updates\":1,\"bytes\":20}]}\n";
 
-/// A picture of its one place, before the message and behind it.
+/// A picture of its one pixel, before the message and after it.
 const BLACK: [u8; 101] =
     *b"\x89PNG\r\n\x1a\n\0\0\0\rIHDR\0\0\0\x01\0\0\0\x01\x08\x02\0\0\0\x90wS\xde\0\0\0\x02IDATx\x01\xec\x1a~\xd2\0\0\0\x09IDAT\0\x04\0\xfb\xff\0\0\0\0\x90K\x91\xff\0\0\0\x09IDAT\x01\0\0\xff\xff\0\x04\0\x01\xe8\xe5Q\x1a\0\0\0\0IEND\xaeB`\x82";
 
@@ -31,12 +31,12 @@ const RED: [u8; 101] =
 // Asks a server for something: whether it answers with this status and body.
 fn is_answered(
     rt: &HostRuntime,
-    place: SocketAddr,
+    endpoint: SocketAddr,
     request: &[u8],
     status: &str,
     body: &[u8],
 ) -> Result<bool, Fail> {
-    let mut stream = TcpStream::connect(rt, place)?;
+    let mut stream = TcpStream::connect(rt, endpoint)?;
     stream.write_all(request)?;
     let mut answer = Vec::new(rt.alloc());
     stream.read_to_end(&mut answer)?;
@@ -45,7 +45,7 @@ fn is_answered(
 }
 
 // What is asked for, and what is answered.
-fn all_is_answered(rt: &HostRuntime, place: SocketAddr) -> Result<(), Fail> {
+fn all_is_answered(rt: &HostRuntime, endpoint: SocketAddr) -> Result<(), Fail> {
     let answers: [(&[u8], &str, &[u8]); 13] = [
         (
             b"GET / HTTP/1.1\r\nHost: localhost:80\r\n\r\n",
@@ -94,7 +94,7 @@ fn all_is_answered(rt: &HostRuntime, place: SocketAddr) -> Result<(), Fail> {
         (b"RFB 003.008\n", "400 Bad Request", b"request\n"),
     ];
     for (request, status, body) in answers {
-        if !is_answered(rt, place, request, status, body)? {
+        if !is_answered(rt, endpoint, request, status, body)? {
             return Err(status.into());
         }
     }
@@ -102,7 +102,7 @@ fn all_is_answered(rt: &HostRuntime, place: SocketAddr) -> Result<(), Fail> {
     long.resize(9000, b'a')?;
     match is_answered(
         rt,
-        place,
+        endpoint,
         &long,
         "431 Request Header Fields Too Large",
         b"long\n",
@@ -150,14 +150,14 @@ fn a_browser_is_answered(rt: HostRuntime) -> Result<(), Fail> {
     let rt = &rt;
     fs::write(rt, "browsed", RECORDING.as_slice())?;
     let listener = TcpListener::bind(rt, "127.0.0.1:0")?;
-    let place = listener.local_addr()?;
+    let endpoint = listener.local_addr()?;
     let (said, answered) = join(
         rt,
         move || print(rt, "browsed", listener),
-        move || all_is_answered(rt, place),
+        move || all_is_answered(rt, endpoint),
     );
     answered?;
-    let expected = format!(in rt.alloc(); "true browsing http://{place}/\n")?;
+    let expected = format!(in rt.alloc(); "true browsing http://{endpoint}/\n")?;
     let said = said?;
     assert!(rt; said.as_str() == expected.as_str(), "{said}");
     fs::remove_file(rt, "browsed")?;

@@ -13,8 +13,9 @@ macro_rules! serve_while {
     }};
 }
 
-// Records a host of a test into a new file, and serves that: what is printed. The test is called with
-// where its host and its viewers meet the recorder, and what else it is given.
+// Records a host of a test into a new file, and serves that: what is printed. The test is called
+// with the addresses at which its host and its viewers meet the recorder, and what else it is
+// given.
 macro_rules! recorded {
     ($rt:ident, $file:expr, $audience:expr, $from:expr, $play:ident $(, $more:expr)*) => {{
         let _ = std::fs::remove_file($rt, $file);

@@ -18,7 +18,7 @@ fn told<R: AllocGlobal + Net + Sync + Threads + Wait>(rt: &R, is_read: bool) -> 
     let telling = &Telling::new(rt.alloc(), Told::Everything)?;
     let (reader, writer) = UnixStream::pair(rt)?;
     thread::scope(thread::scope_env(), rt, |scope| {
-        // The socket is closed behind it.
+        // The socket is closed after it.
         let _writing = scope.spawn(move || {
             telling.write_to(rt, writer.as_raw_fd());
         });
@@ -34,7 +34,7 @@ fn told<R: AllocGlobal + Net + Sync + Threads + Wait>(rt: &R, is_read: bool) -> 
     })
 }
 
-// How many lines a text tells of, each in its turn, or counted there; none where it doesn't.
+// How many lines a text tells of, each in its turn, or counted there; `None` if it doesn't.
 fn count_of(text: &str) -> Option<u64> {
     let mut count = 0u64;
     for line in text.lines() {

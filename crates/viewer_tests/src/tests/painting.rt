@@ -95,16 +95,16 @@ fn part(area: Area, x: u16, y: u16, w: u16, h: u16) -> Area {
     }
 }
 
-fn place(x: u16, y: u16) -> usize {
+fn index(x: u16, y: u16) -> usize {
     usize::from(y) * usize::from(WIDTH) + usize::from(x)
 }
 
 fn fill(pixels: &mut [Color], area: Area, color: Color) {
     for y in 0..area.h {
         for x in 0..area.w {
-            let place = place(area.x.wrapping_add(x), area.y.wrapping_add(y));
-            if place < pixels.len() {
-                pixels[place] = color;
+            let index = index(area.x.wrapping_add(x), area.y.wrapping_add(y));
+            if index < pixels.len() {
+                pixels[index] = color;
             }
         }
     }
@@ -120,7 +120,7 @@ fn paint_raw(cursor: &mut Cursor, area: Area, pixels: &mut [Color]) -> Option<()
     Some(())
 }
 
-// The places from here on become those of the area; from its end where they stand before it.
+// The pixels from here on become those of the area; from its end if they come before it.
 fn copy(x: u16, y: u16, area: Area, pixels: &mut [Color]) -> Option<()> {
     let forward = y > area.y || y == area.y && x >= area.x;
     for row in 0..area.h {
@@ -130,7 +130,7 @@ fn copy(x: u16, y: u16, area: Area, pixels: &mut [Color]) -> Option<()> {
             } else {
                 (area.h - 1 - row, area.w - 1 - column)
             };
-            let color = *pixels.get(place(x.wrapping_add(column), y.wrapping_add(row)))?;
+            let color = *pixels.get(index(x.wrapping_add(column), y.wrapping_add(row)))?;
             fill(pixels, part(area, column, row, 1, 1), color);
         }
     }
@@ -172,7 +172,7 @@ fn read_named(cursor: &mut Cursor, mask: u8, named: &mut Named) -> Option<()> {
     Some(())
 }
 
-// A subrectangle, which has a colour of its own where none is given.
+// A subrectangle, which has a colour of its own if none is given.
 fn paint_part(
     cursor: &mut Cursor,
     tile: Area,
@@ -238,7 +238,7 @@ fn paint_rectangle(cursor: &mut Cursor, pixels: &mut [Color]) -> Option<()> {
     }
 }
 
-// Paints an update; nothing where it isn't one, or bytes are left.
+// Paints an update; nothing if it isn't one, or bytes are left.
 fn paint(update: &[u8], format: &PixelFormat, pixels: &mut [Color]) -> Option<()> {
     let mut cursor = Cursor {
         rest: update.strip_prefix(&[0, 0])?,
@@ -344,8 +344,8 @@ fn shows(screen: &Screen, format: &PixelFormat, pixels: &[Color], area: Area) ->
     for y in 0..HEIGHT {
         for x in 0..WIDTH {
             let inside = x >= area.x && x - area.x < area.w && y >= area.y && y - area.y < area.h;
-            let place = place(x, y);
-            let shown = place < pixels.len() && pixels[place] == format.convert(screen.color(x, y));
+            let index = index(x, y);
+            let shown = index < pixels.len() && pixels[index] == format.convert(screen.color(x, y));
             if inside && !shown {
                 return false;
             }
@@ -363,7 +363,7 @@ struct Viewer {
     copied: bool,
 }
 
-// Asks for an area, and paints what is answered: the area, or nothing where that isn't an update.
+// Asks for an area, and paints what is answered: the area, or nothing if that isn't an update.
 fn look(
     alloc: Global,
     seed: &mut u64,

@@ -39,7 +39,7 @@ fn messages_that_are_written(rt: HostRuntime) -> Result<(), Fail> {
     Ok(())
 }
 
-// SetPixelFormat, SetEncodings, FramebufferUpdateRequest and PointerEvent, one behind the other.
+// SetPixelFormat, SetEncodings, FramebufferUpdateRequest and PointerEvent, one after the other.
 const STREAM: [u8; 48] = [
     0, 9, 9, 9, 16, 16, 1, 1, 0, 31, 0, 63, 0, 31, 11, 5, 0, 0, 0, 0, 2, 0, 0, 2, 255, 255, 255,
     17, 0, 0, 0, 5, 3, 1, 0, 1, 0, 2, 0, 3, 0, 4, 5, 0, 0, 1, 0, 2,

@@ -106,7 +106,7 @@ fn write_tile(tile: &Drawn, bytes: &mut Vec<u8>) -> Result<(), NoMemory> {
     Ok(())
 }
 
-// The colour at a place, by a search backwards through the tiles.
+// The colour of a pixel, by a search backwards through the tiles.
 fn plain(tiles: &[Drawn], w: u16, column: u16, row: u16) -> Color {
     let across = w as usize / 16 + (if w % 16 == 0 { 0 } else { 1 });
     let number = row as usize / 16 * across + column as usize / 16;
@@ -192,7 +192,7 @@ fn as_the_plain_way(rt: HostRuntime) -> Result<(), Fail> {
     Ok(())
 }
 
-// A picture of w by h places: stripes of one colour, squares of two or four, and places of any.
+// A picture of w by h pixels: stripes of one colour, squares of two or four, and pixels of any.
 fn any_picture(alloc: Global, seed: &mut u64, w: u16, h: u16) -> Result<Vec<Color>, NoMemory>
     ensures { IfOk result (λ colors. length colors.items ≡ h * w) }
 {
@@ -210,7 +210,7 @@ fn any_picture(alloc: Global, seed: &mut u64, w: u16, h: u16) -> Result<Vec<Colo
     Ok(colors)
 }
 
-// Whether a picture of w by h places is shown, in this format, by the data that it is encoded to,
+// Whether a picture of w by h pixels is shown, in this format, by the data that it is encoded to,
 // and two bytes before them stay.
 fn comes_through(
     alloc: Global,
@@ -305,7 +305,7 @@ const ROWS: [(&[u8; 48], &[u8]); 6] = [
         \xc8dI\0\xc8dJ\0\xc8dK\0\xc8dL\0\xc8dM\0\xc8dN\0\xc8dO\0\xc8dP\0\
         \x02\0\0\xff\0",
     ),
-    // Behind a raw tile, and behind a coloured one, background and foreground are named again, though
+    // After a raw tile, and after a coloured one, background and foreground are named again, though
     // they are those of the tile before it.
     (
         b"rrrggrrrrrrrrrrrABCDEFGHIJKLMNOPrrrrrrrrrrrrrrgr",

@@ -80,11 +80,11 @@ fn reading_while_memory_lasts(rt: HostRuntime) {
 #[test]
 fn writing_while_memory_lasts(rt: HostRuntime) {
     let mut out = Vec::new(rt.alloc());
-    let place = area(0, 0, 1, 1);
+    let one_pixel = area(0, 0, 1, 1);
     let color = Color { r: 0, g: 0, b: 0 };
     for _ in 0..9 {
         let before = out.len();
-        let written = write_raw_update(place, &[0, 0, 255, 0], &mut out);
+        let written = write_raw_update(one_pixel, &[0, 0, 255, 0], &mut out);
         assert!(rt; out.len() == (if written.is_ok() { before + 20 } else { before }));
         let before = out.len();
         let written = write_color_map(7, &[color], &mut out);

@@ -15,7 +15,7 @@ const RED_STREAM: [u8; 63] =
 const RED_ANSWERS: [u8; 74] =
     *b"RFB 003.008\n\x01\x01\0\0\0\0\x20\x18\0\x01\0\xff\0\xff\0\xff\x10\x08\0\0\0\0\x02\0\0\x04\0\0\0\x01\0\0\0\x05\0\0\0\x02\0\0\0\0\x03\0\0\0\0\0\0\x01\0\x01\x03\x01\0\0\0\0\0\x01\0\x01";
 
-// Feeds a piece. Where an allocation fails `feed` answers that for good, and `out` has changed
+// Feeds a piece. If an allocation fails, `feed` answers that for good, and `out` has changed
 // nothing.
 fn is_fed(
     session: &mut HostSession,

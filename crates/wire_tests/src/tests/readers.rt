@@ -61,7 +61,7 @@ fn have_marks<M: Marked>(messages: &[M], marks: &[usize]) -> bool {
         .all(|(message, mark)| message.mark() == *mark)
 }
 
-/// Whether a reader gives the messages with these marks, of bytes that come one by one; or, where
+/// Whether a reader gives the messages with these marks, of bytes that come one by one; or, if
 /// memory runs out, the first of them, and that fault at each call from then on.
 pub(crate) fn gives<M: Marked + Drop, R: Reader<M, WireFault>>(
     alloc: Global,

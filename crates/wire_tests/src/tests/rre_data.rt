@@ -14,7 +14,7 @@ use terms::NoMemory;
 
 mod shortness;
 
-// A subrectangle within 16 by 12 places, in one of a few colours.
+// A subrectangle within 16 by 12 pixels, in one of a few colours.
 fn any_part(seed: &mut u64) -> Subrectangle {
     let (x, y) = (below(seed, 17), below(seed, 13));
     Subrectangle {
@@ -39,7 +39,7 @@ fn written(alloc: Global, background: Color, parts: &[Subrectangle]) -> Result<V
     Ok(bytes)
 }
 
-// The colour of the last part that covers the place.
+// The colour of the last part that covers the pixel.
 fn plain(background: Color, parts: &[Subrectangle], column: u16, row: u16) -> Color {
     for part in parts.iter().rev() {
         if part.x <= column
@@ -53,7 +53,7 @@ fn plain(background: Color, parts: &[Subrectangle], column: u16, row: u16) -> Co
     background
 }
 
-// Whether the data of 16 by 12 places show the subrectangles.
+// Whether the data of 16 by 12 pixels show the subrectangles.
 fn are_shown(background: Color, parts: &[Subrectangle], bytes: &[u8]) -> bool {
     let host = PixelFormat::host();
     let Ok(canvas) = Kind::Rre.painted(&host, 16, 12, bytes) else {
@@ -90,7 +90,7 @@ fn as_the_plain_way(rt: HostRuntime) -> Result<(), Fail> {
     Ok(())
 }
 
-// A picture of 16 by 12 places: squares of a few colours, and single places.
+// A picture of 16 by 12 pixels: squares of a few colours, and single pixels.
 fn any_picture(alloc: Global, seed: &mut u64) -> Result<Vec<Color>, NoMemory>
     ensures { IfOk result (λ colors. length colors.items ≡ 12 * 16) }
 {
@@ -108,7 +108,7 @@ fn any_picture(alloc: Global, seed: &mut u64) -> Result<Vec<Color>, NoMemory>
     Ok(colors)
 }
 
-// Whether a picture of 16 by 12 places is shown, in this format, by the data that it is encoded to,
+// Whether a picture of 16 by 12 pixels is shown, in this format, by the data that it is encoded to,
 // and two bytes before them stay.
 fn comes_through(alloc: Global, format: &PixelFormat, picture: &[Color]) -> Result<bool, Fail>
     requires { length picture.now ≡ 12 * 16 }
@@ -135,7 +135,7 @@ fn encoded_and_painted(rt: HostRuntime) -> Result<(), Fail> {
     Ok(())
 }
 
-// The data of 16 by 16 places, in the host format.
+// The data of 16 by 16 pixels, in the host format.
 fn encoded(alloc: Global, picture: &[Color]) -> Result<Vec<u8>, NoMemory>
     requires { length picture.now ≡ 16 * 16 }
 {

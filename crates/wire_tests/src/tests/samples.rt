@@ -99,7 +99,7 @@ pub(crate) fn converted(
     Ok(all)
 }
 
-/// Whether a sheet has these colours in its upper left corner, by rows of so many places.
+/// Whether a sheet has these colours in its upper left corner, by rows of so many pixels.
 pub(crate) fn shows(test_canvas: &TestCanvas, w: u16, h: u16, colors: &[Color]) -> bool
     requires columns { w ≤ 320 }
     requires rows { h ≤ 120 }

@@ -22,7 +22,7 @@ fn painted(alloc: Global, size: ScreenSize, updates: &[&[u8]]) -> Result<Screen,
     Ok(screen)
 }
 
-// The colour at a place.
+// The colour of a pixel.
 fn color(screen: &Screen, x: u16, y: u16) -> Option<Color> {
     let size = screen.size();
     if x < size.width && y < size.height {
@@ -32,7 +32,7 @@ fn color(screen: &Screen, x: u16, y: u16) -> Option<Color> {
     }
 }
 
-// The colour of a place of a screen of 5 by 5, on which no two places are alike.
+// The colour of a pixel of a screen of 5 by 5, on which no two pixels are alike.
 fn own_color(x: u16, y: u16) -> Color {
     Color {
         r: x % 256,
@@ -41,11 +41,11 @@ fn own_color(x: u16, y: u16) -> Color {
     }
 }
 
-// An update of a screen of 5 by 5, after which no two places are alike.
+// An update of a screen of 5 by 5, after which no two pixels are alike.
 fn distinct(alloc: Global) -> Result<Vec<u8>, Fail> {
     let mut bytes = b"\0\0\0\x01\0\0\0\0\0\x05\0\x05\0\0\0\0".to_vec(alloc)?;
-    for place in 0..25_u8 {
-        bytes.extend_from_slice(&[7, place / 5, place % 5, 0])?;
+    for one_pixel in 0..25_u8 {
+        bytes.extend_from_slice(&[7, one_pixel / 5, one_pixel % 5, 0])?;
     }
     Ok(bytes)
 }
@@ -56,7 +56,7 @@ fn copied_whichever_way_the_areas_overlap(rt: HostRuntime) -> Result<(), Fail> {
     let update = distinct(alloc)?;
     for to_x in 0..3_u8 {
         for to_y in 0..3_u8 {
-            // Three places by three, whose corner is at (1, 1).
+            // Three pixels by three, whose corner is at (1, 1).
             let copy = [
                 0, 0, 0, 1, 0, to_x, 0, to_y, 0, 3, 0, 3, 0, 0, 0, 1, 0, 1, 0, 1,
             ];
@@ -78,7 +78,7 @@ fn copied_whichever_way_the_areas_overlap(rt: HostRuntime) -> Result<(), Fail> {
     Ok(())
 }
 
-// One of four bytes a place would have 262,160.
+// One of four bytes a pixel would have 262,160.
 #[test]
 fn key_of_a_black_screen(rt: HostRuntime) -> Result<(), Fail> {
     let screen = Screen::black(rt.alloc(), size(256, 256))?;
@@ -90,7 +90,7 @@ fn key_of_a_black_screen(rt: HostRuntime) -> Result<(), Fail> {
 // The whole screen as a viewer is sent it that asked for RRE.
 fn sent(alloc: Global, screen: &Screen) -> Result<Vec<u8>, Fail> {
     let size = screen.size();
-    let whole = ScreenPart::Places {
+    let whole = ScreenPart::Region {
         area: area(0, 0, size.width, size.height),
         encoding: Encoding::Rre,
     };
@@ -99,10 +99,10 @@ fn sent(alloc: Global, screen: &Screen) -> Result<Vec<u8>, Fail> {
     Ok(out)
 }
 
-// A red place among ten, the others black, as RFC 6143, section 7.7.3 has it. Raw would have 40 bytes
-// where there are 20.
+// A red pixel among ten, the others black, as RFC 6143, section 7.7.3 has it. Raw would have 40
+// bytes instead of 20.
 #[test]
-fn red_place_sent_in_rre(rt: HostRuntime) -> Result<(), Fail> {
+fn red_pixel_sent_in_rre(rt: HostRuntime) -> Result<(), Fail> {
     let alloc = rt.alloc();
     let red = [0, 0, 0, 1, 0, 2, 0, 1, 0, 1, 0, 1, 0, 0, 0, 0, 0, 0, 255, 0];
     let screen = painted(alloc, size(5, 2), &[&red])?;

@@ -22,8 +22,8 @@ fn pixel_color(format: &PixelFormat, data: &[u8], number: usize) -> Option<Color
     Some(format.pixel(&data[start..end]))
 }
 
-// What an update paints on a white sheet; refused where it isn't an update of one rectangle on the
-// sheet, or has bytes behind it.
+// What an update paints on a white sheet; refused if it isn't an update of one rectangle on the
+// sheet, or has bytes after it.
 fn painted(format: &PixelFormat, update: &[u8]) -> Result<TestCanvas, Measure> {
     let [
         0,
@@ -81,7 +81,7 @@ fn painted(format: &PixelFormat, update: &[u8]) -> Result<TestCanvas, Measure> {
     Ok(test_canvas)
 }
 
-// An update behind a byte that was there before.
+// An update after a byte that was there before.
 fn update(
     alloc: Global,
     format: &PixelFormat,
@@ -115,19 +115,25 @@ fn first_of_the_list(rt: HostRuntime) {
 }
 
 #[test]
-fn one_red_place(rt: HostRuntime) -> Result<(), Fail> {
-    let place = area(0, 0, 1, 1);
+fn one_red_pixel(rt: HostRuntime) -> Result<(), Fail> {
+    let one_pixel = area(0, 0, 1, 1);
     let red = [
         9, 0, 0, 0, 1, 0, 0, 0, 0, 0, 1, 0, 1, 0, 0, 0, 0, 0, 0, 255, 0,
     ];
     for encoding in ALL {
-        let out = update(rt.alloc(), &PixelFormat::host(), place, &[RED], encoding)?;
+        let out = update(
+            rt.alloc(),
+            &PixelFormat::host(),
+            one_pixel,
+            &[RED],
+            encoding,
+        )?;
         assert!(rt; out.as_slice() == red.as_slice());
     }
     Ok(())
 }
 
-// Two places that are copied from the two one further left, and an update of no rectangles.
+// Two pixels that are copied from the two one further left, and an update of no rectangles.
 #[test]
 fn a_copy_and_nothing(rt: HostRuntime) -> Result<(), Fail> {
     let host = PixelFormat::host();
@@ -146,7 +152,7 @@ fn a_copy_and_nothing(rt: HostRuntime) -> Result<(), Fail> {
     Ok(())
 }
 
-// Nine places of one colour, in five, six and five bits.
+// Nine pixels of one colour, in five, six and five bits.
 #[test]
 fn a_row_is_converted(rt: HostRuntime) -> Result<(), Fail> {
     let format = PixelFormat::read(&SIXTEEN)?;
@@ -163,19 +169,19 @@ fn a_row_is_converted(rt: HostRuntime) -> Result<(), Fail> {
     Ok(())
 }
 
-// 258 places beside one another at (770, 1), none of them high: the head, and no data.
+// 258 pixels beside one another at (770, 1), none of them high: the head, and no data.
 #[test]
 fn no_area(rt: HostRuntime) -> Result<(), Fail> {
-    let place = area(770, 1, 258, 0);
+    let one_pixel = area(770, 1, 258, 0);
     let head = [9, 0, 0, 0, 1, 3, 2, 0, 1, 1, 2, 0, 0, 0, 0, 0, 0];
     for encoding in ALL {
-        let out = update(rt.alloc(), &PixelFormat::host(), place, &[], encoding)?;
+        let out = update(rt.alloc(), &PixelFormat::host(), one_pixel, &[], encoding)?;
         assert!(rt; out.as_slice() == head.as_slice());
     }
     Ok(())
 }
 
-// A picture of 21 by 18 places: a few squares over one colour, or places of any colour.
+// A picture of 21 by 18 pixels: a few squares over one colour, or pixels of any colour.
 fn any_picture(alloc: Global, seed: &mut u64, flat: bool) -> Result<Vec<Color>, NoMemory>
     ensures { IfOk result (λ colors. length colors.items ≡ 18 * 21) }
 {
@@ -207,8 +213,8 @@ fn is_written(
 ) -> Result<bool, Fail>
     requires { length picture.now ≡ 18 * 21 }
 {
-    let place = area(3, 11, 21, 18);
-    let out = update(alloc, format, place, picture, encoding)?;
+    let one_pixel = area(3, 11, 21, 18);
+    let out = update(alloc, format, one_pixel, picture, encoding)?;
     let Some(written) = out.strip_prefix(&[9]) else {
         return Ok(false);
     };

@@ -2,10 +2,10 @@
 
 ghost use Rattle.std.specs.Prelude.{◌≡◌, IfSome};
 ghost use Rattle.flusher_core.specs.State.{accepted_count};
-ghost use Rattle.book_tests.specs.OnePlace.{IsOfOnePlace};
+ghost use Rattle.book_tests.specs.OnePixel.{IsOfOnePixel};
 
 use super::{UPDATE, confirm, find};
-use crate::{ONE_PLACE, desk_of_one_place};
+use crate::{ONE_PLACE, desk_of_one_pixel};
 use broadcast::{Desk, NextRefusal, Start};
 use disk::{Disk, FailingDisk, MemoryDisk, Switch};
 use flusher_core::{FlushRefusal, HostRefusal};
@@ -44,7 +44,7 @@ enum Order {
 }
 
 /// Holds workers. Who is held longer than 10,000 turns goes on, and is counted. It is also told
-/// where memory ran out, so that nobody waits for what won't come.
+/// when memory ran out, so that nobody waits for what won't come.
 #[derive(Drop)]
 struct Gates<'a, R: Clock> {
     rt: &'a R,
@@ -259,7 +259,7 @@ struct Told<M: Mark> {
 
 impl<'a, D: Disk, M: Mark, R: Wait + Clock> Workers<'a, D, M, R> {
     fn host(&self) -> Vec<Ticket<M>>
-        requires { IsOfOnePlace M.head }
+        requires { IsOfOnePixel M.head }
     {
         let gates = self.gates;
         let mut tickets = Vec::new(self.alloc);
@@ -300,7 +300,7 @@ impl<'a, D: Disk, M: Mark, R: Wait + Clock> Workers<'a, D, M, R> {
     }
 
     fn view(&self) -> Seen<M>
-        requires { IsOfOnePlace M.head }
+        requires { IsOfOnePixel M.head }
     {
         let gates = self.gates;
         let mut seen = Seen {
@@ -334,14 +334,14 @@ impl<'a, D: Disk + Send, M: Mark + Send + Sync, R: Threads + Wait + Clock + Sync
     R,
 > {
     fn view_all(&self) -> Result<Vec<Seen<M>>, NoMemory>
-        requires { IsOfOnePlace M.head }
+        requires { IsOfOnePixel M.head }
     {
         let seen = map_indices(
             self.rt,
             self.alloc,
             self.viewers,
             &|_| -> Seen<M>
-                requires { IsOfOnePlace M.head }
+                requires { IsOfOnePixel M.head }
             { self.view() },
         );
         if seen.is_err() {
@@ -350,11 +350,11 @@ impl<'a, D: Disk + Send, M: Mark + Send + Sync, R: Threads + Wait + Clock + Sync
         seen
     }
 
-    // The host and the flusher, each in a thread of its own where the order allows. Where no thread
-    // can be made, `join` calls its second closure and then its first: the host comes first, as the
+    // The host and the flusher, each in a thread of its own if the order allows. If no thread can
+    // be made, `join` calls its second closure and then its first: the host comes first, as the
     // flusher waits for its end, and it waits for nobody while there is room.
     fn record(&self) -> (Vec<Ticket<M>>, Vec<Receipt<M>>)
-        requires { IsOfOnePlace M.head }
+        requires { IsOfOnePixel M.head }
     {
         match self.gates.order {
             Order::Free | Order::Meeting | Order::Backlogged | Order::FailsAfter(_) => {
@@ -362,7 +362,7 @@ impl<'a, D: Disk + Send, M: Mark + Send + Sync, R: Threads + Wait + Clock + Sync
                     self.rt,
                     move || self.flush(),
                     move || -> Vec<Ticket<M>>
-                        requires { IsOfOnePlace M.head }
+                        requires { IsOfOnePixel M.head }
                     { self.host() },
                 );
                 (tickets, committed)
@@ -382,23 +382,23 @@ impl<'a, D: Disk + Send, M: Mark + Send + Sync, R: Threads + Wait + Clock + Sync
         }
     }
 
-    // All workers. The viewers wait for the end of both others, and so come last where no thread can
+    // All workers. The viewers wait for the end of both others, and so come last if no thread can
     // be made.
     fn work(&self) -> Result<Told<M>, NoMemory>
-        requires { IsOfOnePlace M.head }
+        requires { IsOfOnePixel M.head }
     {
         let (seen, (tickets, committed)) = join(
             self.rt,
             move || -> Result<Vec<Seen<M>>, NoMemory>
-                requires { IsOfOnePlace M.head }
+                requires { IsOfOnePixel M.head }
             { self.view_all() },
             move || -> (Vec<Ticket<M>>, Vec<Receipt<M>>)
-                requires { IsOfOnePlace M.head }
+                requires { IsOfOnePixel M.head }
             { self.record() },
         );
         let mut seen = seen?;
         if self.gates.order == Order::NoFlusher {
-            // One behind the other, more than there are seats.
+            // One after the other, more than there are seats.
             for _ in 0..65 {
                 seen.push(self.view())?;
             }
@@ -411,8 +411,9 @@ impl<'a, D: Disk + Send, M: Mark + Send + Sync, R: Threads + Wait + Clock + Sync
     }
 }
 
-// All receipts are confirmed, all tickets found, and the recording ended where viewers were told the
-// end. Where memory was ample, so many messages are committed, and handed to each viewer.
+// All receipts are confirmed, all tickets found, and the recording ended at the count at which
+// viewers were told the end. If memory was ample, so many messages are committed, and handed to
+// each viewer.
 fn settle<D: Disk + Drop, M: Mark, R: Abort>(
     rt: &R,
     closed: &mut Closed<D, M>,
@@ -440,7 +441,7 @@ fn settle<D: Disk + Drop, M: Mark, R: Abort>(
     Ok(())
 }
 
-// How many messages are to be committed; none where memory ran out.
+// How many messages are to be committed; `None` if memory ran out.
 fn due_in<R: Clock>(gates: &Gates<R>, count: u64) -> Option<u64> {
     match gates.order {
         _ if gates.has_lacked() => None,
@@ -451,7 +452,7 @@ fn due_in<R: Clock>(gates: &Gates<R>, count: u64) -> Option<u64> {
     }
 }
 
-// The workers share a desk. All receipts are then confirmed, and all tickets found; where memory is
+// The workers share a desk. All receipts are then confirmed, and all tickets found; if memory is
 // ample, each message is committed and handed to each viewer.
 fn share<
     'a,
@@ -471,7 +472,7 @@ fn share<
     requires modelled { (D.is_modelled → M.is_modelled) × (M.is_modelled → D.is_modelled) }
     requires first { accepted_count desk.value.state.book ≡ M.first }
     requires names { token ≡ M.names }
-    requires sized { IsOfOnePlace M.head }
+    requires sized { IsOfOnePixel M.head }
 {
     let shared = Shared::<D, M>::new(rt, token, desk);
     let workers = Workers {
@@ -491,20 +492,20 @@ fn share<
     }
 }
 
-// What workers begin with; none where memory ran out.
+// What workers begin with; `None` if memory ran out.
 fn begun(alloc: Global, order: Order) -> Option<(Token, Box<Desk<FailingDisk<MemoryDisk>>>)>
-    ensures { IfSome result (λ b. IsOfOnePlace b.1.value.head) }
+    ensures { IfSome result (λ b. IsOfOnePixel b.1.value.head) }
 {
     let switch = Switch::new(alloc).ok()?;
     let disk = FailingDisk::new(MemoryDisk::new(alloc), switch.clone().ok()?);
-    let desk = desk_of_one_place(alloc, disk)?;
+    let desk = desk_of_one_pixel(alloc, disk)?;
     if let Order::FailsAfter(calls) = order {
         switch.fail_after(calls);
     }
     Some((Token::new(alloc).ok()?, desk))
 }
 
-// Workers that come in this order. How many messages were accepted; none where memory ran out.
+// Workers that come in this order. How many messages were accepted; `None` if memory ran out.
 fn shared_by_workers<R: Threads + Wait + Clock + Abort + Sync>(
     rt: &R,
     alloc: Global,
@@ -528,8 +529,8 @@ fn shared_by_workers<R: Threads + Wait + Clock + Abort + Sync>(
     Ok(Some(gates.accepted.load(Ordering::SeqCst)))
 }
 
-// The host goes on while a viewer is served; a viewer is told the end behind the last commit; a host
-// waits at a backlog; viewers are told the end where nothing is committed.
+// The host goes on while a viewer is served; a viewer is told the end after the last commit; a host
+// waits at a backlog; viewers are told the end if nothing is committed.
 #[test]
 fn workers_come_in_each_order(rt: HostRuntime) -> Result<(), Fail> {
     for (order, count, viewers, due) in [

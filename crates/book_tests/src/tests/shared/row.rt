@@ -1,11 +1,11 @@
-//! Where seats begin, and with which screen, with the values worked by hand.
+//! The positions at which seats begin, and their screens, with the values worked by hand.
 
 ghost use Rattle.std.specs.Prelude.{◌≡◌};
 ghost use Rattle.flusher_core.specs.State.{accepted_count};
-ghost use Rattle.book_tests.specs.OnePlace.{IsOfOnePlace};
+ghost use Rattle.book_tests.specs.OnePixel.{IsOfOnePixel};
 
 use super::UPDATE;
-use crate::{ONE_PLACE, desk_of_one_place};
+use crate::{ONE_PLACE, desk_of_one_pixel};
 use broadcast::{Desk, Start};
 use disk::{Disk, MemoryDisk};
 use pixel_format::Color;
@@ -21,7 +21,7 @@ const BLACK: Color = Color { r: 0, g: 0, b: 0 };
 
 const RED: Color = Color { r: 255, g: 0, b: 0 };
 
-/// What a new seat is handed: where it stands, the colour of the screen there, and how many messages,
+/// What a new seat is handed: its position, the colour of the screen there, and how many messages,
 /// each the update.
 #[derive(Clone, Copy, PartialEq, Eq)]
 struct Begun {
@@ -30,9 +30,9 @@ struct Begun {
     updates: usize,
 }
 
-// Records the update; none where that is refused.
+// Records the update; `None` if that is refused.
 fn record<D: Disk, M: Mark, R: Wait>(rt: &R, alloc: Global, shared: &Shared<D, M>) -> Option<()>
-    requires { IsOfOnePlace M.head }
+    requires { IsOfOnePixel M.head }
 {
     let message = HostMessage::from_bytes(alloc, ONE_PLACE, &UPDATE).ok()?;
     shared.host(rt, 0, message).ok()?;
@@ -42,10 +42,10 @@ fn record<D: Disk, M: Mark, R: Wait>(rt: &R, alloc: Global, shared: &Shared<D, M
     Some(())
 }
 
-// Takes a seat, and what it is handed first; none where that is refused, has no screen, or has
+// Takes a seat, and what it is handed first; `None` if that is refused, has no screen, or has
 // another message than the update.
 fn begin<D: Disk, M: Mark, R: Wait>(rt: &R, shared: &Shared<D, M>, start: Start) -> Option<Begun>
-    requires { IsOfOnePlace M.head }
+    requires { IsOfOnePixel M.head }
 {
     let mut seat = shared.join(rt, start).ok()?;
     let position = seat.position();
@@ -73,7 +73,7 @@ fn begin_all<D: Disk + Drop, M: Mark, R: Wait + Abort>(
     requires modelled { (D.is_modelled → M.is_modelled) × (M.is_modelled → D.is_modelled) }
     requires first { accepted_count desk.value.state.book ≡ M.first }
     requires names { token ≡ M.names }
-    requires sized { IsOfOnePlace M.head }
+    requires sized { IsOfOnePixel M.head }
 {
     let shared = Shared::<D, M>::new(rt, token, desk);
     assert!(rt; record(rt, alloc, &shared).is_some());
@@ -100,7 +100,7 @@ fn begin_all<D: Disk + Drop, M: Mark, R: Wait + Abort>(
 #[test]
 fn a_seat_begins_with_the_screen_there(rt: HostRuntime) -> Result<(), Fail> {
     let alloc = rt.alloc();
-    let desk = desk_of_one_place(alloc, MemoryDisk::new(alloc)).ok_or("no desk")?;
+    let desk = desk_of_one_pixel(alloc, MemoryDisk::new(alloc)).ok_or("no desk")?;
     let token = Token::new(alloc)?;
     begin_all::<MemoryDisk, Brand, _>(&rt, alloc, token, desk);
     Ok(())

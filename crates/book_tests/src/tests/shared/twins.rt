@@ -2,10 +2,10 @@
 
 ghost use Rattle.std.specs.Prelude.{◌≡◌, IfSome};
 ghost use Rattle.flusher_core.specs.State.{accepted_count};
-ghost use Rattle.book_tests.specs.OnePlace.{IsOfOnePlace};
+ghost use Rattle.book_tests.specs.OnePixel.{IsOfOnePixel};
 
 use super::{UPDATE, confirm, find};
-use crate::{ONE_PLACE, desk_of_one_place};
+use crate::{ONE_PLACE, desk_of_one_pixel};
 use Line::{At, Bell, Body, Foreign, Gate, Key, Leave, Live, Newest, Next, Seek, Take, Update};
 use broadcast::{Desk, Seat, Start};
 use disk::{Disk, FailingDisk, MemoryDisk, Switch};
@@ -45,7 +45,7 @@ enum Line {
     Key(u64),
 }
 
-/// Seats that read before, between and behind the steps of a commit, and are moved, one that isn't
+/// Seats that read before, between and after the steps of a commit, and are moved, one that isn't
 /// held before anything is read back. The last two lines have slices of two blocks.
 const READING: [&[Line]; 5] = [
     &[
@@ -82,7 +82,7 @@ const READING: [&[Line]; 5] = [
     &[At(0), Next, Next, Seek(1), Next],
 ];
 
-/// A seat that is taken while a block is written, and another behind its commit.
+/// A seat that is taken while a block is written, and another after its commit.
 const SEATS: [&[Line]; 1] = [&[
     Update,
     Take,
@@ -99,10 +99,10 @@ const SEATS: [&[Line]; 1] = [&[
     Seek(2),
 ]];
 
-/// Behind 300 bells: the second block begins with a key screen.
+/// After 300 bells: the second block begins with a key screen.
 const KEYS: [&[Line]; 1] = [&[Take, Body, Gate, Take, Body, Gate, Key(255), Key(1_000)]];
 
-/// Behind one bell more than may wait.
+/// After one bell more than may wait.
 const ROOM: [&[Line]; 1] = [&[Take, Body, Gate, Bell]];
 
 /// What is kept of the calls: each seat at the desk and its twin, and what the lock gave.
@@ -114,7 +114,7 @@ struct Kept<M: Mark> {
 }
 
 // Each of these makes one call at a desk, and the one of its name through the lock: whether both
-// answer the same; none where memory ran out, or where a call's seat isn't there.
+// answer the same; `None` if memory ran out, or if a call's seat isn't there.
 fn host<D: Disk, M: Mark, R: Wait>(
     rt: &R,
     alloc: Global,
@@ -123,8 +123,8 @@ fn host<D: Disk, M: Mark, R: Wait>(
     tickets: &mut Vec<Ticket<M>>,
     bytes: &[u8],
 ) -> Option<bool>
-    requires place { IsOfOnePlace desk.old.head }
-    requires sized { IsOfOnePlace M.head }
+    requires offset { IsOfOnePixel desk.old.head }
+    requires sized { IsOfOnePixel M.head }
     ensures head { desk.new.head ≡ desk.old.head }
 {
     let message = HostMessage::from_bytes(alloc, ONE_PLACE, bytes).ok()?;
@@ -162,7 +162,7 @@ fn join<D: Disk, M: Mark, R: Wait>(
 
 // A seat of another desk of this kind.
 fn foreign(alloc: Global) -> Option<Seat> {
-    let mut desk = desk_of_one_place(alloc, MemoryDisk::new(alloc))?;
+    let mut desk = desk_of_one_pixel(alloc, MemoryDisk::new(alloc))?;
     desk.join(Start::Live).ok()
 }
 
@@ -191,8 +191,8 @@ fn both<D: Disk, M: Mark, R: Wait>(
     kept: &mut Kept<M>,
     line: Line,
 ) -> Option<bool>
-    requires place { IsOfOnePlace desk.old.head }
-    requires sized { IsOfOnePlace M.head }
+    requires offset { IsOfOnePixel desk.old.head }
+    requires sized { IsOfOnePixel M.head }
     ensures head { desk.new.head ≡ desk.old.head }
 {
     match line {
@@ -243,8 +243,8 @@ fn run_lines<D: Disk, M: Mark, R: Wait + Abort>(
     kept: &mut Kept<M>,
     lines: &[Line],
 )
-    requires place { IsOfOnePlace desk.old.head }
-    requires sized { IsOfOnePlace M.head }
+    requires offset { IsOfOnePixel desk.old.head }
+    requires sized { IsOfOnePixel M.head }
 {
     for line in lines {
         let are_same = both(rt, alloc, desk, shared, kept, *line);
@@ -271,12 +271,12 @@ fn run_both<D: Disk + Drop, M: Mark, R: Wait + Abort>(
     twin: Box<Desk<D>>,
     lines: &[Line],
 ) -> Result<(), ReadFault>
-    requires place { IsOfOnePlace desk.old.head }
+    requires offset { IsOfOnePixel desk.old.head }
     requires head { twin.value.head ≡ M.head }
     requires modelled { (D.is_modelled → M.is_modelled) × (M.is_modelled → D.is_modelled) }
     requires first { accepted_count twin.value.state.book ≡ M.first }
     requires names { token ≡ M.names }
-    requires sized { IsOfOnePlace M.head }
+    requires sized { IsOfOnePixel M.head }
 {
     let shared = Shared::<D, M>::new(rt, token, twin);
     let mut kept = Kept {
@@ -290,11 +290,11 @@ fn run_both<D: Disk + Drop, M: Mark, R: Wait + Abort>(
 
 // A desk whose disk fails once, after so many calls.
 fn failing_desk(alloc: Global, calls: u64) -> Option<Box<Desk<FailingDisk<MemoryDisk>>>>
-    ensures place { IfSome result (λ desk. IsOfOnePlace desk.value.head) }
+    ensures offset { IfSome result (λ desk. IsOfOnePixel desk.value.head) }
 {
     let switch = Switch::new(alloc).ok()?;
     let disk = FailingDisk::new(MemoryDisk::new(alloc), switch.clone().ok()?);
-    let desk = desk_of_one_place(alloc, disk)?;
+    let desk = desk_of_one_pixel(alloc, disk)?;
     switch.fail_after(calls);
     Some(desk)
 }

@@ -46,7 +46,7 @@ returns-in_err-feed-in-Ok-clause-fault g c =
     let bad' : IsDataFault (data_of b.blocks ++ (came.content ++ piece)) f =
     subst (λ z. IsDataFault z f) (append_assoc (data_of b.blocks) came.content piece) (subst (λ z. IsDataFault ((data_of b.blocks ++ came.content) ++ z) f) (first_part new _ n whole c.in-Ok.ensures.bound.0) bad) in
     of_front _ _ (came.content ++ piece) (λ rest. IsFault (seen ++ (u32_bytes c.args.length ++ rest)) f) (Consumes-trans _ _ _ came.content piece came.consumed c.in-Ok.ensures.bytes.0)
-    (λ behind. content_fault f seen b.blocks c.args.length (came.content ++ piece) behind b.laid b.long c.ranges.length.fits fits bad'))
+    (λ following. content_fault f seen b.blocks c.args.length (came.content ++ piece) following b.laid b.long c.ranges.length.fits fits bad'))
 
 pub loop-left-preserved : goal.loop-left-preserved
 loop-left-preserved g c =

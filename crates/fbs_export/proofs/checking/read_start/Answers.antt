@@ -19,7 +19,7 @@ returns-then-not-begins_a_file-clause-fault g c =
     let all : bytes ≡ c.fill.new.buffer = take_all c.in_ok-came.came c.fill.new.buffer (omega (arith, c.fill.ensures.size, c.if-came-lt12.false)) in
     let bad : is_start bytes ≡ false = ap is_start all ∙ sym c.begins_a_file.ensures ∙ c.if-not-begins_a_file.true in
     let long : length bytes ≡ 12 = ap (λ z. length z) all ∙ c.fill.ensures.size in
-    of_front _ _ bytes (λ b. is_start (take 12 b) ≡ false) c.in_ok-came.ensures.read (λ behind. ap is_start (take_at bytes behind 12 long) ∙ bad)
+    of_front _ _ bytes (λ b. is_start (take 12 b) ≡ false) c.in_ok-came.ensures.read (λ following. ap is_start (take_at bytes following 12 long) ∙ bad)
 
 pub returns-clause-started : goal.returns-clause-started
 returns-clause-started g c = grind (arith, common_steps)

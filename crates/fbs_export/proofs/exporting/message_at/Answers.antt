@@ -1,7 +1,7 @@
 use Rattle.keyed_entries.specs.Entry.{messages_in}
-use Rattle.replay.proofs.Shown.{message_behind}
+use Rattle.replay.proofs.Shown.{message_after}
 use Rattle.fbs_export.proofs.exporting.message_at.Goals as goal
 
 pub returns-clause-message : goal.returns-clause-message
 returns-clause-message g c = λ m.
-    message_behind (messages_in c.args.index.now.blocks) c.args.number c.in-Some.stamped c.pop.new.self.items c.in-Ok.messages.items (c.in-Ok.ensures.read m) c.in-Some.ensures.items
+    message_after (messages_in c.args.index.now.blocks) c.args.number c.in-Some.stamped c.pop.new.self.items c.in-Ok.messages.items (c.in-Ok.ensures.read m) c.in-Some.ensures.items

@@ -36,11 +36,11 @@ returns-in_err-write_messages-clause-front g c = λ m.
     let shown : IsScreenAt i.head all from screen = subst (IsScreenAt i.head all from) (sym c.screen.ensures) played in
     let front : Appends (g.W.Write.contents c.args.out.now) (g.W.Write.contents c.write_front.new.out) (front_text i.head (color_at screen)) =
     subst (λ z. Appends (g.W.Write.contents c.args.out.now) (g.W.Write.contents c.write_front.new.out) (front_text z (color_at screen))) c.in-Ok.ensures.only.2 c.in_ok-write_front.ensures.all in
-    let behind : WroteFront (g.W.Write.contents c.write_front.new.out) (g.W.Write.contents c.write_messages.new.out) (messages_from all from c.args.to) =
+    let following : WroteFront (g.W.Write.contents c.write_front.new.out) (g.W.Write.contents c.write_messages.new.out) (messages_from all from c.args.to) =
     subst (λ z. WroteFront (g.W.Write.contents c.write_front.new.out) (g.W.Write.contents c.write_messages.new.out) (messages_from all z c.args.to)) (c.position.ensures ∙ c.in-Ok.ensures.position)
     (subst (λ z. WroteFront (g.W.Write.contents c.write_front.new.out) (g.W.Write.contents c.write_messages.new.out) (messages_from (messages_in z) c.position.result c.args.to)) (c.in-Ok.ensures.only.3 m) (c.write_messages.ensures.front m)) in
     subst (WroteFront (g.W.Write.contents c.args.out.now) (g.W.Write.contents c.write_messages.new.out)) (export_is i.head all from c.args.to screen shown)
-    (front_of_second _ _ _ (front_text i.head (color_at screen)) (messages_from all from c.args.to) front behind)
+    (front_of_second _ _ _ (front_text i.head (color_at screen)) (messages_from all from c.args.to) front following)
 
 pub returns-clause-all : goal.returns-clause-all
 returns-clause-all g c = λ m.
@@ -52,11 +52,11 @@ returns-clause-all g c = λ m.
     let shown : IsScreenAt i.head all from screen = subst (IsScreenAt i.head all from) (sym c.screen.ensures) played in
     let front : Appends (g.W.Write.contents c.args.out.now) (g.W.Write.contents c.write_front.new.out) (front_text i.head (color_at screen)) =
     subst (λ z. Appends (g.W.Write.contents c.args.out.now) (g.W.Write.contents c.write_front.new.out) (front_text z (color_at screen))) c.in-Ok.ensures.only.2 c.in_ok-write_front.ensures.all in
-    let behind : Appends (g.W.Write.contents c.write_front.new.out) (g.W.Write.contents c.write_messages.new.out) (messages_from all from c.args.to) =
+    let following : Appends (g.W.Write.contents c.write_front.new.out) (g.W.Write.contents c.write_messages.new.out) (messages_from all from c.args.to) =
     subst (λ z. Appends (g.W.Write.contents c.write_front.new.out) (g.W.Write.contents c.write_messages.new.out) (messages_from all z c.args.to)) (c.position.ensures ∙ c.in-Ok.ensures.position)
     (subst (λ z. Appends (g.W.Write.contents c.write_front.new.out) (g.W.Write.contents c.write_messages.new.out) (messages_from (messages_in z) c.position.result c.args.to)) (c.in-Ok.ensures.only.3 m) (c.in_ok-write_messages.ensures.all m)) in
     subst (Appends (g.W.Write.contents c.args.out.now) (g.W.Write.contents c.write_messages.new.out)) (export_is i.head all from c.args.to screen shown)
-    (Appends-trans _ _ _ (front_text i.head (color_at screen)) (messages_from all from c.args.to) front behind)
+    (Appends-trans _ _ _ (front_text i.head (color_at screen)) (messages_from all from c.args.to) front following)
 
 pub returns-clause-front : goal.returns-clause-front
 returns-clause-front g c = λ m. wrote_all _ _ _ (returns-clause-all g c m)

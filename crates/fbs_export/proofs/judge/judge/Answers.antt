@@ -4,7 +4,7 @@ use Rattle.terms.specs.Reading.{Reading, guard}
 use Rattle.fbs_export.specs.declared.fault.FbsFault.{FbsFault}
 use Rattle.fbs_export.specs.declared.fault.FbsFault.TheVariants as faults
 use Rattle.fbs_export.specs.Opening.{Opening, opening_at, security_then, version}
-use Rattle.fbs_export.proofs.Judging.{part_short, part_whole, judged_behind}
+use Rattle.fbs_export.proofs.Judging.{part_short, part_whole, judged_after}
 use Rattle.fbs_export.proofs.judge.judge.Goals as goal
 
 next : List ℕ → List ℕ → Reading Opening FbsFault
@@ -28,6 +28,6 @@ returns c =
     let bytes = c.args.bytes.now in
     let is : bytes_eq (take 12 bytes) version ≡ true = rw (← c.split_at.ensures.front) (search rules) in
     let enough = c.if-bytes-lt12.false in
-    judged_behind opening_at security_then 12 28 40 bytes c.judge_security.result
+    judged_after opening_at security_then 12 28 40 bytes c.judge_security.result
     (λ more. part_whole 12 bytes more next enough ∙ rw is refl)
     enough refl (rw (← c.split_at.ensures.back) c.judge_security.ensures)

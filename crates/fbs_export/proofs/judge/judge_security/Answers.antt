@@ -5,7 +5,7 @@ use Rattle.terms.specs.Number.{u32_at}
 use Rattle.fbs_export.specs.declared.fault.FbsFault.{FbsFault}
 use Rattle.fbs_export.specs.declared.fault.FbsFault.TheVariants as faults
 use Rattle.fbs_export.specs.Opening.{Opening, security_then, size_then}
-use Rattle.fbs_export.proofs.Judging.{part_short, part_whole, judged_behind}
+use Rattle.fbs_export.proofs.Judging.{part_short, part_whole, judged_after}
 use Rattle.fbs_export.proofs.judge.judge_security.Goals as goal
 
 next : List ℕ → List ℕ → Reading Opening FbsFault
@@ -29,6 +29,6 @@ returns c =
     let bytes = c.args.bytes.now in
     let is : u32_at (take 4 bytes) 0 ≡ 1 = rw (← c.split_at.ensures.front) (omega (arith, c.read_u32.ensures, c.if-read_u32-ne-NONE.false)) in
     let enough = c.if-bytes-lt4.false in
-    judged_behind security_then size_then 4 24 28 bytes c.judge_size.result
+    judged_after security_then size_then 4 24 28 bytes c.judge_size.result
     (λ more. part_whole 4 bytes more next enough ∙ rw is refl)
     enough refl (rw (← c.split_at.ensures.back) c.judge_size.ensures)

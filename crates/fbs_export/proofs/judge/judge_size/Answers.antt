@@ -6,7 +6,7 @@ use Rattle.fbs_export.specs.declared.fault.FbsFault.TheVariants as faults
 use Rattle.pixel_format.specs.declared.kind.Format.TheVariants.{Two}
 use Rattle.pixel_format.specs.Limits.{limits, is_size}
 use Rattle.fbs_export.specs.Opening.{Opening, size_then, format_then}
-use Rattle.fbs_export.proofs.Judging.{part_short, part_whole, judged_behind}
+use Rattle.fbs_export.proofs.Judging.{part_short, part_whole, judged_after}
 use Rattle.fbs_export.proofs.judge.judge_size.Goals as goal
 
 next : List ℕ → List ℕ → Reading Opening FbsFault
@@ -34,6 +34,6 @@ returns c =
     let high : u16_at (take 4 c.args.bytes.now) 2 ≡ c.read_u16-2.result = rw (← c.split_at.ensures.front) (omega (arith, c.read_u16-2.ensures)) in
     let is : is_size (limits Two) c.read_u16.result c.read_u16-2.result ≡ true = search rules in
     let enough = c.if-bytes-lt4.false in
-    judged_behind size_then (format_then c.read_u16.result c.read_u16-2.result) 4 20 24 bytes c.judge_format.result
+    judged_after size_then (format_then c.read_u16.result c.read_u16-2.result) 4 20 24 bytes c.judge_format.result
     (λ more. part_whole 4 bytes more next enough ∙ rw (wide, high, is) refl)
     enough refl (rw (← c.split_at.ensures.back) c.judge_format.ensures)

@@ -8,14 +8,14 @@ use Rattle.hextile.proofs.encoding.append_tile.Goals as goal
 
 pub append_parts_tile-requires-clause-background : goal.append_parts_tile-requires-clause-background
 append_parts_tile-requires-clause-background c =
-    subst (λ (z : Color). IsWithin c.args.format.now z) (sym c.color_of-background.ensures) (c.requires.numbers c.choose_background-chosen.result.place 0 c.choose_background-chosen.ensures.place).within
+    subst (λ (z : Color). IsWithin c.args.format.now z) (sym c.color_of-background.ensures) (c.requires.numbers c.choose_background-chosen.result.index 0 c.choose_background-chosen.ensures.index).within
 
 pub append_parts_tile-requires-clause-foreground : goal.append_parts_tile-requires-clause-foreground
 append_parts_tile-requires-clause-foreground c =
     let cover = c.if-cover.ensures refl c.requires.numbers in
     ink_within c.args.format.now c.args.w c.args.h c.color_of-background.result c.unwrap_or-foreground.result c.shared_color-ink.result
     c.as_slice-parts.result.now c.cover.new.parts.items c.as_slice-parts.ensures.value c.unwrap_or-foreground.ensures c.shared_color-ink.ensures.all c.shared_color-ink.ensures.some cover.parts_are
-    (subst (λ (z : Color). IsWithin c.args.format.now z) (sym c.color_of-background.ensures) (c.requires.numbers c.choose_background-chosen.result.place 0 c.choose_background-chosen.ensures.place).within)
+    (subst (λ (z : Color). IsWithin c.args.format.now z) (sym c.color_of-background.ensures) (c.requires.numbers c.choose_background-chosen.result.index 0 c.choose_background-chosen.ensures.index).within)
 
 pub returns-then-parts_size-numbers-clause-ok : goal.returns-then-parts_size-numbers-clause-ok
 returns-then-parts_size-numbers-clause-ok c = λ before is.

@@ -3,30 +3,30 @@ use Rattle.std.proofs.lemmas.Grind.{common_steps}
 use Rattle.std.proofs.lemmas.List.{length-take-le, take-map}
 use Rattle.pixel_format.specs.Number.{number_color, colors_of}
 use Rattle.hextile.specs.Tiles.{tile_count}
-use Rattle.hextile.proofs.EncodedTiles.{few_places, none_written, one_written, all_written}
+use Rattle.hextile.proofs.EncodedTiles.{few_pixels, none_written, one_written, all_written}
 use Rattle.hextile.proofs.NumberTiles.{numbers_taken, tile_is, numbers_within}
 use Rattle.hextile.proofs.encoding.append_tiles.Goals as goal
 
 pub slice_bounds-tile-end : goal.slice_bounds-tile-end
 slice_bounds-tile-end c =
-    few_places c.tile_area-area.result.w c.tile_area-area.result.h (length c.tile_numbers-tile.result)
+    few_pixels c.tile_area-area.result.w c.tile_area-area.result.h (length c.tile_numbers-tile.result)
     (omega (arith, c.tile_area-area.ensures.width)) (omega (arith, c.tile_area-area.ensures.height)) c.tile_numbers-tile.ensures.size
 
 pub slice_bounds-append_tile-end : goal.slice_bounds-append_tile-end
 slice_bounds-append_tile-end c =
-    let fits = few_places c.tile_area-area.result.w c.tile_area-area.result.h (length c.tile_numbers-tile.result)
+    let fits = few_pixels c.tile_area-area.result.w c.tile_area-area.result.h (length c.tile_numbers-tile.result)
     (omega (arith, c.tile_area-area.ensures.width)) (omega (arith, c.tile_area-area.ensures.height)) c.tile_numbers-tile.ensures.size in
     sym (length-take-le _ c.tile_numbers-tile.result fits)
 
 pub append_tile-requires-clause-size : goal.append_tile-requires-clause-size
 append_tile-requires-clause-size c =
-    let fits = few_places c.tile_area-area.result.w c.tile_area-area.result.h (length c.tile_numbers-tile.result)
+    let fits = few_pixels c.tile_area-area.result.w c.tile_area-area.result.h (length c.tile_numbers-tile.result)
     (omega (arith, c.tile_area-area.ensures.width)) (omega (arith, c.tile_area-area.ensures.height)) c.tile_numbers-tile.ensures.size in
     length-take-le _ c.tile_numbers-tile.result fits
 
 pub append_tile-requires-clause-numbers : goal.append_tile-requires-clause-numbers
 append_tile-requires-clause-numbers c =
-    let fits = few_places c.tile_area-area.result.w c.tile_area-area.result.h (length c.tile_numbers-tile.result)
+    let fits = few_pixels c.tile_area-area.result.w c.tile_area-area.result.h (length c.tile_numbers-tile.result)
     (omega (arith, c.tile_area-area.ensures.width)) (omega (arith, c.tile_area-area.ensures.height)) c.tile_numbers-tile.ensures.size in
     numbers_taken c.args.format.now c.tile_numbers-tile.result (c.tile_area-area.result.w * c.tile_area-area.result.h) fits
     (numbers_within c.args.format.now c.args.w c.args.h c.args.numbers.now c.tile_numbers-tile.result c.loop-number.number c.tile_area-area.result.w c.tile_area-area.result.h

@@ -1,7 +1,7 @@
 use Rattle.std.proofs.Common.{◌≡◌, ◌∙◌, ◌<◌, ℕ, subst, arith, refl, []}
 use Rattle.hextile.proofs.Held.{black_pixel}
 use Rattle.hextile.specs.Tiles.{tile_count}
-use Rattle.hextile.proofs.Tiling.{some_places}
+use Rattle.hextile.proofs.Tiling.{some_pixels}
 use Rattle.hextile.proofs.PaintedTiles.{TilesProgress, tiles_begin, next_tile, tiles_go, tiles_end}
 use Rattle.hextile.proofs.painting.paint.Goals as goal
 
@@ -21,7 +21,7 @@ paint_tile-rest-requires-clause-begin g c =
     let h = c.args.h in
     let number = c.loop-number.number in
     let less : number < tile_count w h = omega (arith, c.loop-number-test.true, c.count_tiles-number-end.ensures) in
-    let some = some_places w h number less in
+    let some = some_pixels w h number less in
     let p = c.loop-number.invariant.painted c.requires.whole.0 c.requires.whole.1 in
     let next = next_tile c.args.format.now w h number p.named c.loop-number.rest.now p.others less p.are in
     record { named = p.named; tile = next.tile; rest = next.rest; is = rw (c.tile_area-tile.ensures.width, c.tile_area-tile.ensures.height) next.is }
@@ -32,7 +32,7 @@ loop-number-preserved g c =
     let h = c.args.h in
     let number = c.loop-number.number in
     let less : number < tile_count w h = omega (arith, c.loop-number-test.true, c.count_tiles-number-end.ensures) in
-    let some = some_places w h number less in
+    let some = some_pixels w h number less in
     let tile = c.tile_area-tile.ensures in
     let done = c.paint_tile-rest.ensures in
     record {

@@ -84,11 +84,11 @@ paint_parts-requires-clause-begin g c =
     let here = code_body f c.requires.begin.named area.w area.h c.args.bytes.now m c.requires.begin.tile c.requires.begin.rest c.read_mask-mask.ensures c.requires.begin.is in
     let t = parts_taken f m area.w area.h body c.requires.begin.tile c.requires.begin.rest c.if-mask.false here in
     let head : c.split_at-2.result.0.now ≡ take (head_bytes f m) body = c.split_at-2.ensures.front ∙ ap (λ n. take n body) c.head_size.ensures in
-    let behind : c.split_at-2.result.1.now ≡ drop (head_bytes f m) body = c.split_at-2.ensures.back ∙ ap (λ n. drop n body) c.head_size.ensures in
+    let following : c.split_at-2.result.1.now ≡ drop (head_bytes f m) body = c.split_at-2.ensures.back ∙ ap (λ n. drop n body) c.head_size.ensures in
     let count : c.read_count-count.result ≡ count_in f m (take (head_bytes f m) body) = c.read_count-count.ensures ∙ ap (count_in f m) head in
     let are : subrectangles_at f m.colored area.w area.h c.read_count-count.result c.split_at-2.result.1.now ≡ Got t.parts c.requires.begin.rest =
     ap (λ n. subrectangles_at f m.colored area.w area.h n c.split_at-2.result.1.now) count
-    ∙ ap (subrectangles_at f m.colored area.w area.h (count_in f m (take (head_bytes f m) body))) behind ∙ t.are in
+    ∙ ap (subrectangles_at f m.colored area.w area.h (count_in f m (take (head_bytes f m) body))) following ∙ t.are in
     record { parts = t.parts; rest = c.requires.begin.rest; is = are }
 
 pub returns-clause-rest : goal.returns-clause-rest
@@ -100,11 +100,11 @@ returns-clause-rest g c = λ named tile rest e.
     let here = code_body f named area.w area.h c.args.bytes.now m tile rest c.read_mask-mask.ensures e in
     let t = parts_taken f m area.w area.h body tile rest c.if-mask.false here in
     let head : c.split_at-2.result.0.now ≡ take (head_bytes f m) body = c.split_at-2.ensures.front ∙ ap (λ n. take n body) c.head_size.ensures in
-    let behind : c.split_at-2.result.1.now ≡ drop (head_bytes f m) body = c.split_at-2.ensures.back ∙ ap (λ n. drop n body) c.head_size.ensures in
+    let following : c.split_at-2.result.1.now ≡ drop (head_bytes f m) body = c.split_at-2.ensures.back ∙ ap (λ n. drop n body) c.head_size.ensures in
     let count : c.read_count-count.result ≡ count_in f m (take (head_bytes f m) body) = c.read_count-count.ensures ∙ ap (count_in f m) head in
     let are : subrectangles_at f m.colored area.w area.h c.read_count-count.result c.split_at-2.result.1.now ≡ Got t.parts rest =
     ap (λ n. subrectangles_at f m.colored area.w area.h n c.split_at-2.result.1.now) count
-    ∙ ap (subrectangles_at f m.colored area.w area.h (count_in f m (take (head_bytes f m) body))) behind ∙ t.are in
+    ∙ ap (subrectangles_at f m.colored area.w area.h (count_in f m (take (head_bytes f m) body))) following ∙ t.are in
     c.paint_parts.ensures.rest t.parts rest are
 
 pub returns-clause-colors : goal.returns-clause-colors
@@ -127,11 +127,11 @@ returns-clause-painted g c = λ named tile rest e.
     let here = code_body f named area.w area.h c.args.bytes.now m tile rest c.read_mask-mask.ensures e in
     let t = parts_taken f m area.w area.h body tile rest c.if-mask.false here in
     let head : c.split_at-2.result.0.now ≡ take (head_bytes f m) body = c.split_at-2.ensures.front ∙ ap (λ n. take n body) c.head_size.ensures in
-    let behind : c.split_at-2.result.1.now ≡ drop (head_bytes f m) body = c.split_at-2.ensures.back ∙ ap (λ n. drop n body) c.head_size.ensures in
+    let following : c.split_at-2.result.1.now ≡ drop (head_bytes f m) body = c.split_at-2.ensures.back ∙ ap (λ n. drop n body) c.head_size.ensures in
     let count : c.read_count-count.result ≡ count_in f m (take (head_bytes f m) body) = c.read_count-count.ensures ∙ ap (count_in f m) head in
     let are : subrectangles_at f m.colored area.w area.h c.read_count-count.result c.split_at-2.result.1.now ≡ Got t.parts rest =
     ap (λ n. subrectangles_at f m.colored area.w area.h n c.split_at-2.result.1.now) count
-    ∙ ap (subrectangles_at f m.colored area.w area.h (count_in f m (take (head_bytes f m) body))) behind ∙ t.are in
+    ∙ ap (subrectangles_at f m.colored area.w area.h (count_in f m (take (head_bytes f m) body))) following ∙ t.are in
     let painted = c.paint_parts.ensures.painted t.parts rest are in
     parts_painted area.x area.y area.w area.h c.name_colors.result.background c.name_colors.result.foreground tile _ _ t.parts
     (g.C.Canvas.width c.args.canvas.now) (g.C.Canvas.height c.args.canvas.now) (g.C.Canvas.picture c.args.canvas.now) (g.C.Canvas.picture c.fill.new.self) (g.C.Canvas.picture c.paint_parts.new.canvas)

@@ -12,7 +12,7 @@ loop-row-preserved c =
     let size : length c.loop-row.colors ≡ area.h * area.w = c.loop-row.auto.colors ∙ c.requires.size in
     let down : row < area.h = rw c.from-row-end.ensures at c.loop-row-test.true in
     let len = rw (c.from-w.ensures) at c.read_row.auto.colors in
-    let value = rw (c.from-w.ensures, c.area_row-places.ensures) at c.read_row.ensures.value in
+    let value = rw (c.from-w.ensures, c.area_row-slots.ensures) at c.read_row.ensures.value in
     let screen = rw (c.from-w.ensures) at c.read_row.ensures.screen in
     let read = row_read c.args.pixels.now c.loop-row.colors c.read_row.new.colors width area.w area.x area.y row area.h size down len value screen in
     rw c.from-w.ensures

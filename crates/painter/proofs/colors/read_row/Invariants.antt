@@ -4,7 +4,7 @@ use Rattle.pixel_format.specs.Canvas.{nth}
 use Rattle.painter.specs.Pixels.{pixel_color_at}
 use Rattle.painter.proofs.colors.read_row.Given as goal
 
--- the places so far have their colours
+-- the pixels so far have their colours
 abbrev pub invariant-loop-k : goal.invariant-loop-k
 invariant-loop-k l = record {
   value : (j : ℕ) → j < l.k → nth l.colors j ≡ pixel_color_at l.pixels j;

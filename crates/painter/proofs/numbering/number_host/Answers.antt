@@ -13,9 +13,9 @@ pub loop-k-preserved : goal.loop-k-preserved
 loop-k-preserved c =
     let row = c.args.row.now in
     let k = c.loop-k.k in
-    let place = c.index-row-k.result in
+    let slot = c.index-row-k.result in
     let fits : k < length c.loop-k.numbers = omega (arith, c.loop-k-test.true, c.loop-k.auto.numbers, c.requires) in
-    number_more host_format (seen_colors host_format row) c.loop-k.numbers k place.number (color_of place) fits c.loop-k.invariant refl
-    (sym (same_color (color_of place)) ∙ ap (λ p. converted host_format (color_of p)) c.index-row-k.is
-    ∙ sym (get_or-map (λ p. converted host_format (color_of p)) row k place black c.loop-k-test.true))
-    (host_number place)
+    number_more host_format (seen_colors host_format row) c.loop-k.numbers k slot.number (color_of slot) fits c.loop-k.invariant refl
+    (sym (same_color (color_of slot)) ∙ ap (λ p. converted host_format (color_of p)) c.index-row-k.is
+    ∙ sym (get_or-map (λ p. converted host_format (color_of p)) row k slot black c.loop-k-test.true))
+    (host_number slot)

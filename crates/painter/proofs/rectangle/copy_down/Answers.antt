@@ -14,12 +14,12 @@ loop-row-preserved c =
     let initial = color_in c.args.pixels.now width in
     let copied = rw (c.from-top.ensures, c.from-left.ensures, c.from-from_top.ensures, c.from-from_left.ensures, c.from-w.ensures, c.from-width.ensures) at c.copy_row.ensures.copied in
     let below = rw (c.from-top.ensures, c.from-left.ensures, c.from-width.ensures) at c.copy_row.ensures.below in
-    let behind = rw (c.from-top.ensures, c.from-left.ensures, c.from-w.ensures, c.from-width.ensures) at c.copy_row.ensures.behind in
+    let following = rw (c.from-top.ensures, c.from-left.ensures, c.from-w.ensures, c.from-width.ensures) at c.copy_row.ensures.following in
     let next : c.loop-row.row ≡ row + 1 = omega (arith, c.loop-row-test.true) in
     let so_far = rw (c.from-width.ensures, next) at c.loop-row.invariant.copied in
     let within : row < area.h = omega (arith, next, c.loop-row.invariant.some) in
     let writes = row_copied c.loop-row.pixels c.copy_row.new.pixels width source area (rows_from area (row + 1)) initial row c.requires.area.columns c.requires.source.columns
-    (λ k place. let top = place.top in omega (arith, c.requires.below)) so_far copied below behind in
+    (λ k slot. let top = slot.top in omega (arith, c.requires.below)) so_far copied below following in
     record {
       some = omega (arith, c.loop-row.invariant.some);
       len = c.copy_row.ensures.length ∙ c.loop-row.invariant.len;

@@ -8,11 +8,11 @@ returns-then-from-count-clause-copied c = grind (arith, common_steps)
 pub returns-then-from-count-clause-below : goal.returns-then-from-count-clause-below
 returns-then-from-count-clause-below c = grind (arith, common_steps)
 
-pub returns-then-from-count-clause-behind : goal.returns-then-from-count-clause-behind
-returns-then-from-count-clause-behind c = grind (arith, common_steps)
+pub returns-then-from-count-clause-following : goal.returns-then-from-count-clause-following
+returns-then-from-count-clause-following c = grind (arith, common_steps)
 
 pub returns-then-to-count-clause-below : goal.returns-then-to-count-clause-below
 returns-then-to-count-clause-below c = grind (arith, common_steps)
 
-pub returns-then-to-count-clause-behind : goal.returns-then-to-count-clause-behind
-returns-then-to-count-clause-behind c = grind (arith, common_steps)
+pub returns-then-to-count-clause-following : goal.returns-then-to-count-clause-following
+returns-then-to-count-clause-following c = grind (arith, common_steps)

@@ -14,10 +14,10 @@ loop-row-preserved c = λ x y across.
     let initial = color_in c.args.pixels.now width in
     let copied = rw (c.from-top.ensures, c.from-left.ensures, c.from-from_top.ensures, c.from-from_left.ensures, c.from-w.ensures, c.from-width.ensures) at c.copy_row.ensures.copied in
     let below = rw (c.from-top.ensures, c.from-left.ensures, c.from-width.ensures) at c.copy_row.ensures.below in
-    let behind = rw (c.from-top.ensures, c.from-left.ensures, c.from-w.ensures, c.from-width.ensures) at c.copy_row.ensures.behind in
+    let following = rw (c.from-top.ensures, c.from-left.ensures, c.from-w.ensures, c.from-width.ensures) at c.copy_row.ensures.following in
     let so_far = rw c.from-width.ensures at c.loop-row.invariant in
     let writes = row_copied c.loop-row.pixels c.copy_row.new.pixels width source area (rows_of area row) initial row c.requires.area.columns c.requires.source.columns
-    (λ k place. let bottom = place.bottom in omega (arith, c.requires.above)) so_far copied below behind in
+    (λ k slot. let bottom = slot.bottom in omega (arith, c.requires.above)) so_far copied below following in
     rw c.from-width.ensures
     (row_below c.loop-row.pixels c.copy_row.new.pixels width area (copied_picture source area initial) (initial x y) row x y writes (omega (arith, across)) (so_far x y (omega (arith, across))))
 

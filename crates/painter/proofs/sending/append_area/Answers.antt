@@ -16,7 +16,7 @@ loop-row-preserved c =
     let pixels = c.args.pixels.now in
     let width = c.args.width in
     let row = c.loop-row.row in
-    let told = rw c.area_row-places.ensures at c.in_ok-append_row.ensures.ok in
+    let told = rw c.area_row-slots.ensures at c.in_ok-append_row.ensures.ok in
     let start : ℕ = (area.y + row) * width + area.x in
     subst (λ (cs : List Color). Appends (ArePixels f cs) c.args.out.now.items c.append_row.new.out.items)
     (sym (rows_joined (λ n. seen_colors f (take area.w (drop ((area.y + n) * width + area.x) pixels))) row))

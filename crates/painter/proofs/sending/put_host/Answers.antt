@@ -12,9 +12,9 @@ write_number-requires-clause-number c =
 
 pub loop-k-preserved : goal.loop-k-preserved
 loop-k-preserved c =
-    let place = c.index-row-k.result in
+    let slot = c.index-row-k.result in
     let put = rw c.host-host.ensures at c.write_number.ensures.bytes in
     let back = rw c.host-host.ensures at c.write_number.ensures.color in
-    row_more host_format c.args.row.now c.loop-k.bytes c.write_number.new.bytes c.loop-k.k 4 place (color_of place) refl (c.loop-k.auto.bytes ∙ c.requires)
+    row_more host_format c.args.row.now c.loop-k.bytes c.write_number.new.bytes c.loop-k.k 4 slot (color_of slot) refl (c.loop-k.auto.bytes ∙ c.requires)
     c.loop-k-test.true c.write_number.auto.bytes c.loop-k.invariant put back
-    (sym (same_color (color_of place)) ∙ ap (λ p. converted host_format (color_of p)) c.index-row-k.is)
+    (sym (same_color (color_of slot)) ∙ ap (λ p. converted host_format (color_of p)) c.index-row-k.is)

@@ -6,6 +6,6 @@ use Rattle.rect_codec.specs.Written.{IsPixelOf}
 use Rattle.painter.specs.Sent.{seen_colors}
 use Rattle.painter.proofs.sending.put_host.Given as goal
 
--- the pixels so far are those of their places
+-- the pixels so far are those of their colours
 abbrev pub invariant-loop-k : goal.invariant-loop-k
 invariant-loop-k l = (j : ℕ) → j < l.k → IsPixelOf host_format (nth (seen_colors host_format l.row) j) (pixel_at host_format l.bytes j)

@@ -5,6 +5,6 @@ use Rattle.rect_codec.specs.Written.{IsPixelOf}
 use Rattle.painter.specs.Sent.{seen_colors}
 use Rattle.painter.proofs.sending.put_small.Given as goal
 
--- the pixels so far are those of their places
+-- the pixels so far are those of their colours
 abbrev pub invariant-loop-k : goal.invariant-loop-k
 invariant-loop-k l = (j : ℕ) → j < l.k → IsPixelOf l.format (nth (seen_colors l.format l.row) j) (pixel_at l.format l.bytes j)

@@ -21,7 +21,7 @@ loop-frame-init g c =
       history = λ modelled. refl;
       unfailed = λ modelled. refl;
       picture = inl c.requires.picture;
-      behind = c.requires.behind;
+      following = c.requires.following;
       written = λ modelled. ([], refl, Appends-nil _);
     }
 
@@ -40,7 +40,7 @@ loop-frame-preserved g c =
     let head : c.count_at.new.index.head ≡ old.head = count.only.2 ∙ loop.head in
     let blocks = λ (modelled : D.is_modelled). count.only.3 modelled ∙ loop.blocks modelled in
     let shown = λ (modelled : D.is_modelled). rw (c.moment.ensures, ap messages_in (loop.blocks modelled)) at (count.shown modelled) in
-    let position = λ (modelled : D.is_modelled). show.position (loop.behind modelled c.in_ok-count.count (shown modelled)) in
+    let position = λ (modelled : D.is_modelled). show.position (loop.following modelled c.in_ok-count.count (shown modelled)) in
     let painted = λ (modelled : D.is_modelled). rw (head, ap messages_in (blocks modelled)) at (show.painted modelled) in
     record {
       width = show.width ∙ loop.width;
@@ -52,7 +52,7 @@ loop-frame-preserved g c =
       history = λ modelled. show.only.0 modelled ∙ count.only.0 modelled ∙ loop.history modelled;
       unfailed = λ modelled. unfailed (show.cause modelled) (λ failed. cc) ∙ unfailed (count.cause modelled) (λ failed. cc) ∙ loop.unfailed modelled;
       picture = inr show.picture;
-      behind = λ modelled n later.
+      following = λ modelled n later.
           let grows = frames_grow film.from film.rate frame film.rated in
           omega (arith, position modelled, shown_later (frame_moment film.from film.rate frame) (frame_moment film.from film.rate (frame + 1)) messages c.in_ok-count.count n grows (shown modelled) later);
       written = λ modelled.

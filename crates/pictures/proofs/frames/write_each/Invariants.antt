@@ -26,6 +26,6 @@ invariant-loop-frame g l =
       history : D.is_modelled → D.history l.index.disk ≡ D.history first.disk;
       unfailed : D.is_modelled → D.failures l.index.disk ≡ D.failures first.disk;
       picture : (l.picture.items ≡ []) ⊎ (l.picture.items ≡ picture_text Ppm screen.width screen.height (color_at screen));
-      behind : D.is_modelled → (n : ℕ) → IsShownAt (frame_moment film.from film.rate l.frame) messages n → l.replay.position ≤ n;
+      following : D.is_modelled → (n : ℕ) → IsShownAt (frame_moment film.from film.rate l.frame) messages n → l.replay.position ≤ n;
       written : D.is_modelled → (text : List ℕ) × AreFrames first.head messages film.from film.rate l.frame text × Appends (g.W.Write.contents l.fn.out) (g.W.Write.contents l.out) text;
     }

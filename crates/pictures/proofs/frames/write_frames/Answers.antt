@@ -16,8 +16,8 @@ write_each-requires-clause-painted g c = λ modelled.
     let replay = c.in_ok-replay.ensures in
     rw (replay.position, replay.only.2, replay.only.3 modelled) (replay.screen modelled)
 
-pub write_each-requires-clause-behind : goal.write_each-requires-clause-behind
-write_each-requires-clause-behind g c = λ modelled n later.
+pub write_each-requires-clause-following : goal.write_each-requires-clause-following
+write_each-requires-clause-following g c = λ modelled n later.
     let film = c.args.film.now in
     let first = c.in_ok-first.ensures in
     let replay = c.in_ok-replay.ensures in

@@ -1,7 +1,7 @@
 use Rattle.std.proofs.Common.{◌≡◌, ℕ, ◌-◌, ◌<◌, ◌≤◌, List, length, get_or}
 use Rattle.pixel_format.proofs.runs.end_of_number.Given as goal
 
--- the places from a start to an end have a number
+-- the positions from a start to an end have a number
 pub record OneNumber (numbers : List ℕ) (start end : ℕ) (number : ℕ) : Type 0 where
   pub reached : start ≤ end
   pub within : end ≤ length numbers

@@ -12,15 +12,15 @@ loop-k-preserved c =
     let inside = c.loop-k-test.true in
     elim c.if-votes-eq0.branch [
       | then-votes-eq0 w ↦
-          rw (w.place-is, w.votes-is) (record { votes = first_vote c.args.numbers.now c.loop-k.k c.loop-k.place c.loop-k.votes so_far inside w.if-votes-eq0.true })
+          rw (w.index-is, w.votes-is) (record { votes = first_vote c.args.numbers.now c.loop-k.k c.loop-k.index c.loop-k.votes so_far inside w.if-votes-eq0.true })
       | else-votes-eq0+then-numbers-k w ↦
-          rw (w.place-is, w.votes-is) (record { votes = vote_more c.args.numbers.now c.loop-k.k c.loop-k.place c.loop-k.votes so_far inside w.if-numbers-k.true })
+          rw (w.index-is, w.votes-is) (record { votes = vote_more c.args.numbers.now c.loop-k.k c.loop-k.index c.loop-k.votes so_far inside w.if-numbers-k.true })
       | else-votes-eq0+else-numbers-k w ↦
           let some = w.if-votes-eq0.false in
-          rw (w.place-is, w.votes-is) (record {
-            votes = vote_less c.args.numbers.now c.loop-k.k c.loop-k.place c.loop-k.votes so_far inside w.if-numbers-k.false (omega arith);
+          rw (w.index-is, w.votes-is) (record {
+            votes = vote_less c.args.numbers.now c.loop-k.k c.loop-k.index c.loop-k.votes so_far inside w.if-numbers-k.false (omega arith);
           })
     ]
 
 pub returns-clause-majority : goal.returns-clause-majority
-returns-clause-majority c = voted c.args.numbers.now c.loop-k.k c.loop-k.place c.loop-k.votes c.loop-k.invariant.votes c.loop-k-test.false (omega arith)
+returns-clause-majority c = voted c.args.numbers.now c.loop-k.k c.loop-k.index c.loop-k.votes c.loop-k.invariant.votes c.loop-k-test.false (omega arith)

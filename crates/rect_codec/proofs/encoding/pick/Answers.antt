@@ -10,18 +10,18 @@ use Rattle.rect_data.specs.Data.{number_of}
 use Rattle.rect_codec.specs.Encoding.{IsWritten, IsOther, StandsFirst}
 use Rattle.rect_codec.proofs.encoding.pick.Goals as goal
 
--- where the number stands
-at_its_place : (numbers : List ℤ) (one : Encoding) (s : StandsFirst numbers one) → get_or numbers (length s.before) (pos 0) ≡ pos (number_of one)
-at_its_place numbers one s =
-    ap (λ (ns : List ℤ). get_or ns (length s.before) (pos 0)) s.numbers_are ∙ get_or-append_seam s.before (pos (number_of one)) s.behind (pos 0)
+-- the index at which the number stands
+at_its_index : (numbers : List ℤ) (one : Encoding) (s : StandsFirst numbers one) → get_or numbers (length s.before) (pos 0) ≡ pos (number_of one)
+at_its_index numbers one s =
+    ap (λ (ns : List ℤ). get_or ns (length s.before) (pos 0)) s.numbers_are ∙ get_or-append_seam s.before (pos (number_of one)) s.following (pos 0)
 
--- its place is none before another first one
+-- its index is none before another first one
 not_before : (numbers : List ℤ) (one other : Encoding) (s : StandsFirst numbers one) (t : StandsFirst numbers other) → length s.before < length t.before → ⊥
 not_before numbers one other s t less =
     t.others (length s.before) (pos 0) less one s.written
-    (sym (get_or-append t.before (pos (number_of other) ∷ t.behind) (pos 0) (length s.before) less)
+    (sym (get_or-append t.before (pos (number_of other) ∷ t.following) (pos 0) (length s.before) less)
     ∙ sym (ap (λ (ns : List ℤ). get_or ns (length s.before) (pos 0)) t.numbers_are)
-    ∙ at_its_place numbers one s)
+    ∙ at_its_index numbers one s)
 
 -- a number is that of one encoding
 same_number : (one other : Encoding) → pos (number_of one) ≡ pos (number_of other) → one ≡ other
@@ -52,22 +52,22 @@ one_first numbers one other s t =
         | inr again ↦
             let same : length s.before ≡ length t.before = omega arith in
             same_number one other
-            (sym (at_its_place numbers one s) ∙ ap (λ (i : ℕ). get_or numbers i (pos 0)) same ∙ at_its_place numbers other t)
+            (sym (at_its_index numbers one s) ∙ ap (λ (i : ℕ). get_or numbers i (pos 0)) same ∙ at_its_index numbers other t)
       ]
     ]
 
 -- among other numbers none does
 none_first : (numbers : List ℤ) (one : Encoding) → All IsOther numbers → StandsFirst numbers one → ⊥
 none_first numbers one others s =
-    let size = ap length s.numbers_are ∙ length-append s.before (pos (number_of one) ∷ s.behind) in
-    others (length s.before) (pos 0) (omega arith) one s.written (at_its_place numbers one s)
+    let size = ap length s.numbers_are ∙ length-append s.before (pos (number_of one) ∷ s.following) in
+    others (length s.before) (pos 0) (omega arith) one s.written (at_its_index numbers one s)
 
--- a number behind others
+-- a number after others
 stands : (numbers : List ℤ) (i : ℕ) (d : ℤ) (one : Encoding) → IsWritten one → i < length numbers → All IsOther (take i numbers) → get_or numbers i d ≡ pos (number_of one) → StandsFirst numbers one
 stands numbers i d one written lt others is = record {
   written = written;
   before = take i numbers;
-  behind = drop (suc i) numbers;
+  following = drop (suc i) numbers;
   numbers_are = sym (take-append-drop i numbers) ∙ ap (λ (ns : List ℤ). take i numbers ++ ns) (drop-cons numbers i d lt ∙ ap (λ (n : ℤ). n ∷ drop (suc i) numbers) is);
   others = others;
 }

@@ -8,7 +8,7 @@ use Rattle.rfb_wire.specs.Grammar.{message_at, message_limit, other_at, Recorded
 use Rattle.rfb_wire.specs.Plain.{kind_of}
 use Rattle.client_wire.proofs.Fronts.{unless_memory_map}
 use Rattle.rfb_wire.proofs.FrontMessage.{kind_short, kind_other}
-use Rattle.rfb_wire.proofs.FrontOthers.{front_passed, front_other, behind_within, other_taken}
+use Rattle.rfb_wire.proofs.FrontOthers.{front_passed, front_other, after_within, other_taken}
 use Rattle.rfb_wire.proofs.plain.read_message.Goals as goal
 
 pub returns-in_default : goal.returns-in_default
@@ -42,18 +42,18 @@ returns-in_default-2 c =
 pub overflow_sub-length : goal.overflow_sub-length
 overflow_sub-length c =
     let said = rw c.in-Some-2.is at c.in_ok-recorded.ensures in
-    behind_within c.in-Some-2.recorded c.args.bytes.now c.in-Some.kind.now c.in-Some.rest.now c.in-Some-2.behind.now c.in-Some.ensures.reads said
+    after_within c.in-Some-2.recorded c.args.bytes.now c.in-Some.kind.now c.in-Some.rest.now c.in-Some-2.following.now c.in-Some.ensures.reads said
 
 pub returns-then-not-recorded : goal.returns-then-not-recorded
 returns-then-not-recorded c =
     let bytes = c.args.bytes.now in
     let kind = c.in-Some.kind.now in
     let rest = c.in-Some.rest.now in
-    let behind = c.in-Some-2.behind.now in
+    let following = c.in-Some-2.following.now in
     let is = kind_other (message_limit c.args.screen.format) c.args.screen.size.width c.args.screen.size.height bytes kind rest c.in-Some.ensures.reads (ne_eqb (slice_index kind 0) 0 c.if-kind-eq0.false) in
     let said = rw c.in-Some-2.is at c.in_ok-recorded.ensures in
-    let over : other_at (slice_index kind 0) rest ≡ Got ReadOver behind = said ∙ ap (λ r. Got (kind_of r) behind) c.if-not-recorded.true in
-    let front = front_passed (slice_index kind 0) bytes kind rest behind c.in-Some.ensures.reads over in
+    let over : other_at (slice_index kind 0) rest ≡ Got ReadOver following = said ∙ ap (λ r. Got (kind_of r) following) c.if-not-recorded.true in
+    let front = front_passed (slice_index kind 0) bytes kind rest following c.in-Some.ensures.reads over in
     record {
       within = omega arith;
       reads = is ∙ over ∙ ap (λ z. Got ReadOver z) (sym front.1);
@@ -64,11 +64,11 @@ from_parts-message-requires c =
     let bytes = c.args.bytes.now in
     let kind = c.in-Some.kind.now in
     let rest = c.in-Some.rest.now in
-    let behind = c.in-Some-2.behind.now in
+    let following = c.in-Some-2.following.now in
     let said = rw c.in-Some-2.is at c.in_ok-recorded.ensures in
-    let given : other_at (slice_index kind 0) rest ≡ Got (Recorded []) behind = said ∙ ap (λ r. Got (kind_of r) behind) c.if-not-recorded.false in
-    let f = front_other (message_limit c.args.screen.format) c.args.screen.size.width c.args.screen.size.height bytes kind rest behind c.in-Some.ensures.reads given in
-    let same : c.in_ok-whole.whole.items ≡ f.whole = c.in_ok-whole.ensures.items ∙ other_taken bytes f.whole behind f.bytes_are in
+    let given : other_at (slice_index kind 0) rest ≡ Got (Recorded []) following = said ∙ ap (λ r. Got (kind_of r) following) c.if-not-recorded.false in
+    let f = front_other (message_limit c.args.screen.format) c.args.screen.size.width c.args.screen.size.height bytes kind rest following c.in-Some.ensures.reads given in
+    let same : c.in_ok-whole.whole.items ≡ f.whole = c.in_ok-whole.ensures.items ∙ other_taken bytes f.whole following f.bytes_are in
     let none : c.new.result.items ≡ [] = search rules in
     rw (same, none) f.recorded
 
@@ -77,16 +77,16 @@ returns c =
     let bytes = c.args.bytes.now in
     let kind = c.in-Some.kind.now in
     let rest = c.in-Some.rest.now in
-    let behind = c.in-Some-2.behind.now in
+    let following = c.in-Some-2.following.now in
     let is = kind_other (message_limit c.args.screen.format) c.args.screen.size.width c.args.screen.size.height bytes kind rest c.in-Some.ensures.reads (ne_eqb (slice_index kind 0) 0 c.if-kind-eq0.false) in
     let said = rw c.in-Some-2.is at c.in_ok-recorded.ensures in
-    let given : other_at (slice_index kind 0) rest ≡ Got (Recorded []) behind = said ∙ ap (λ r. Got (kind_of r) behind) c.if-not-recorded.false in
-    let f = front_other (message_limit c.args.screen.format) c.args.screen.size.width c.args.screen.size.height bytes kind rest behind c.in-Some.ensures.reads given in
-    let same : c.in_ok-whole.whole.items ≡ f.whole = c.in_ok-whole.ensures.items ∙ other_taken bytes f.whole behind f.bytes_are in
+    let given : other_at (slice_index kind 0) rest ≡ Got (Recorded []) following = said ∙ ap (λ r. Got (kind_of r) following) c.if-not-recorded.false in
+    let f = front_other (message_limit c.args.screen.format) c.args.screen.size.width c.args.screen.size.height bytes kind rest following c.in-Some.ensures.reads given in
+    let same : c.in_ok-whole.whole.items ≡ f.whole = c.in_ok-whole.ensures.items ∙ other_taken bytes f.whole following f.bytes_are in
     let none : c.new.result.items ≡ [] = search rules in
     rw (c.from_parts-message.ensures, same, none) (record {
       is = record { format_is = refl; width_is = refl; height_is = refl; recorded = f.recorded };
-      behind = behind;
+      following = following;
       bytes_are = f.bytes_are;
       reads = is ∙ given;
     })

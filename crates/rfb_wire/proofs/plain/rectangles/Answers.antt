@@ -47,6 +47,6 @@ loop-preserved c =
     let ends = rw c.in-Some.is at c.in_ok-next.ensures.ends in
     let pushed = c.in_ok-push.ensures.items in
     record {
-      says = rw pushed (sym (others_next c.args.size.width c.args.size.height (c.args.count - (c.loop.counter + 1)) c.loop.at c.loop.found.items c.loop.rest.now c.in-Some.behind.now c.in-Some.next got) ∙ says);
+      says = rw pushed (sym (others_next c.args.size.width c.args.size.height (c.args.count - (c.loop.counter + 1)) c.loop.at c.loop.found.items c.loop.rest.now c.in-Some.following.now c.in-Some.next got) ∙ says);
       room = omega (arith, ends, c.loop.invariant.room);
     }

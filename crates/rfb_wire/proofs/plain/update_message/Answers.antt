@@ -71,7 +71,7 @@ returns c =
     sym (take-append-drop (message_limit c.args.screen.format) bytes) ∙ ap (λ z. z ++ drop (message_limit c.args.screen.format) bytes) f.front_is ∙ append_assoc f.whole c.in-Some.rest.now (drop (message_limit c.args.screen.format) bytes) in
     rw (c.from_parts-message.ensures, same) (record {
       is = record { format_is = refl; width_is = refl; height_is = refl; recorded = f.recorded };
-      behind = c.in-Some.rest.now ++ drop (message_limit c.args.screen.format) bytes;
+      following = c.in-Some.rest.now ++ drop (message_limit c.args.screen.format) bytes;
       bytes_are = all;
       reads = f.reads;
     })

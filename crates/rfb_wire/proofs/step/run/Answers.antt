@@ -4,7 +4,7 @@ use Rattle.pixel_format.specs.Format.{Format, host_format}
 use Rattle.terms.specs.Reading.{Bad}
 use Rattle.rect_data.specs.Judging.{wants_of, resume, go_on as data_go_on}
 use Rattle.std.specs.Prelude.{◌<◌, IfSome}
-use Rattle.rfb_wire.specs.PartialMessage.{behind_data}
+use Rattle.rfb_wire.specs.PartialMessage.{after_data}
 use Rattle.rfb_wire.proofs.Resume.{data_whole, has_bytes}
 use Rattle.rfb_wire.proofs.step.run.Goals as goal
 
@@ -20,7 +20,7 @@ returns-in-Ok-clause-goes c = λ more.
     (data_go_on host_format c.args.size.width c.args.size.height c.in-Ok.next more)
     (subst (λ (f : Format). resume f c.args.size.width c.args.size.height c.args.current (front ++ more) ≡ data_go_on f c.args.size.width c.args.size.height c.in-Ok.next more)
     c.host.ensures (c.in-Ok.ensures.goes more))
-    ∙ ap (λ n. behind_data c.args.size.width c.args.size.height c.args.begun c.args.others ((c.args.at + n) + length more) (data_go_on host_format c.args.size.width c.args.size.height c.in-Ok.next more))
+    ∙ ap (λ n. after_data c.args.size.width c.args.size.height c.args.begun c.args.others ((c.args.at + n) + length more) (data_go_on host_format c.args.size.width c.args.size.height c.in-Ok.next more))
     (length-take-le c.in-Ok.taken c.args.bytes.now c.in-Ok.ensures.taken)
     ∙ c.next_data.ensures.goes c.args.size.width c.args.size.height more
 

@@ -1,7 +1,7 @@
 use Rattle.std.proofs.Common.{◌≡◌, ◌+◌, ◌-◌, ◌*◌, ◌<◌, ◌≤◌, ◌∙◌, ap, sym, arith, drop, length, length-append, length-take}
 use Rattle.pixel_format.specs.Number.{number_color, colors_of}
 use Rattle.rre.specs.Encoded.{IsUniform}
-use Rattle.rre.proofs.Apart.{others_le, apart_on, apart_all, place_in, away_at, skip_run, skip_reached}
+use Rattle.rre.proofs.Apart.{others_le, apart_on, apart_all, index_in, away_at, skip_run, skip_reached}
 use Rattle.rre.proofs.Listed.{part_listed}
 use Rattle.rre.proofs.cover.cover_row.Goals as goal
 
@@ -18,12 +18,12 @@ loop-column-preserved c =
     let inside : column < n = omega (arith, c.loop-column-test.true, length-take n (drop (c.args.row * w) c.args.ground.pixels.numbers.now)) in
     let other = away_at c.args.ground.pixels.numbers.now c.args.ground.background c.args.row w column n inside c.if-line-column.false in
     let size : length c.args.ground.pixels.numbers.now ≡ c.args.ground.pixels.h * w = c.args.ground.pixels.size ∙ ap (λ n. c.args.ground.pixels.h * n) (sym c.requires.columns) in
-    let place : c.args.row * w + column < length c.args.ground.pixels.numbers.now = place_in c.args.row w column c.args.ground.pixels.h (length c.args.ground.pixels.numbers.now) c.requires.row (omega arith) size in
+    let index : c.args.row * w + column < length c.args.ground.pixels.numbers.now = index_in c.args.row w column c.args.ground.pixels.h (length c.args.ground.pixels.numbers.now) c.requires.row (omega arith) size in
     let further : c.args.row * w + column < c.args.row * w + (column + c.grow-part.result.w) = omega arith in
     record {
       within = omega (arith, columns, c.grow-part.ensures.x, c.raise.auto.reach, c.loop-column.auto.reach);
       apart = rw (c.in_ok-push.ensures.items, length-append)
-          (apart_on c.args.ground.background c.args.ground.pixels.numbers.now (length c.loop-column.parts.items) (c.args.row * w + column) (c.args.row * w + (column + c.grow-part.result.w)) further place other c.loop-column.invariant.apart);
+          (apart_on c.args.ground.background c.args.ground.pixels.numbers.now (length c.loop-column.parts.items) (c.args.row * w + column) (c.args.row * w + (column + c.grow-part.result.w)) further index other c.loop-column.invariant.apart);
       reaches = rw c.in_ok-push.ensures.items listed;
     }
 
@@ -62,5 +62,5 @@ returns-then-len-ground-clause-many c = λ _.
     let inside : column < n = omega (arith, c.loop-column-test.true, length-take n (drop (c.args.row * w) c.args.ground.pixels.numbers.now)) in
     let other = away_at c.args.ground.pixels.numbers.now c.args.ground.background c.args.row w column n inside c.if-line-column.false in
     let size : length c.args.ground.pixels.numbers.now ≡ c.args.ground.pixels.h * w = c.args.ground.pixels.size ∙ ap (λ n. c.args.ground.pixels.h * n) (sym c.requires.columns) in
-    let place : c.args.row * w + column < length c.args.ground.pixels.numbers.now = place_in c.args.row w column c.args.ground.pixels.h (length c.args.ground.pixels.numbers.now) c.requires.row (omega arith) size in
-    apart_all c.args.ground.background c.args.ground.pixels.numbers.now c.args.ground.most (length c.loop-column.parts.items) (c.args.row * w + column) place other c.loop-column.invariant.apart (omega arith)
+    let index : c.args.row * w + column < length c.args.ground.pixels.numbers.now = index_in c.args.row w column c.args.ground.pixels.h (length c.args.ground.pixels.numbers.now) c.requires.row (omega arith) size in
+    apart_all c.args.ground.background c.args.ground.pixels.numbers.now c.args.ground.most (length c.loop-column.parts.items) (c.args.row * w + column) index other c.loop-column.invariant.apart (omega arith)

@@ -13,11 +13,11 @@ returns-then-not-is_part_inside-clause-refused c =
     let f = c.args.format.now in
     let i = c.loop-left.invariant in
     let part = c.split_at.result.0.now in
-    let behind = c.split_at.result.1.now in
+    let following = c.split_at.result.1.now in
     let whole : length part ≡ subrectangle_bytes f = omega arith in
     let outside : is_inside c.args.w c.args.h (subrectangle_of f part) ≡ false = cc in
-    let is : c.loop-left.rest.now ≡ part ++ behind = parts_of _ c.loop-left.rest.now part behind c.split_at.ensures.front c.split_at.ensures.back in
-    parts_outside f c.args.w c.args.h c.args.count c.loop-left.left i.front part behind c.args.bytes.now
+    let is : c.loop-left.rest.now ≡ part ++ following = parts_of _ c.loop-left.rest.now part following c.split_at.ensures.front c.split_at.ensures.back in
+    parts_outside f c.args.w c.args.h c.args.count c.loop-left.left i.front part following c.args.bytes.now
     i.same (i.bytes_are ∙ ap (λ z. i.front ++ z) is) (omega arith) whole outside
 
 pub loop-left-preserved : goal.loop-left-preserved
@@ -25,14 +25,14 @@ loop-left-preserved c =
     let f = c.args.format.now in
     let i = c.loop-left.invariant in
     let part = c.split_at.result.0.now in
-    let behind = c.split_at.result.1.now in
+    let following = c.split_at.result.1.now in
     let whole : length part ≡ subrectangle_bytes f = omega arith in
     let inside : is_inside c.args.w c.args.h (subrectangle_of f part) ≡ true = cc in
-    let is : c.loop-left.rest.now ≡ part ++ behind = parts_of _ c.loop-left.rest.now part behind c.split_at.ensures.front c.split_at.ensures.back in
+    let is : c.loop-left.rest.now ≡ part ++ following = parts_of _ c.loop-left.rest.now part following c.split_at.ensures.front c.split_at.ensures.back in
     let size : length c.args.bytes.now ≡ length i.front + length c.loop-left.rest.now = ap length i.bytes_are ∙ length-append i.front c.loop-left.rest.now in
     record {
       front = i.front ++ part;
-      bytes_are = i.bytes_are ∙ ap (λ z. i.front ++ z) is ∙ sym (append_assoc i.front part behind);
+      bytes_are = i.bytes_are ∙ ap (λ z. i.front ++ z) is ∙ sym (append_assoc i.front part following);
       same = parts_inside f c.args.w c.args.h c.args.count c.loop-left.left i.front part i.same (omega arith) whole inside;
       fewer = omega arith;
       first = inr (omega (arith, whole, size, c.split_at.ensures.back_len));

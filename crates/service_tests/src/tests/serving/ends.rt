@@ -10,7 +10,7 @@ use std::fs;
 use std::net::{Net, TcpStream};
 use std::test::Fail;
 
-/// An update of the one place in blue.
+/// An update of the one pixel in blue.
 const BLUE: [u8; 20] = *b"\0\0\0\x01\0\0\0\0\0\x01\0\x01\0\0\0\0\xff\0\0\0";
 
 /// A version, and the refusal of a viewer who comes when as many have come as are served.
@@ -71,7 +71,7 @@ fn a_viewer_is_shown_the_end(rt: HostRuntime) -> Result<(), Fail> {
     Ok(())
 }
 
-// Two updates come in one piece, and then one with a fault behind it.
+// Two updates come in one piece, and then one with a fault after it.
 fn pieces_come(rt: &HostRuntime, ends: Loopback) -> Result<(), Fail> {
     let alloc = rt.alloc();
     let host = small_host(alloc, &ends.hosts)?;

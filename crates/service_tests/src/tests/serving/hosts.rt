@@ -2,7 +2,8 @@
 
 use super::checked;
 use super::peers::{
-    ALL, BLACK, CHANGES, GREEN, Loopback, Peer, Place, RED, deaf_host, listener, small_host, viewer,
+    ALL, BLACK, CHANGES, Endpoint, GREEN, Loopback, Peer, RED, deaf_host, listener, small_host,
+    viewer,
 };
 use crate::plan_of;
 use serve::{Audience, Origin};
@@ -76,14 +77,14 @@ fn a_host_ends(rt: HostRuntime) -> Result<(), Fail> {
     Ok(())
 }
 
-/// A recording of one place with one message, an update of a red pixel.
+/// A recording of one pixel with one message, an update of a red pixel.
 const RECORDING: [u8; 54] =
     *b"ORFBREC1\0\x01\0\x01\0\x04\0\x01xO\0\0\0\x1d\0\x01\0\0\0\0\0\0\0\0\x14\0\0\0\x01\0\0\0\0\0\x01\0\x01\0\0\0\0\0\0\xff\0C";
 
 // What a viewer sees first of a recording that is served alone.
-fn alone(rt: &HostRuntime, place: Place, first: &[u8]) -> Result<(), Fail> {
+fn alone(rt: &HostRuntime, endpoint: Endpoint, first: &[u8]) -> Result<(), Fail> {
     let alloc = rt.alloc();
-    viewer(rt, place)?.talk(alloc, &ALL, first)
+    viewer(rt, endpoint)?.talk(alloc, &ALL, first)
 }
 
 #[test]
@@ -96,9 +97,9 @@ fn a_recording_is_served_alone(rt: HostRuntime) -> Result<(), Fail> {
         (Origin::Count(0), &BLACK),
         (Origin::Time(0), &RED),
     ] {
-        let (viewers, place) = listener(rt)?;
+        let (viewers, endpoint) = listener(rt)?;
         let plan = plan_of(file, None, Audience::Count(1), from);
-        let said = serve_while!(rt, &plan, viewers, move || alone(rt, place, first))?;
+        let said = serve_while!(rt, &plan, viewers, move || alone(rt, endpoint, first))?;
         assert!(rt; said.as_str() == "true serving\ncommitted 1\n", "{said}");
     }
     assert!(rt; checked(rt, file)?.as_str() == "recording 1 1 messages 1 blocks 1\n");

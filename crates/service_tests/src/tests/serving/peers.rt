@@ -15,45 +15,45 @@ const SMALL: [u8; 25] = *b"\0\x01\0\x01\x20\x18\0\x01\0\xff\0\xff\0\xff\x10\x08\
 /// The same of 2,048 by 1,024.
 const LARGE: [u8; 25] = *b"\x08\0\x04\0\x20\x18\0\x01\0\xff\0\xff\0\xff\x10\x08\0\0\0\0\0\0\0\x01x";
 
-/// An update of one place at the corner, in Raw: black, red and green.
+/// An update of one pixel at the corner, in Raw: black, red and green.
 pub const BLACK: [u8; 20] = *b"\0\0\0\x01\0\0\0\0\0\x01\0\x01\0\0\0\0\0\0\0\0";
 
 pub const RED: [u8; 20] = *b"\0\0\0\x01\0\0\0\0\0\x01\0\x01\0\0\0\0\0\0\xff\0";
 
 pub const GREEN: [u8; 20] = *b"\0\0\0\x01\0\0\0\0\0\x01\0\x01\0\0\0\0\0\xff\0\0";
 
-/// Requests of the one place: all of it, and what changes there.
+/// Requests of the one pixel: all of it, and what changes there.
 pub const ALL: [u8; 10] = *b"\x03\0\0\0\0\0\0\x01\0\x01";
 
 pub const CHANGES: [u8; 10] = *b"\x03\x01\0\0\0\0\0\x01\0\x01";
 
 /// A port of this machine.
 #[derive(Clone, Copy)]
-pub struct Place {
+pub struct Endpoint {
     port: u16,
 }
 
-impl Place {
+impl Endpoint {
     pub fn address(self, alloc: Global) -> Result<String, AllocError> {
         let port = self.port;
         format!(in alloc; "127.0.0.1:{port}")
     }
 }
 
-/// Where a recorder looks for a test's host, and where it waits for a test's viewers.
+/// The addresses at which a recorder looks for a test's host, and waits for a test's viewers.
 #[derive(Drop)]
 pub struct Loopback {
     pub hosts: TcpListener,
-    pub viewers: Place,
+    pub viewers: Endpoint,
 }
 
 /// A listener on a port that was free.
 pub fn listener<R: Net<Stream = TcpStream, Listener = TcpListener> + AllocGlobal>(
     rt: &R,
-) -> Result<(TcpListener, Place), Fail> {
+) -> Result<(TcpListener, Endpoint), Fail> {
     let listener = TcpListener::bind(rt, "127.0.0.1:0")?;
     let port = listener.local_addr()?.port();
-    Ok((listener, Place { port }))
+    Ok((listener, Endpoint { port }))
 }
 
 /// A host or a viewer.
@@ -90,7 +90,7 @@ impl Peer {
         Ok(())
     }
 
-    /// Reads updates as long as this one until it comes, and asks again behind each other one: a
+    /// Reads updates as long as this one until it comes, and asks again after each other one: a
     /// thousand times at most.
     pub fn hear_at_last(&self, alloc: Global, update: &[u8], ask: &[u8]) -> Result<(), Fail> {
         let mut came = Vec::new(alloc);
@@ -129,7 +129,7 @@ impl Peer {
     }
 }
 
-// The host that connects here, behind its handshake. What it is then asked for isn't read.
+// The host that connects here, after its handshake. What it is then asked for isn't read.
 fn host(alloc: Global, listener: &TcpListener, init: &[u8]) -> Result<Peer, Fail> {
     let (stream, _) = listener.accept()?;
     let host = Peer::over(stream)?;
@@ -140,19 +140,19 @@ fn host(alloc: Global, listener: &TcpListener, init: &[u8]) -> Result<Peer, Fail
     Ok(host)
 }
 
-/// A host of one place, which doesn't read what it is asked for.
+/// A host of one pixel, which doesn't read what it is asked for.
 pub fn deaf_host(alloc: Global, listener: &TcpListener) -> Result<Peer, Fail> {
     host(alloc, listener, &SMALL)
 }
 
-/// A host of one place.
+/// A host of one pixel.
 pub fn small_host(alloc: Global, listener: &TcpListener) -> Result<Peer, Fail> {
     let host = host(alloc, listener, &SMALL)?;
     host.skip(alloc, 50)?;
     Ok(host)
 }
 
-/// A host of 2,048 by 1,024 places.
+/// A host of 2,048 by 1,024 pixels.
 pub fn large_host(alloc: Global, listener: &TcpListener) -> Result<Peer, Fail> {
     let host = host(alloc, listener, &LARGE)?;
     host.skip(alloc, 50)?;
@@ -162,19 +162,19 @@ pub fn large_host(alloc: Global, listener: &TcpListener) -> Result<Peer, Fail> {
 /// A viewer that has said nothing.
 pub fn silent_viewer<R: Net<Stream = TcpStream, Listener = TcpListener> + AllocGlobal>(
     rt: &R,
-    place: Place,
+    endpoint: Endpoint,
 ) -> Result<Peer, Fail> {
-    let address = place.address(rt.alloc())?;
+    let address = endpoint.address(rt.alloc())?;
     Peer::over(TcpStream::connect(rt, address.as_str())?)
 }
 
-/// A viewer behind its handshake.
+/// A viewer after its handshake.
 pub fn viewer<R: Net<Stream = TcpStream, Listener = TcpListener> + AllocGlobal>(
     rt: &R,
-    place: Place,
+    endpoint: Endpoint,
 ) -> Result<Peer, Fail> {
     let alloc = rt.alloc();
-    let viewer = silent_viewer(rt, place)?;
+    let viewer = silent_viewer(rt, endpoint)?;
     viewer.hear(alloc, &VERSION)?;
     viewer.talk(alloc, &VERSION, &[1, 1])?;
     viewer.talk(alloc, &[1], &[0, 0, 0, 0])?;

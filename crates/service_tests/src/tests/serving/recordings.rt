@@ -1,7 +1,9 @@
 //! Recordings that are shown from their start.
 
 use super::checked;
-use super::peers::{ALL, BLACK, CHANGES, GREEN, Peer, Place, RED, listener, silent_viewer, viewer};
+use super::peers::{
+    ALL, BLACK, CHANGES, Endpoint, GREEN, Peer, RED, listener, silent_viewer, viewer,
+};
 use crate::plan_of;
 use serve::{Audience, Origin, Pace, Plan, Playing};
 use std::fs;
@@ -10,14 +12,14 @@ use std::net::{Net, TcpListener, TcpStream};
 use std::test::Fail;
 use std::time::{Clock, Instant};
 
-/// A recording of one place with two messages: red after 3 seconds, and green after 25 minutes.
+/// A recording of one pixel with two messages: red after 3 seconds, and green after 25 minutes.
 const RECORDING: [u8; 83] =
     *b"ORFBREC1\0\x01\0\x01\0\x04\0\x01xO\0\0\0\x3a\0\x02\0\0\0\x0b\xb8\0\0\0\x14\0\0\0\x01\0\0\0\0\0\x01\0\x01\0\0\0\0\0\0\xff\0\0\0\x16\xe3\x60\0\0\0\x14\0\0\0\x01\0\0\0\0\0\x01\0\x01\0\0\0\0\0\xff\0\0C";
 
 // What a viewer sees that asks again and again.
-fn sees_each(rt: &HostRuntime, place: Place) -> Result<(), Fail> {
+fn sees_each(rt: &HostRuntime, endpoint: Endpoint) -> Result<(), Fail> {
     let alloc = rt.alloc();
-    let viewer = viewer(rt, place)?;
+    let viewer = viewer(rt, endpoint)?;
     viewer.talk(alloc, &ALL, &BLACK)?;
     viewer.talk(alloc, &CHANGES, &RED)?;
     viewer.talk(alloc, &CHANGES, &GREEN)
@@ -39,9 +41,9 @@ fn comes_after(
 }
 
 // What it sees of a recording that is played again and again, with pauses of two seconds at most.
-fn sees_each_in_time(rt: &HostRuntime, place: Place) -> Result<(), Fail> {
+fn sees_each_in_time(rt: &HostRuntime, endpoint: Endpoint) -> Result<(), Fail> {
     let started = Instant::now(rt)?;
-    let viewer = viewer(rt, place)?;
+    let viewer = viewer(rt, endpoint)?;
     viewer.talk(rt.alloc(), &ALL, &BLACK)?;
     comes_after(rt, &viewer, &RED, started, 2000)?;
     comes_after(rt, &viewer, &GREEN, started, 4000)?;
@@ -54,8 +56,8 @@ fn each_message_is_shown(rt: HostRuntime) -> Result<(), Fail> {
     let file = "each";
     fs::write(rt, file, RECORDING.as_slice())?;
     let plan = plan_of(file, None, Audience::Count(1), Origin::Count(0));
-    let (viewers, place) = listener(rt)?;
-    let said = serve_while!(rt, &plan, viewers, move || sees_each(rt, place))?;
+    let (viewers, endpoint) = listener(rt)?;
+    let said = serve_while!(rt, &plan, viewers, move || sees_each(rt, endpoint))?;
     assert!(rt; said.as_str() == "true serving\ncommitted 2\n", "{said}");
     let plan = Plan {
         playing: Some(Playing {
@@ -65,21 +67,21 @@ fn each_message_is_shown(rt: HostRuntime) -> Result<(), Fail> {
         }),
         ..plan
     };
-    let (viewers, place) = listener(rt)?;
-    let said = serve_while!(rt, &plan, viewers, move || sees_each_in_time(rt, place))?;
+    let (viewers, endpoint) = listener(rt)?;
+    let said = serve_while!(rt, &plan, viewers, move || sees_each_in_time(rt, endpoint))?;
     assert!(rt; said.as_str() == "true serving\ncommitted 2\n", "{said}");
     assert!(rt; checked(rt, file)?.as_str() == "recording 1 1 messages 2 blocks 1\n");
     Ok(())
 }
 
-// The file is cut off before a viewer has a seat: it is shown where it begins, and closed once a
-// message is to be read for it.
-fn sees_the_beginning(rt: &HostRuntime, place: Place, file: &str) -> Result<(), Fail> {
+// The file is cut off before a viewer has a seat: it is shown the screen at which it begins, and
+// closed once a message is to be read for it.
+fn sees_the_beginning(rt: &HostRuntime, endpoint: Endpoint, file: &str) -> Result<(), Fail> {
     let alloc = rt.alloc();
-    let first = silent_viewer(rt, place)?;
+    let first = silent_viewer(rt, endpoint)?;
     first.hear(alloc, b"RFB 003.008\n")?; // the recording is open
     OpenOptions::new().write(true).open(rt, file)?.set_len(0)?;
-    let viewer = viewer(rt, place)?;
+    let viewer = viewer(rt, endpoint)?;
     viewer.talk(alloc, &ALL, &BLACK)?;
     viewer.say(&CHANGES)?;
     viewer.ends()
@@ -91,12 +93,12 @@ fn a_viewer_is_closed_where_a_read_fails(rt: HostRuntime) -> Result<(), Fail> {
     let file = "lost";
     fs::write(rt, file, RECORDING.as_slice())?;
     let plan = plan_of(file, None, Audience::Count(1), Origin::Count(0));
-    let (viewers, place) = listener(rt)?;
+    let (viewers, endpoint) = listener(rt)?;
     let said = serve_while!(
         rt,
         &plan,
         viewers,
-        move || sees_the_beginning(rt, place, file)
+        move || sees_the_beginning(rt, endpoint, file)
     )?;
     let refused = "false serving\nrecorderd: serve refused journal 3\n";
     assert!(rt; said.as_str() == refused, "{said}");

@@ -34,7 +34,7 @@ fn two_viewers_get_a_host_s_update(rt: HostRuntime) -> Result<(), Fail> {
 }
 
 // One viewer says nothing, one is of another version, one leaves within a message, and one begins
-// behind what there is; the last one sees all.
+// after what there is; the last one sees all.
 fn strangers_come(rt: &HostRuntime, ends: Loopback) -> Result<(), Fail> {
     let alloc = rt.alloc();
     let host = small_host(alloc, &ends.hosts)?;
@@ -87,7 +87,7 @@ const BEGUN: usize = 16;
 const MORE: [u8; 10] = *b"\x03\x01\0\0\0\0\x08\0\x04\0";
 
 // A viewer doesn't read its answer while the other is shown two updates. Then it reads the answer,
-// and is shown the newest place at last.
+// and is shown the newest pixel at last.
 fn one_sleeps(rt: &HostRuntime, ends: Loopback) -> Result<(), Fail> {
     let alloc = rt.alloc();
     let host = large_host(alloc, &ends.hosts)?;
@@ -100,7 +100,7 @@ fn one_sleeps(rt: &HostRuntime, ends: Loopback) -> Result<(), Fail> {
     host.talk(alloc, &GREEN, &MORE)?;
     awake.talk(alloc, &CHANGES, &GREEN)?;
     asleep.skip(alloc, LENGTH)?;
-    // Its seat may take what it missed only behind this request.
+    // Its seat may take what it missed only after this request.
     asleep.say(&ALL)?;
     asleep.hear_at_last(alloc, &GREEN, &CHANGES)
 }

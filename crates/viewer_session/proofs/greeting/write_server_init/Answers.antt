@@ -4,7 +4,7 @@ use Rattle.terms.specs.Number.{u32_bytes}
 use Rattle.viewer_session.specs.Handshake.{host_format_bytes}
 use Rattle.viewer_session.proofs.greeting.write_server_init.Goals as goal
 
--- the parts, one behind another
+-- the parts, one after another
 parts : (old one two three all size format count name : List ℕ) → one ≡ old ++ size → two ≡ one ++ format → three ≡ two ++ count → all ≡ three ++ name
     → all ≡ old ++ (size ++ (format ++ (count ++ name)))
 parts old one two three all size format count name a b c d =

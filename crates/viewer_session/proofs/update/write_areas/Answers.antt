@@ -6,7 +6,7 @@ use Rattle.rect_codec.specs.Parts.{AreParts}
 use Rattle.painter.specs.declared.update.ScreenPart.{ScreenPart}
 use Rattle.painter.specs.SentUpdate.{parts_of, CanBeSent}
 use Rattle.viewer_session.specs.Encoded.{IsUpdateOf}
-use Rattle.viewer_session.specs.Parts.{places_of, screen_parts}
+use Rattle.viewer_session.specs.Parts.{pixels_of, screen_parts}
 use Rattle.viewer_session.proofs.Zipped.{parts_are, copy_in_front, parts_sent, parts_few, appended}
 use Rattle.viewer_session.proofs.update.write_areas.Goals as goal
 
@@ -36,7 +36,7 @@ returns-clause-ok c =
     on_ok_weaker c.append_update.result
     (λ wrote. appended (AreParts f (parts_of f screen c.deref.result.now)) (IsUpdateOf f asked screen copy areas) c.args.out.now.items c.append_update.new.out.items
     (λ update u. record {
-      parts = parts_of f screen (map (places_of asked) areas);
+      parts = parts_of f screen (map (pixels_of asked) areas);
       each = parts_are f asked screen areas c.known_colors.ensures c.requires.within;
       are = subst (λ (ps : List Part). AreParts f ps update) (ap (parts_of f screen) is ∙ copy_in_front f asked screen copy areas) u;
     })

@@ -14,12 +14,12 @@ loop-message-preserved c =
     let at = c.loop-message in
     let inv = at.invariant.2 in
     let m = c.in-Some.message in
-    let behind = into_iter_items c.next.new.self in
-    let next : into_iter_items at.message-iterator ≡ m ∷ behind = c.in-Some.ensures.steps.0 in (
+    let following = into_iter_items c.next.new.self in
+    let next : into_iter_items at.message-iterator ≡ m ∷ following = c.in-Some.ensures.steps.0 in (
       tt,
       tt,
       record {
-        rest = append_assoc at.yielded (m ∷ []) behind ∙ ap (λ (l : List ClientMessage). at.yielded ++ l) (sym next) ∙ inv.rest;
+        rest = append_assoc at.yielded (m ∷ []) following ∙ ap (λ (l : List ClientMessage). at.yielded ++ l) (sym next) ∙ inv.rest;
         sound = c.take.ensures.sound;
         taken = taken_more c.args.view.now at.view c.take.new.self at.yielded m inv.taken c.take.ensures.taken;
         screen = c.take.ensures.screen ∙ inv.screen;

@@ -1,7 +1,7 @@
 //! How many subrectangles the encoder lists, against libvncserver's RRE encoder as it is described:
-//! the background is a colour at the most places; by rows, from each place of another colour that
-//! isn't covered, it takes the larger of two rectangles, the run to the right as far down as it
-//! goes, and the run down as far to the right as it goes.
+//! the background is a colour that the most pixels have; by rows, from each pixel of another colour
+//! that isn't covered, it takes the larger of two rectangles, the run to the right as far down as
+//! it goes, and the run down as far to the right as it goes.
 
 ghost use Rattle.std.specs.Prelude.{◌≡◌, ◌*◌, length, IfOk};
 
@@ -13,28 +13,28 @@ use std::alloc::Global;
 use std::test::Fail;
 use terms::NoMemory;
 
-/// Places that are still to be covered, by rows.
+/// Pixels that are still to be covered, by rows.
 #[derive(Drop)]
-struct Places {
+struct Pixels {
     w: usize,
     h: usize,
     open: Vec<Option<Color>>,
 }
 
-impl Places {
+impl Pixels {
     fn has(&self, column: usize, row: usize, color: Color) -> bool {
         column < self.w
             && self.open.get(row.wrapping_mul(self.w).wrapping_add(column)) == Some(&Some(color))
     }
 
-    // How many places of the colour stand side by side, from this one to the right.
+    // How many pixels of the colour stand side by side, from this one to the right.
     fn across(&self, column: usize, row: usize, color: Color) -> usize {
         (column..self.w)
             .take_while(|x| self.has(*x, row, color))
             .count()
     }
 
-    // The larger of the two rectangles at a place: its width and height.
+    // The larger of the two rectangles at a pixel: its width and height.
     fn larger(&self, column: usize, row: usize, color: Color) -> (usize, usize) {
         let width = self.across(column, row, color);
         let height = (row..self.h)
@@ -57,8 +57,8 @@ impl Places {
     fn cover(&mut self, column: usize, row: usize, width: usize, height: usize) {
         for y in row..row.saturating_add(height) {
             for x in column..column.saturating_add(width) {
-                if let Some(place) = self.open.get_mut(y.wrapping_mul(self.w).wrapping_add(x)) {
-                    *place = None;
+                if let Some(one_pixel) = self.open.get_mut(y.wrapping_mul(self.w).wrapping_add(x)) {
+                    *one_pixel = None;
                 }
             }
         }
@@ -77,7 +77,7 @@ fn expected(
     for color in colors {
         open.push((*color != background).then_some(*color))?;
     }
-    let mut places = Places {
+    let mut pixels = Pixels {
         w: w.into(),
         h: h.into(),
         open,
@@ -85,9 +85,9 @@ fn expected(
     let mut count = 0u32;
     for (k, color) in colors.iter().enumerate() {
         let (column, row) = (k % w.max(1) as usize, k / w.max(1) as usize);
-        if places.has(column, row, *color) {
-            let (width, height) = places.larger(column, row, *color);
-            places.cover(column, row, width, height);
+        if pixels.has(column, row, *color) {
+            let (width, height) = pixels.larger(column, row, *color);
+            pixels.cover(column, row, width, height);
             count = count.saturating_add(1);
         }
     }
@@ -193,7 +193,7 @@ fn patterns_take_no_more_subrectangles(rt: HostRuntime) -> Result<(), Fail> {
     Ok(())
 }
 
-// Places of so many colours, at random.
+// Pixels of so many colours, at random.
 fn noise(alloc: Global, seed: &mut u64, colors: u16) -> Result<Vec<Color>, NoMemory>
     ensures { IfOk result (λ v. length v.items ≡ 12 * 16) }
 {

@@ -4,7 +4,7 @@ use Rattle.disk.proofs.memory.MemoryDiskDisk.read_at.Goals as goal
 
 pub slice_bounds-copy_from_slice-end : goal.slice_bounds-copy_from_slice-end
 slice_bounds-copy_from_slice-end c =
-    let within : c.args.place + length c.args.buffer.now ≤ length c.args.self.now.bytes = rw present_of at c.requires.within in
+    let within : c.args.offset + length c.args.buffer.now ≤ length c.args.self.now.bytes = rw present_of at c.requires.within in
     search rules
 
 pub returns-clause-read : goal.returns-clause-read

@@ -8,4 +8,4 @@ returns c p l =
     let count = c.min-count.result in
     let width : start + count - start ≡ count = omega arith in
     let filled : c.fill.new.self ≡ replicate count c.args.byte = search rules in
-    rw (← c.write.view_is, width, filled) (overwritten_in_place c.args.file.now c.write.inside.place c.write.inside.count start count c.args.byte p (search rules) (search rules) l)
+    rw (← c.write.view_is, width, filled) (overwritten_in_place c.args.file.now c.write.inside.offset c.write.inside.count start count c.args.byte p (search rules) (search rules) l)

@@ -13,15 +13,15 @@ returns-then-not-may_stand-clause-refused c = λ more.
     let f = c.args.format.now in
     let tile = c.in-Mask.tile in
     let field = c.split_at.result.0.now in
-    let behind = c.split_at.result.1.now in
+    let following = c.split_at.result.1.now in
     let byte = slice_index field 0 in
-    let is : c.args.bytes.now ≡ field ++ behind = parts_of _ c.args.bytes.now field behind c.split_at.ensures.front c.split_at.ensures.back in
+    let is : c.args.bytes.now ≡ field ++ following = parts_of _ c.args.bytes.now field following c.split_at.ensures.front c.split_at.ensures.back in
     let whole : length field ≡ 1 = c.split_at.ensures.front_len ∙ c.wants-wants.ensures.value ∙ ap (wants_of f) c.in-Mask.is in
     let forbidden : is_allowed tile.named byte (mask_of byte) ≡ false =
     ap (is_allowed tile.named byte) (sym c.read_mask-mask.ensures) ∙ sym c.may_stand.ensures ∙ c.if-not-may_stand.true in
     rw c.in-Mask.is
-    (ap (λ z. resume f (stages.Mask tile) (z ++ more)) is ∙ ap (resume f (stages.Mask tile)) (append_assoc field behind more)
-    ∙ mask_refused f tile field (behind ++ more) whole forbidden)
+    (ap (λ z. resume f (stages.Mask tile) (z ++ more)) is ∙ ap (resume f (stages.Mask tile)) (append_assoc field following more)
+    ∙ mask_refused f tile field (following ++ more) whole forbidden)
 
 pub returns-else-not-may_stand-clause-goes : goal.returns-else-not-may_stand-clause-goes
 returns-else-not-may_stand-clause-goes c = λ more.

@@ -21,7 +21,7 @@ loop-next-preserved c =
       front = i.front ++ take n rest;
       bytes_are = run_parts n c.args.bytes.now i.front rest i.bytes_are;
       first = inr (elim i.first [ inl none ↦ omega (arith, taken.1, none.1, same_wants f c.args.self c.in-Some.stage c.loop-next.next c.in-Some.is none.0) | inr moved ↦ omega (arith, moved) ]);
-      same = run_more f c.args.self c.in-Some.stage c.loop-next.next c.in-Some-2.behind i.front rest n c.in-Some.is i.same
+      same = run_more f c.args.self c.in-Some.stage c.loop-next.next c.in-Some-2.following i.front rest n c.in-Some.is i.same
           (rw c.in-Some-2.is at c.in_ok-taken.ensures.goes);
     }
 

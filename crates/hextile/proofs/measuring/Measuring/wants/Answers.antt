@@ -4,7 +4,7 @@ use mir.Val.{bool_byte}
 use Rattle.std.proofs.Math.Nat.{mul-le-mul}
 use Rattle.hextile.proofs.measuring.Measuring.wants.Goals as goal
 
--- at most 16 by 16 places, of at most four bytes each
+-- at most 16 by 16 pixels, of at most four bytes each
 most : (w h n : ℕ) → w ≤ 16 → h ≤ 16 → (n ≡ 1) ⊎ ((n ≡ 2) ⊎ (n ≡ 4)) → w * h * n ≤ 1024
 most w h n wide high size =
     let four : n ≤ 4 = elim size [ inl a ↦ omega arith | inr b ↦ elim b [ inl d ↦ omega arith | inr e ↦ omega arith ] ] in

@@ -4,7 +4,7 @@ use Rattle.rect_codec.specs.Parts.{IsPart, parts_head}
 use Rattle.painter.specs.SentUpdate.{parts_of}
 use Rattle.painter.proofs.screen.Screen.append_update.Given as goal
 
--- the rectangles of the parts so far stand behind the head
+-- the rectangles of the parts so far follow the head
 abbrev pub invariant-loop-part : goal.invariant-loop-part
 invariant-loop-part l =
     Appends (AreEach (IsPart l.format) (take l.part-index (parts_of l.format l.self l.parts))) (l.fn.out.items ++ parts_head (length l.parts)) l.out.items

@@ -18,14 +18,14 @@ pub returns-then-not-lies_inside-clause-refused : goal.returns-then-not-lies_ins
 unfolding resume
 returns-then-not-lies_inside-clause-refused c = λ more.
     let area = c.in-Source.area in
-    let place = c.split_at.result.0.now in
-    let behind = c.split_at.result.1.now in
-    let is : c.args.bytes.now ≡ place ++ behind = parts_of 4 c.args.bytes.now place behind c.split_at.ensures.front c.split_at.ensures.back in
-    let out : is_inside c.args.size.width c.args.size.height (source_of area place) ≡ false =
+    let source = c.split_at.result.0.now in
+    let following = c.split_at.result.1.now in
+    let is : c.args.bytes.now ≡ source ++ following = parts_of 4 c.args.bytes.now source following c.split_at.ensures.front c.split_at.ensures.back in
+    let out : is_inside c.args.size.width c.args.size.height (source_of area source) ≡ false =
     ap (is_inside c.args.size.width c.args.size.height) (sym c.source_at.ensures) ∙ sym c.if-not-lies_inside.ensures in
     rw c.in-Source.is
-    (ap (λ z. copy_at c.args.size.width c.args.size.height area (z ++ more)) is ∙ ap (copy_at c.args.size.width c.args.size.height area) (append_assoc place behind more)
-    ∙ source_outside c.args.size.width c.args.size.height area place (behind ++ more) c.split_at.ensures.front_len out)
+    (ap (λ z. copy_at c.args.size.width c.args.size.height area (z ++ more)) is ∙ ap (copy_at c.args.size.width c.args.size.height area) (append_assoc source following more)
+    ∙ source_outside c.args.size.width c.args.size.height area source (following ++ more) c.split_at.ensures.front_len out)
 
 pub returns-else-bytes-length-clause-goes : goal.returns-else-bytes-length-clause-goes
 unfolding resume go_on
@@ -40,9 +40,9 @@ pub returns-else-not-lies_inside-clause-goes : goal.returns-else-not-lies_inside
 unfolding resume go_on
 returns-else-not-lies_inside-clause-goes c = λ more.
     let area = c.in-Source.area in
-    let place = c.split_at.result.0.now in
-    let inside : is_inside c.args.size.width c.args.size.height (source_of area place) ≡ true =
+    let source = c.split_at.result.0.now in
+    let inside : is_inside c.args.size.width c.args.size.height (source_of area source) ≡ true =
     ap (is_inside c.args.size.width c.args.size.height) (sym c.source_at.ensures) ∙ sym c.if-not-lies_inside.ensures in
     rw c.in-Source.is
     (ap (λ z. copy_at c.args.size.width c.args.size.height area (z ++ more)) (sym c.split_at.ensures.front)
-    ∙ source_inside c.args.size.width c.args.size.height area place more c.split_at.ensures.front_len inside)
+    ∙ source_inside c.args.size.width c.args.size.height area source more c.split_at.ensures.front_len inside)

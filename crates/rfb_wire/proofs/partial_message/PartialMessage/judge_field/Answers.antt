@@ -5,7 +5,7 @@ use Rattle.std.proofs.lemmas.Result.{err_from_is_err_and}
 use Rattle.client_wire.proofs.Fronts.{unless_memory}
 use Rattle.pixel_format.proofs.Sizes.{are_limits}
 use Rattle.rfb_wire.specs.Grammar.{message_limit}
-use Rattle.rfb_wire.specs.PartialMessage.{resume, start_of, behind, NextBegins}
+use Rattle.rfb_wire.specs.PartialMessage.{resume, start_of, following, NextBegins}
 use Rattle.rfb_wire.proofs.Turns.{linked_more, field_faults, turn_long, turn_faults}
 use Rattle.rfb_wire.proofs.partial_message.PartialMessage.judge_field.Goals as goal
 
@@ -47,8 +47,8 @@ advance-requires c =
     record {
       link = λ more.
           linked.link more
-          ∙ ap (λ f. behind s.rectangles.items (resume c.args.screen.size.width c.args.screen.size.height s.stage (f ++ more))) (sym field)
-          ∙ ap (behind s.rectangles.items) (c.in_ok-whole.ensures.goes more);
+          ∙ ap (λ f. following s.rectangles.items (resume c.args.screen.size.width c.args.screen.size.height s.stage (f ++ more))) (sym field)
+          ∙ ap (following s.rectangles.items) (c.in_ok-whole.ensures.goes more);
       begins = rw end at begins;
       kind = c.in_ok-whole.ensures.kind longer (sym field) linked.kind;
       short = c.in_ok-taken.ensures.short;

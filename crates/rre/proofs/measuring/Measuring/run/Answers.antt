@@ -3,7 +3,7 @@ use Rattle.std.proofs.lemmas.Result.{err_from_is_err_and}
 use Rattle.rre.specs.declared.measuring.Measuring.TheVariants as stages
 use Rattle.rre.specs.Grammar.{head_bytes, subrectangles_at}
 use Rattle.rre.specs.Measuring.{judged, go_on, resume}
-use Rattle.rre.proofs.Steps.{head_whole, parts_of, taken_behind}
+use Rattle.rre.proofs.Steps.{head_whole, parts_of, taken_after}
 use Rattle.rre.proofs.measuring.Measuring.run.Goals as goal
 
 pub returns-then-bytes-head-clause-goes : goal.returns-then-bytes-head-clause-goes
@@ -34,7 +34,7 @@ returns-in_ok-taken-in-Head-clause-goes c = λ more.
     let is : c.args.bytes.now ≡ head ++ body = parts_of _ c.args.bytes.now head body c.split_at.ensures.front c.split_at.ensures.back in
     let whole : length head ≡ head_bytes f = omega arith in
     rw c.in-Head.is
-    (ap (λ z. resume f c.args.w c.args.h stages.Head (z ++ more)) (taken_behind c.args.bytes.now head body (4 + c.bytes-head.result) n is c.split_at.ensures.front_len)
+    (ap (λ z. resume f c.args.w c.args.h stages.Head (z ++ more)) (taken_after c.args.bytes.now head body (4 + c.bytes-head.result) n is c.split_at.ensures.front_len)
     ∙ ap (resume f c.args.w c.args.h stages.Head) (append_assoc head (take n body) more)
     ∙ head_whole f c.args.w c.args.h head (take n body ++ more) whole
     ∙ ap (λ k. judged (subrectangles_at f c.args.w c.args.h k (take n body ++ more))) (sym c.read_count.ensures)

@@ -6,21 +6,21 @@ use Rattle.viewer_session.specs.Session.{Stopped}
 use Rattle.viewer_session.proofs.Pieces.{fed_more, fed_stopped, kept_again}
 use Rattle.viewer_session.proofs.session.Session.feed.Goals as goal
 
--- a part and what is behind it
-split : (n : ℕ) (rest part behind : List ℕ) → part ≡ take n rest → behind ≡ drop n rest → rest ≡ part ++ behind
-split n rest part behind front back =
+-- a part and what is after it
+split : (n : ℕ) (rest part following : List ℕ) → part ≡ take n rest → following ≡ drop n rest → rest ≡ part ++ following
+split n rest part following front back =
     sym (take-append-drop n rest) ∙ ap (λ (z : List ℕ). z ++ drop n rest) (sym front) ∙ ap (λ (z : List ℕ). part ++ z) (sym back)
 
 pub parts-preserved : goal.parts-preserved
 parts-preserved c =
     let inv = c.parts.invariant in
     let part = c.split_at.result.0.now in
-    let behind = c.split_at.result.1.now in
-    let is = split c.min.result c.parts.rest.now part behind c.split_at.ensures.front c.split_at.ensures.back in
+    let following = c.split_at.result.1.now in
+    let is = split c.min.result c.parts.rest.now part following c.split_at.ensures.front c.split_at.ensures.back in
     let now = c.in_ok-feed_part.ensures in
     record {
       front = inv.front ++ part;
-      piece = inv.piece ∙ ap (λ (z : List ℕ). inv.front ++ z) is ∙ sym (append_assoc inv.front part behind);
+      piece = inv.piece ∙ ap (λ (z : List ℕ). inv.front ++ z) is ∙ sym (append_assoc inv.front part following);
       going = now.going;
       fed = λ stream told messages h.
           fed_more c.args.self.now c.parts.self c.feed_part.new.self stream inv.front part told messages (inv.fed stream told messages h) (λ s t ms k. now.goes s t ms k);
@@ -35,13 +35,13 @@ returns-in_err-feed_part-clause-faults c =
     let p = err_from_is_err_and c.from_residual.result c.from_residual.ensures.1 in
     let inv = c.parts.invariant in
     let part = c.split_at.result.0.now in
-    let behind = c.split_at.result.1.now in
-    let is = split c.min.result c.parts.rest.now part behind c.split_at.ensures.front c.split_at.ensures.back in
+    let following = c.split_at.result.1.now in
+    let is = split c.min.result c.parts.rest.now part following c.split_at.ensures.front c.split_at.ensures.back in
     let all = inv.piece ∙ ap (λ (z : List ℕ). inv.front ++ z) is in
     let f = c.in_err-feed_part.field-0.0 in
     rw (p.1, p.2) (λ going stream told messages h.
     subst (λ (z : List ℕ). Stopped c.args.self.now c.feed_part.new.self (stream ++ z) messages told f) (sym all)
-    (fed_stopped c.args.self.now c.parts.self c.feed_part.new.self stream inv.front part behind told messages f (inv.fed stream told messages h)
+    (fed_stopped c.args.self.now c.parts.self c.feed_part.new.self stream inv.front part following told messages f (inv.fed stream told messages h)
     (λ s t ms k. c.in_err-feed_part.ensures.faults s t ms k)))
 
 pub returns-clause-goes : goal.returns-clause-goes

@@ -1,5 +1,5 @@
 use Rattle.std.proofs.Common.{◌≡◌, ap}
-use Rattle.place_sets.specs.Places.{PlaceSet}
+use Rattle.pixel_sets.specs.Pixels.{PixelSet}
 use Rattle.viewer_session.specs.Sent.{IsSent}
 use Rattle.viewer_session.specs.View.{IsWithout}
 use Rattle.viewer_session.proofs.Answered.{IsWritten, is_written, written_answers, written_areas, written_encoded, sent_within, pending_part, all_back}
@@ -67,4 +67,4 @@ returns-in-Err-clause-err c =
     let without : IsWithout copy v.stale left = record { size = c.take_out.ensures.size; just = c.take_out.ensures.just } in
     let back : c.put_back.new.stale ≡ v.stale =
     all_back v c.in-Some.pending copy left c.put_back.new.stale c.copy_due-copy.ensures c.requires.sound without c.put_back.ensures.size c.put_back.ensures.just c.known.ensures c.known-in-Err.ensures in
-    (c.in-Err.ensures.err, ap (λ (s : PlaceSet). record v { stale = s }) back)
+    (c.in-Err.ensures.err, ap (λ (s : PixelSet). record v { stale = s }) back)

@@ -1,5 +1,5 @@
-use Rattle.book_tests.specs.OnePlace.{IsOfOnePlace}
+use Rattle.book_tests.specs.OnePixel.{IsOfOnePixel}
 use Rattle.book_tests.proofs.tests.shared.twins.run_lines.Given as goal
 
 abbrev pub invariant-loop-line : goal.invariant-loop-line
-invariant-loop-line g l = IsOfOnePlace l.desk.head
+invariant-loop-line g l = IsOfOnePixel l.desk.head

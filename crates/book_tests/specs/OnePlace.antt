@@ -1,8 +1,0 @@
--- The recordings that tests begin with.
-use Rattle.std.specs.Prelude.{◌≡◌}
-use Rattle.pixel_format.specs.declared.kind.Format.TheVariants.{One}
-use Rattle.gated_journal.specs.Recording.{Head}
-
--- a recording of a screen of one place, in format 1
-abbrev pub IsOfOnePlace : Head → Type 0
-IsOfOnePlace head = (head.format ≡ One) × (head.width ≡ 1) × (head.height ≡ 1)

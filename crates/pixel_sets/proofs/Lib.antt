@@ -1,0 +1,9 @@
+pub mod BitSets
+pub mod Numbers
+pub mod Rows
+pub mod PixelSets
+pub mod Held
+pub mod Looked
+pub mod Sent
+pub mod Equal
+pub mod Clean

@@ -1,9 +1,0 @@
-pub mod BitSets
-pub mod Numbers
-pub mod Rows
-pub mod PlaceSets
-pub mod Held
-pub mod Looked
-pub mod Sent
-pub mod Equal
-pub mod Clean

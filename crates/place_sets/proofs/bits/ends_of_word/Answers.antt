@@ -1,6 +1,0 @@
-use Rattle.std.proofs.Common.{refl, arith}
-use Rattle.place_sets.proofs.BitSets.{word_ends}
-use Rattle.place_sets.proofs.bits.ends_of_word.Goals as goal
-
-pub returns : goal.returns
-returns c = word_ends _ c.args.word _ _ c.ranges.word refl (omega arith) (omega arith) refl refl

@@ -1,5 +1,0 @@
-use Rattle.std.proofs.lemmas.List.FromFn.{length-map-range_with_len}
-use Rattle.place_sets.proofs.places.Places.known.Goals as goal
-
-pub returns : goal.returns
-returns c = rw (← c.self.view_is) (length-map-range_with_len _ 0 _)

@@ -1,0 +1,132 @@
+//! A viewer's position in a recording.
+
+ghost use Rattle.std.specs.Prelude.{◌≡◌, ◌<◌, ◌^◌, ◌+◌, length, true};
+ghost use Rattle.shared_book.specs.Receipts.{IsOfSize};
+
+use crate::failure::{AfterFailure, after_failure};
+use connections::{Room, Viewer};
+use replay::Slice;
+use shared_book::Mark;
+use sockets::Connection;
+use std::sync::Wait;
+use std::time::{Clock, Duration};
+use telling::Event;
+
+/// A viewer, the room that it is in, and its position in the recording.
+#[derive(Drop)]
+pub struct Viewing<'a, M: Mark, C: Connection, R: Clock + Wait> {
+    pub rt: &'a R,
+    pub viewer: &'a Viewer<M, C>,
+    pub room: &'a Room<M>,
+    /// How many messages stand before it.
+    pub position: u64,
+    /// Whether it is handed a screen next, to go on from.
+    pub is_fresh: bool,
+    /// Whether it was handed all that there is, and nothing more comes.
+    pub is_at_end: bool,
+    /// Whether memory was short, which is told once, since it was handed something.
+    pub is_short: bool,
+    /// Whether the device failed since it was handed something.
+    pub has_failed: bool,
+}
+
+impl<'a, M: Mark, C: Connection, R: Clock + Wait> Viewing<'a, M, C, R> {
+    /// Before it has a seat.
+    pub fn new(rt: &'a R, viewer: &'a Viewer<M, C>, room: &'a Room<M>) -> Viewing<'a, M, C, R> {
+        Viewing {
+            rt,
+            viewer,
+            room,
+            position: 0,
+            is_fresh: true,
+            is_at_end: false,
+            is_short: false,
+            has_failed: false,
+        }
+    }
+
+    /// Goes on after so many messages, with the screen there.
+    pub fn go_to(&mut self, count: u64)
+        ensures moved { self.new.position ≡ count }
+        ensures bare { self.new.is_fresh ≡ true }
+    {
+        self.position = count;
+        self.is_fresh = true;
+        self.is_at_end = false;
+    }
+
+    /// Shows the viewer these messages, unless it has left.
+    pub fn show(&mut self, slice: &Slice)
+        requires sized { IsOfSize M.head.width M.head.height slice.now }
+        requires room { slice.now.first + length slice.now.messages.items < 2 ^ 64 }
+        ensures position { self.new.position ≡ self.old.position }
+        ensures fresh { self.new.is_fresh ≡ self.old.is_fresh }
+    {
+        self.is_short = false;
+        self.has_failed = false;
+        if !self.viewer.has_left() {
+            self.viewer.show(self.rt, slice);
+        }
+    }
+
+    /// Tells that memory ran out, once until something is shown.
+    pub fn tell_shortage(&mut self)
+        ensures position { self.new.position ≡ self.old.position }
+        ensures fresh { self.new.is_fresh ≡ self.old.is_fresh }
+    {
+        if !self.is_short {
+            self.room.telling.tell(self.rt, Event::Shortage);
+        }
+        self.is_short = true;
+    }
+
+    /// Notes that the device failed: whether a viewer goes on that is a live one, or isn't.
+    pub fn goes_on_after_failure(&mut self, is_live: bool) -> bool
+        ensures position { self.new.position ≡ self.old.position }
+        ensures fresh { self.new.is_fresh ≡ self.old.is_fresh }
+    {
+        self.room.note_unreadable(self.rt);
+        let next = after_failure(is_live, self.has_failed);
+        self.has_failed = true;
+        next == AfterFailure::Newest
+    }
+
+    /// At the end of the recording: stays until the viewer was shown the rest, or leaves; if there
+    /// is no host, first until the recorder is closing.
+    pub fn rest(&self) {
+        let viewer = self.viewer;
+        if self.room.is_alone {
+            self.room
+                .hall
+                .wait_until_closing(self.rt, || viewer.has_left());
+        }
+        viewer.wait_until_shown(self.rt);
+    }
+
+    /// Waits until the viewer was shown what it has and asks for more; until it has left, or the
+    /// recorder is closing, too.
+    pub fn wait_until_asked(&self) {
+        self.viewer.wait_until_asked(self.rt, || self.is_closing());
+    }
+
+    /// Whether the viewer is sent the whole screen next, whatever comes. Then it waits until the
+    /// viewer asks for it, as [`wait_until_asked`](Place::wait_until_asked) does.
+    pub fn waits_for_whole_screen(&self) -> bool {
+        let is_held_back = self.viewer.hold_back(self.rt);
+        if is_held_back {
+            self.wait_until_asked();
+        }
+        is_held_back
+    }
+
+    /// Sleeps, but no longer than until the viewer has left, or the recorder is closing.
+    pub fn sleep(&self, time: Duration) {
+        let viewer = self.viewer;
+        self.room.hall.wait_for(self.rt, time, || viewer.has_left());
+    }
+
+    /// Whether the recorder is closing.
+    pub fn is_closing(&self) -> bool {
+        self.room.hall.is_closing(self.rt)
+    }
+}
