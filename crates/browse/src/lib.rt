@@ -12,4 +12,3 @@ mod site;
 
 pub use request::{Asked, Fault, Judged, asked_by, judge};
 pub use serving::{Browsing, browse, listen_at};
-pub use sockets::Stop;

@@ -5,9 +5,10 @@ ghost use Rattle.std.specs.Prelude.{◌<◌};
 use crate::connection::attend;
 use crate::lobby::Lobby;
 use crate::site::Site;
-use file_commands::{Ended, Refusal, answer, open_path};
+use file_commands::{Ended, Refused, answer, open_path};
 use file_disk::{Progress, SystemError};
-use sockets::{Accepted, Bell, Stop, accept, wait_for_stop};
+use reception::Stop;
+use sockets::{Accepted, Bell, accept, wait_for_stop};
 use std::alloc::Global;
 use std::fs::File;
 use std::io::Write;
@@ -101,10 +102,10 @@ fn open<'a, R: AllocGlobal + Clock + Files<File = File> + Net>(
 }
 
 // What the listener at an address gave, or why it fails.
-fn listened<T>(outcome: io::Result<T>, address: &str) -> Result<T, Refusal<'_>> {
+fn listened<T>(outcome: io::Result<T>, address: &str) -> Result<T, Refused<'_>> {
     match outcome {
         Ok(it) => Ok(it),
-        Err(error) => Err(Refusal::Net(address, SystemError::of(&error))),
+        Err(error) => Err(Refused::Listen(address, SystemError::of(&error))),
     }
 }
 

@@ -6,11 +6,12 @@ use crate::answer::{Head, write_failure, write_fault, write_head, write_text};
 use crate::lobby::Lobby;
 use crate::page::{PAGE, SCRIPT, STYLE};
 use crate::request::{Asked, Judged};
-use file_commands::{Ended, Moment, Refusal, Stretch, StretchSink, screen_of, survey};
+use file_commands::{Ended, Moment, Stretch, StretchSink, screen_of, survey};
 use file_disk::FileDisk;
 use key_index::Indexed;
 use painter::Screen;
 use pictures::{PictureFormat, png_length, write_picture};
+use refusals::Refusal;
 use replay::ReplayFault;
 use sockets::Bell;
 use std::alloc::Global;
@@ -89,7 +90,7 @@ fn write_screen<W: Write>(alloc: Global, screen: &Screen, out: &mut W) -> io::Re
 }
 
 // Why a recording can't be read, if that is why there is no picture.
-fn failure_of(refusal: Refusal<'_>) -> Option<ReplayFault> {
+fn failure_of(refusal: Refusal) -> Option<ReplayFault> {
     match refusal {
         Refusal::Screen(ReplayFault::NotCommitted | ReplayFault::NoMemory) => None,
         Refusal::Screen(fault) => Some(fault),
@@ -98,7 +99,7 @@ fn failure_of(refusal: Refusal<'_>) -> Option<ReplayFault> {
 }
 
 // Why there is no picture.
-fn write_refusal<W: Write>(refusal: Refusal<'_>, out: &mut W) -> io::Result<()> {
+fn write_refusal<W: Write>(refusal: Refusal, out: &mut W) -> io::Result<()> {
     match refusal {
         Refusal::Screen(ReplayFault::NotCommitted) => {
             write_failure(out, "404 Not Found", "the recording has fewer messages\n")

@@ -4,10 +4,10 @@ use crate::numbers::{if_given, number, within};
 use crate::wrong::{MOMENT, NUMBER, Wrong, word};
 use clap::ArgMatches;
 use file_commands::{
-    Chaining, Extract, FileCommand, Filming, Migration, Moment, PictureFormat, Salvaging, Scene,
-    Timing,
+    Chaining, Extract, FileCommand, Filming, Migration, Moment, Salvaging, Scene, Timing,
 };
 use hex::FromHex;
+use pictures::PictureFormat;
 use spelling::moment;
 
 fn extract<'a>(matches: &ArgMatches<'a>) -> Result<Extract<'a>, Wrong> {

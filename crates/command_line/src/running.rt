@@ -4,9 +4,9 @@ ghost use Rattle.std.specs.Prelude.{◌≤◌};
 
 use crate::advice::{ADDRESS, asks_for_more, has_port};
 use crate::words::{Chosen, read_words};
-use file_commands::{FileCommand, Refusal, create_new, keep, refuse, run};
+use file_commands::{FileCommand, FileFault, Refused, create_new, keep, refuse, run};
 use file_disk::Progress;
-use serve::Plan;
+use serve_plan::Plan;
 use std::fs::File;
 use std::io;
 use std::io::{Read, Write};
@@ -27,8 +27,8 @@ const BAD_WORDS: u8 = 2;
 const BAD: &str = "recorderd: bad command line";
 
 // Says why the file of a drill's recording isn't made or written.
-fn refuse_drill<E: Write>(refusal: Refusal<'_>, is_verbose: bool, err: &mut E) -> io::Result<bool> {
-    refuse("drill", refusal, is_verbose, err)?;
+fn refuse_drill<E: Write>(fault: FileFault<'_>, is_verbose: bool, err: &mut E) -> io::Result<bool> {
+    refuse("drill", Refused::File(fault), is_verbose, err)?;
     Ok(false)
 }
 
@@ -43,12 +43,12 @@ fn drill_to_file<R: Files<File = File> + AllocGlobal, I: Read + Drop, O: Write, 
 ) -> io::Result<bool> {
     let mut disk = match create_new(rt, path) {
         Ok(disk) => disk,
-        Err(refusal) => return refuse_drill(refusal, is_verbose, err),
+        Err(fault) => return refuse_drill(fault, is_verbose, err),
     };
     let ran = drill::run_and_read(rt.alloc(), input, out)?;
     match keep(rt, path, &mut disk, &ran.recording) {
         Ok(()) => Ok(ran.is_whole),
-        Err(refusal) => refuse_drill(refusal, is_verbose, err),
+        Err(fault) => refuse_drill(fault, is_verbose, err),
     }
 }
 

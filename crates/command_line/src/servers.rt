@@ -4,8 +4,12 @@ use crate::numbers::{if_given, number, thousandths, within};
 use crate::wrong::{MOMENT, SECONDS, Wrong, word};
 use browse::Browsing;
 use clap::ArgMatches;
-use serve::{Audience, Format, Origin, Pace, Plan, Playing, Stop, Told};
+use pixel_format::Format;
+use playing::Pace;
+use reception::Stop;
+use serve_plan::{Audience, Origin, Plan, Playing};
 use spelling::moment;
+use telling::Told;
 
 fn stop(matches: &ArgMatches<'_>) -> Result<Stop, Wrong> {
     let after = if_given(matches.get_str("SECONDS").map(number));

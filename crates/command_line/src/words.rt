@@ -9,7 +9,7 @@ use browse::Browsing;
 use clap::ArgMatches;
 use clap::error::ErrorKind;
 use file_commands::FileCommand;
-use serve::Plan;
+use serve_plan::Plan;
 use std::alloc::Global;
 use std::io;
 
@@ -34,7 +34,7 @@ pub enum Chosen<'a> {
 fn explained<'a>(matches: &ArgMatches<'a>) -> Result<Chosen<'a>, Wrong> {
     let area = word(matches, "AREA")?;
     let number = number(word(matches, "NUMBER")?).ok_or(Wrong::Value("NUMBER", NUMBER))?;
-    match explanations::explain(area, number) {
+    match refusals::explain(area, number) {
         Some(text) => Ok(Chosen::Explain(text)),
         None => Err(Wrong::Words("no refusal has this area and number")),
     }

@@ -4,10 +4,10 @@ ghost use Rattle.std.specs.Prelude.{◌≡◌};
 
 use crate::clock::Stopwatch;
 use crate::limits::{HANDSHAKE, REQUEST};
-use crate::refusal::Refusal;
 use crate::room::Room;
 use host_session::{HostFault, HostSession};
 use pixel_format::Format;
+use refusals::Refusal;
 use rfb_wire::HostMessage;
 use shared_book::{HostSource, Mark, Ticket};
 use sockets::{pause, time_left, watch_over, write_within};

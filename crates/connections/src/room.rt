@@ -3,13 +3,13 @@
 ghost use Rattle.std.specs.Prelude.{◌≡◌, ◌<◌, ◌^◌, IsTrue, length};
 
 use crate::guest::Guest;
-use crate::plan::{Beginning, Plan};
 use broadcast::Start;
 use file_disk::LastError;
 use pixel_format::RecordedScreen;
 use playing::Program;
 use reception::{Arrival, Backlog, Reason, Reception, Term};
 use rfb_wire::HostMessage;
+use serve_plan::{Beginning, Plan};
 use shared_book::Mark;
 use sockets::{Bell, Connection};
 use std::alloc::Global;

@@ -3,12 +3,12 @@
 ghost use Rattle.std.specs.Prelude.{◌≡◌, ◌-◌, ◌<◌, ◌^◌};
 ghost use Rattle.recording_bytes.specs.BlockText.{format_of};
 
-use crate::refusal::Refusal;
 use block_walk::{Hidden, hidden_after};
 use file_disk::FileDisk;
 use gated_journal::{Header, OpenFault, ReadFault};
 use key_index::{IndexFault, Indexed};
 use pixel_format::Format;
+use refusals::Refusal;
 use std::fmt;
 use std::fs::File;
 use std::rt::Files;
@@ -41,7 +41,7 @@ pub fn after_gate<R: Files<File = File> + AllocGlobal>(
     header: &Header,
     last: &Option<[u8; 32]>,
     gate: u64,
-) -> Result<Option<AfterEnd>, Refusal<'static>>
+) -> Result<Option<AfterEnd>, Refusal>
     requires format { format_of last.now ≡ header.now.format }
     requires fits { gate < 2 ^ 64 - 1 }
 {
@@ -66,7 +66,7 @@ pub fn after_end<R: Files<File = File> + AllocGlobal>(
     rt: &R,
     file: File,
     index: &Indexed<FileDisk>,
-) -> Result<Option<AfterEnd>, Refusal<'static>> {
+) -> Result<Option<AfterEnd>, Refusal> {
     let gate = index.end().saturating_sub(1);
     after_gate(rt, file, index.header(), &index.last_digest(), gate)
 }

@@ -2,11 +2,13 @@
 
 use crate::after_end::after_end;
 use crate::command::Work;
-use crate::recording::{open_file, open_recording};
-use crate::refusal::{DigestFault, Ended, Refusal};
+use crate::recording::open_recording;
+use crate::refusing::Ended;
+use crate::source_file::open_source;
 use file_disk::{FileDisk, Progress};
 use gated_journal::OpenFault;
 use key_index::{IndexFault, Indexed};
+use refusals::{DigestFault, Refusal};
 use std::fs::File;
 use std::io::Write;
 use std::rt::Files;
@@ -20,7 +22,7 @@ pub struct Chaining<'a> {
 }
 
 // The digest of a block: a recording of format 1 has none.
-fn digest_of(index: &mut Indexed<FileDisk>, block: u64) -> Result<[u8; 32], Refusal<'static>> {
+fn digest_of(index: &mut Indexed<FileDisk>, block: u64) -> Result<[u8; 32], Refusal> {
     if block >= index.blocks() {
         return Err(Refusal::Digest(DigestFault::NotFound));
     }
@@ -35,7 +37,7 @@ fn digest_of(index: &mut Indexed<FileDisk>, block: u64) -> Result<[u8; 32], Refu
 fn found(
     index: &mut Indexed<FileDisk>,
     wanted: Option<[u8; 32]>,
-) -> Result<(u64, [u8; 32]), Refusal<'static>> {
+) -> Result<(u64, [u8; 32]), Refusal> {
     if index.last_digest().is_none() {
         return Err(Refusal::Digest(DigestFault::NoDigests));
     }
@@ -52,7 +54,7 @@ impl<R: Files<File = File> + AllocGlobal, O: Write> Work<'_, R, O> {
     /// Writes the number and the digest of the block that is asked for, and notes what follows the
     /// recording's end.
     pub fn digest<'a>(&mut self, what: &Chaining<'a>) -> Result<(), Ended<'a>> {
-        let file = open_file(self.rt, what.recording)?;
+        let file = open_source(self.rt, what.recording)?;
         let again = file.try_clone()?;
         let mut index = open_recording(self.rt, file, self.progress)?;
         let (block, digest) = found(&mut index, what.digest)?;

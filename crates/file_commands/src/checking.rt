@@ -2,10 +2,12 @@
 
 use crate::after_end::after_end;
 use crate::command::Work;
-use crate::recording::{open_file, open_recording};
-use crate::refusal::{Ended, Refusal};
+use crate::recording::open_recording;
+use crate::refusing::Ended;
+use crate::source_file::open_source;
 use fbs_export::Counted;
 use file_disk::{Progress, Watched};
+use refusals::Refusal;
 use std::fs::File;
 use std::io::{BufReader, Write};
 use std::rt::Files;
@@ -15,7 +17,7 @@ impl<R: Files<File = File> + AllocGlobal, O: Write> Work<'_, R, O> {
     /// Opens the recording at a path, and writes its size, and how many messages and blocks count;
     /// notes what follows its end.
     pub fn check<'a>(&mut self, path: &'a str) -> Result<(), Ended<'a>> {
-        let file = open_file(self.rt, path)?;
+        let file = open_source(self.rt, path)?;
         let again = file.try_clone()?;
         let index = open_recording(self.rt, file, self.progress)?;
         let ScreenSize { width, height } = index.header().size();
@@ -37,7 +39,7 @@ fn counted<'a, R: Files<File = File> + AllocGlobal>(
     progress: Progress,
 ) -> Result<Counted, Ended<'a>> {
     let alloc = rt.alloc();
-    let inner = open_file(rt, path)?;
+    let inner = open_source(rt, path)?;
     let progress = progress.through(inner.metadata()?.len());
     let mut reader = BufReader::new(alloc, Watched { inner, progress })?;
     Ok(fbs_export::count(alloc, &mut reader).map_err(Refusal::Fbs)?)

@@ -6,7 +6,7 @@ use crate::exporting::Extract;
 use crate::framing::Filming;
 use crate::migrating::Migration;
 use crate::picturing::Scene;
-use crate::refusal::{Ended, LeftOut, answer};
+use crate::refusing::{Ended, LeftOut, answer};
 use crate::salvaging::Salvaging;
 use crate::timing::Timing;
 use file_disk::Progress;

@@ -2,11 +2,13 @@
 
 use crate::command::Work;
 use crate::out_file::open_out;
-use crate::recording::{open_file, open_recording};
-use crate::refusal::{Ended, Refusal};
+use crate::recording::open_recording;
+use crate::refusing::Ended;
+use crate::source_file::open_source;
 use fbs_export::{ExportFault, first_exported};
 use file_disk::{FileDisk, Progress, Watched};
 use key_index::Indexed;
+use refusals::Refusal;
 use std::alloc::Global;
 use std::fs::File;
 use std::io::{BufWriter, Write};
@@ -49,7 +51,7 @@ fn exported<'a, R: Files<File = File> + AllocGlobal>(
     progress: Progress,
 ) -> Result<u64, Ended<'a>> {
     let alloc = rt.alloc();
-    let file = open_file(rt, what.recording)?;
+    let file = open_source(rt, what.recording)?;
     let metadata = file.metadata()?;
     let mut index = open_recording(rt, file, progress)?;
     first_exported(&index, what.from_block, what.to).map_err(Refusal::Export)?;

@@ -4,7 +4,7 @@ ghost use Rattle.std.specs.Prelude.{◌<◌};
 
 use crate::command::Work;
 use crate::recording::open_path;
-use crate::refusal::Ended;
+use crate::refusing::Ended;
 use file_disk::{FileDisk, Progress, Watched};
 use key_index::Indexed;
 use pictures::{Film, video_end, write_frames};

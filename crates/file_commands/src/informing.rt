@@ -1,8 +1,9 @@
 //! The command `info`.
 
 use crate::command::Work;
-use crate::recording::{open_file, open_recording};
-use crate::refusal::Ended;
+use crate::recording::open_recording;
+use crate::refusing::Ended;
+use crate::source_file::open_source;
 use pixel_format::Format;
 use spelling::Escaped;
 use std::fs::{File, TryLockError};
@@ -34,7 +35,7 @@ impl<R: Files<File = File> + AllocGlobal, O: Write> Work<'_, R, O> {
     /// time of the last one, how many bytes its file has, whether it is being written, the host's
     /// name, and the path.
     pub fn info<'a>(&mut self, path: &'a str) -> Result<(), Ended<'a>> {
-        let file = open_file(self.rt, path)?;
+        let file = open_source(self.rt, path)?;
         let is_written = is_being_written(&file);
         let bytes = file.metadata()?.len();
         let index = open_recording(self.rt, file, self.progress)?;

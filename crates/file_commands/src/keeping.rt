@@ -1,7 +1,6 @@
 //! A recording that is kept in a new file.
 
 use crate::file_fault::{FileFault, name_kept};
-use crate::refusal::Refusal;
 use disk::Disk;
 use file_disk::{FileDisk, SystemError, create_exclusively, sync_folder};
 use std::fs::File;
@@ -12,10 +11,10 @@ use std::rt::Files;
 pub fn create_new<'a, R: Files<File = File>>(
     files: &R,
     path: &'a str,
-) -> Result<FileDisk, Refusal<'a>> {
+) -> Result<FileDisk, FileFault<'a>> {
     match create_exclusively(files, path) {
         Ok(file) => Ok(FileDisk::new(file)),
-        Err(error) => Err(Refusal::File(FileFault::Make(path, SystemError::of(&error)))),
+        Err(error) => Err(FileFault::Make(path, SystemError::of(&error))),
     }
 }
 
@@ -26,9 +25,9 @@ pub fn keep<'a, R: Files<File = File>>(
     path: &'a str,
     disk: &mut FileDisk,
     bytes: &[u8],
-) -> Result<(), Refusal<'a>> {
+) -> Result<(), FileFault<'a>> {
     if disk.write_at(0, bytes).is_err() || disk.sync().is_err() {
-        return Err(Refusal::File(FileFault::Device(path)));
+        return Err(FileFault::Device(path));
     }
-    name_kept(sync_folder(files, path), path).map_err(Refusal::File)
+    name_kept(sync_folder(files, path), path)
 }

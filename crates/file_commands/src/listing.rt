@@ -2,7 +2,7 @@
 
 use crate::command::Work;
 use crate::recording::open_path;
-use crate::refusal::Ended;
+use crate::refusing::Ended;
 use file_disk::{FileDisk, Progress};
 use key_index::Indexed;
 use std::fs::File;

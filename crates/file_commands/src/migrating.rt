@@ -4,10 +4,11 @@ use crate::command::Work;
 use crate::file_fault::name_kept;
 use crate::out_file::{demand_no_recording, open_target};
 use crate::recording::open_path;
-use crate::refusal::{Ended, Refusal};
+use crate::refusing::Ended;
 use file_disk::{FileDisk, Progress, sync_folder};
 use key_index::Indexed;
 use migration::{may_be_migrated, migrate};
+use refusals::Refusal;
 use std::alloc::Global;
 use std::fs::File;
 use std::io::Write;
@@ -27,7 +28,7 @@ fn migrated_to(
     alloc: Global,
     index: &mut Indexed<FileDisk>,
     target: FileDisk,
-) -> Result<u64, Refusal<'static>> {
+) -> Result<u64, Refusal> {
     match migrate(alloc, index, target) {
         Ok(migrated) => Ok(migrated.committed()),
         Err(refused) => Err(Refusal::Migrate(refused.fault)),

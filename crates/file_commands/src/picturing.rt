@@ -3,13 +3,15 @@
 use crate::command::Work;
 use crate::file_fault::written;
 use crate::out_file::open_out;
-use crate::recording::{open_file, open_recording};
-use crate::refusal::{Ended, Refusal};
+use crate::recording::open_recording;
+use crate::refusing::Ended;
+use crate::source_file::open_source;
 use file_disk::{FileDisk, Progress, Watched};
 use gated_journal::ReadFault;
 use key_index::Indexed;
 use painter::Screen;
 use pictures::{PictureFormat, write_picture};
+use refusals::Refusal;
 use replay::{ReplayFault, count_at, screen_at};
 use std::alloc::Global;
 use std::fs::{File, Metadata};
@@ -55,7 +57,7 @@ pub fn screen_of(
     alloc: Global,
     index: &mut Indexed<FileDisk>,
     moment: Moment,
-) -> Result<Screen, Refusal<'static>> {
+) -> Result<Screen, Refusal> {
     match count_of(index, moment).and_then(|count| screen_at(alloc, index, count)) {
         Ok(screen) => Ok(screen),
         Err(fault) => Err(Refusal::Screen(fault)),
@@ -85,7 +87,7 @@ fn screen_in<'a, R: Files<File = File> + AllocGlobal>(
     progress: Progress,
 ) -> Result<(Screen, Metadata), Ended<'a>> {
     let alloc = rt.alloc();
-    let file = open_file(rt, what.recording)?;
+    let file = open_source(rt, what.recording)?;
     let metadata = file.metadata()?;
     let mut index = open_recording(rt, file, progress)?;
     let screen = screen_of(alloc, &mut index, what.moment)?;

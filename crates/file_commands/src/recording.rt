@@ -2,34 +2,30 @@
 
 ghost use Rattle.std.specs.Prelude.{◌≡◌, IfOk};
 
-use crate::refusal::Refusal;
+use crate::refusing::Refused;
 use crate::source_file::open_source;
 use file_disk::{FileDisk, Progress};
 use gated_journal::State;
 use key_index::{IndexFault, Indexed};
+use refusals::Refusal;
 use std::alloc::Global;
 use std::fs::File;
 use std::rt::Files;
-
-/// The file, opened for reading alone. What is no file isn't opened.
-pub fn open_file<'a, R: Files<File = File>>(files: &R, path: &'a str) -> Result<File, Refusal<'a>> {
-    open_source(files, path).map_err(Refusal::File)
-}
 
 /// The recording at a path, opened for reading alone.
 pub fn open_path<'a, R: Files<File = File> + AllocGlobal>(
     rt: &R,
     path: &'a str,
     progress: Progress,
-) -> Result<Box<Indexed<FileDisk>>, Refusal<'a>>
+) -> Result<Box<Indexed<FileDisk>>, Refused<'a>>
     ensures ready { IfOk result (λ i. i.value.numbers.state ≡ State.Ready) }
 {
-    let file = open_file(rt, path)?;
-    open_recording(rt, file, progress)
+    let file = open_source(rt, path)?;
+    Ok(open_recording(rt, file, progress)?)
 }
 
 // A value in a box, if there is memory for it.
-fn boxed<T: Drop>(alloc: Global, value: T) -> Result<Box<T>, Refusal<'static>>
+fn boxed<T: Drop>(alloc: Global, value: T) -> Result<Box<T>, Refusal>
     ensures { IfOk result (λ boxed. boxed.value ≡ value) }
 {
     Box::new(alloc, value).map_err(|_| Refusal::Recording(IndexFault::NoMemory))
@@ -41,7 +37,7 @@ pub fn open_recording<R: Files<File = File> + AllocGlobal>(
     rt: &R,
     file: File,
     progress: Progress,
-) -> Result<Box<Indexed<FileDisk>>, Refusal<'static>>
+) -> Result<Box<Indexed<FileDisk>>, Refusal>
     ensures ready { IfOk result (λ i. i.value.numbers.state ≡ State.Ready) }
 {
     let alloc = rt.alloc();

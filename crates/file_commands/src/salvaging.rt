@@ -7,13 +7,14 @@ use crate::after_end::{AfterEnd, after_gate};
 use crate::command::Work;
 use crate::file_fault::name_kept;
 use crate::out_file::open_target;
-use crate::recording::open_file;
-use crate::refusal::{DigestFault, Ended, LeftOut, Refusal};
+use crate::refusing::{Ended, LeftOut};
+use crate::source_file::open_source;
 use block_walk::WholeBlocks;
 use file_disk::{DiskOfFile, FileDisk, OsFile, Progress, ShownFile, sync_folder};
 use key_index::IndexFault;
 use pixel_format::Format;
 use recording_bytes::OPEN_GATE;
+use refusals::{DigestFault, Refusal};
 use salvage::{Salvaged, salvage};
 use std::alloc::Global;
 use std::fs::File;
@@ -43,11 +44,7 @@ struct Source {
 }
 
 // The whole blocks that reads of a file give.
-fn blocks_of(
-    alloc: Global,
-    file: ShownFile,
-    progress: Progress,
-) -> Result<SourceBlocks, Refusal<'static>> {
+fn blocks_of(alloc: Global, file: ShownFile, progress: Progress) -> Result<SourceBlocks, Refusal> {
     let disk = DiskOfFile::over(file).watched(progress);
     let no_memory = Refusal::Recording(IndexFault::NoMemory);
     match WholeBlocks::open(alloc, disk) {
@@ -58,13 +55,13 @@ fn blocks_of(
 
 // What is salvaged of a recording. In format 1 nothing tells which bytes after its end are blocks;
 // in format 2 those are that go on with the digests, once the gate at the end is shown open.
-fn open_source<'a, R: Files<File = File> + AllocGlobal>(
+fn source_of<'a, R: Files<File = File> + AllocGlobal>(
     rt: &R,
     what: &Salvaging<'a>,
     progress: Progress,
 ) -> Result<Source, Ended<'a>> {
     let alloc = rt.alloc();
-    let file = open_file(rt, what.recording)?;
+    let file = open_source(rt, what.recording)?;
     let length = file.metadata()?.len();
     let as_it_is = ShownFile::new(OsFile::to_read(rt, file.try_clone()?));
     let mut blocks = blocks_of(alloc, as_it_is, progress)?;
@@ -103,7 +100,7 @@ fn outcome_of<R: Files<File = File> + AllocGlobal>(
     length: u64,
     fault: Option<IndexFault>,
     file: File,
-) -> Result<Outcome, Refusal<'static>>
+) -> Result<Outcome, Refusal>
     requires { salvaged.now.journal.end ≤ LONGEST_FILE }
 {
     let journal = &salvaged.journal;
@@ -129,7 +126,7 @@ fn salvaged<R: Files<File = File> + AllocGlobal>(
     rt: &R,
     source: Source,
     target: FileDisk,
-) -> Result<Outcome, Refusal<'static>> {
+) -> Result<Outcome, Refusal> {
     let Source {
         mut blocks,
         length,
@@ -148,7 +145,7 @@ impl<R: Files<File = File> + AllocGlobal, O: Write> Work<'_, R, O> {
     /// Writes the blocks of a recording before its first fault into a new one, tells how many
     /// messages they have, and notes what is left out, or what follows its end.
     pub fn salvage<'a>(&mut self, what: &Salvaging<'a>) -> Result<(), Ended<'a>> {
-        let source = open_source(self.rt, what, self.progress)?;
+        let source = source_of(self.rt, what, self.progress)?;
         let file = open_target(self.rt, what.out, what.recording)?;
         let target = FileDisk::new(file).watched(self.progress);
         let Outcome {

@@ -2,10 +2,11 @@
 
 ghost use Rattle.std.specs.Prelude.{◌≡◌, ◌<◌, length};
 
-use crate::refusal::{Ended, Refusal};
+use crate::refusing::Ended;
 use file_disk::FileDisk;
 use gated_journal::ReadFault;
 use key_index::{Indexed, Stamped};
+use refusals::Refusal;
 use replay::ReplayFault;
 use std::io;
 
@@ -67,8 +68,8 @@ fn block_messages(index: &mut Indexed<FileDisk>, block: u64) -> Result<Vec<Stamp
 {
     match index.read(block) {
         Ok(messages) => Ok(messages),
-        Err(ReadFault::Device) => Err(Ended::Refused(Refusal::Screen(ReplayFault::Device))),
-        Err(ReadFault::NoMemory) => Err(Ended::Refused(Refusal::Screen(ReplayFault::NoMemory))),
+        Err(ReadFault::Device) => Err(Refusal::Screen(ReplayFault::Device).into()),
+        Err(ReadFault::NoMemory) => Err(Refusal::Screen(ReplayFault::NoMemory).into()),
     }
 }
 

@@ -4,7 +4,7 @@ ghost use Rattle.std.specs.Prelude.{◌<◌};
 
 use crate::command::Work;
 use crate::recording::open_path;
-use crate::refusal::Ended;
+use crate::refusing::Ended;
 use crate::surveying::{Stretch, StretchSink, survey};
 use file_disk::Progress;
 use std::fs::File;

@@ -2,7 +2,7 @@
 use Rattle.std.proofs.Common.{◌≡◌, ℕ, zero, suc, ◌+◌, ◌*◌, ◌/◌, ◌%◌, ◌<◌, List, [], ◌∷◌, length, take, drop, get_or, ap, ◌∙◌, arith, rules, slice_set}
 use Rattle.byteorder.specs.Endian.{little_number}
 use Rattle.std.specs.Simd.{first_chunks}
-use Rattle.std.proofs.lemmas.List.{drop-drop, slots, length-take, length-drop}
+use Rattle.std.proofs.lemmas.List.{drop-drop, places, length-take, length-drop}
 use borrow.Author.Count.{below_more}
 use Rattle.pixel_format.specs.declared.Color.{Color}
 use Rattle.pixel_format.specs.Pixel.{little_endian, pixel_color, host_color}
@@ -59,7 +59,7 @@ pub row_more : (row : List Pixel) (bytes : List ℕ) (k : ℕ) (p : Pixel) → k
     → (j : ℕ) → j < k + 1 → pixel_color_at (slice_set row k p) j ≡ host_color (pixel_at bytes j)
 row_more row bytes k p inside is so_far = below_more (λ j. pixel_color_at (slice_set row k p) j ≡ host_color (pixel_at bytes j)) k
     (λ j less.
-    let same : get_or (slice_set row k p) j black_pixel ≡ get_or row j black_pixel = search (rules, slots) in
+    let same : get_or (slice_set row k p) j black_pixel ≡ get_or row j black_pixel = search (rules, places) in
     ap color_of same ∙ so_far j less)
-    (let here : get_or (slice_set row k p) k black_pixel ≡ p = search (rules, slots) in
+    (let here : get_or (slice_set row k p) k black_pixel ≡ p = search (rules, places) in
     ap color_of here ∙ is)

@@ -1,7 +1,7 @@
 -- Pixels in an area, and elements of a list after a part of it was written.
 use Rattle.std.proofs.Common.{◌≡◌, ℕ, ◌+◌, ◌*◌, ◌<◌, ◌≤◌, List, length, get_or, inl, inr, sym, ◌∙◌, arith, rules}
 use Rattle.std.proofs.lemmas.Bool.{cases_Bool, false_from_ne_true}
-use Rattle.std.proofs.lemmas.List.{slots}
+use Rattle.std.proofs.lemmas.List.{places}
 use borrow.Rule.Slice.PartMut.{put_mid}
 use Rattle.std.proofs.lemmas.Nat.{mul-add-lt}
 use Rattle.terms.specs.declared.area.Area.{Area}
@@ -19,13 +19,13 @@ same_in a b x y to from =
 -- ---- an element after the part from a on was written
 
 pub below_part : {X : Type 0} (a k : ℕ) (xs ys : List X) (i : ℕ) (d : X) → a ≤ length xs → i < a → get_or (put_mid a k xs ys) i d ≡ get_or xs i d
-below_part a k xs ys i d fits lt = search (rules, slots)
+below_part a k xs ys i d fits lt = search (rules, places)
 
 pub in_part : {X : Type 0} (a k : ℕ) (xs ys : List X) (i : ℕ) (d : X) → a ≤ length xs → i < length ys → get_or (put_mid a k xs ys) (a + i) d ≡ get_or ys i d
-in_part a k xs ys i d fits lt = search (rules, slots)
+in_part a k xs ys i d fits lt = search (rules, places)
 
 pub above_part : {X : Type 0} (a k : ℕ) (xs ys : List X) (i : ℕ) (d : X) → a ≤ length xs → length ys ≡ k → a + k ≤ i → get_or (put_mid a k xs ys) i d ≡ get_or xs i d
-above_part a k xs ys i d fits len le = search (rules, slots)
+above_part a k xs ys i d fits len le = search (rules, places)
 
 -- a pixel of a higher row comes before each row below it
 pub row_before : (width x y z : ℕ) → x < width → y < z → y * width + x < z * width

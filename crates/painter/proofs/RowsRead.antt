@@ -1,7 +1,7 @@
 -- Reading an area row by row.
 use Rattle.std.proofs.Common.{◌≡◌, ℕ, ◌+◌, ◌-◌, ◌*◌, ◌<◌, ◌≤◌, List, [], ◌++◌, length, take, drop, get_or, inl, inr, sym, ap, ◌∙◌, arith, rules, subst}
 use Rattle.std.proofs.lemmas.Bool.{cases_lt}
-use Rattle.std.proofs.lemmas.List.{slots, length-take, length-drop, length-append, take_at, drop-drop, drop_all, append-nil, get_or_default}
+use Rattle.std.proofs.lemmas.List.{places, length-take, length-drop, length-append, take_at, drop-drop, drop_all, append-nil, get_or_default}
 use Rattle.std.proofs.lemmas.Nat.{mul-add-lt}
 use Rattle.std.proofs.Math.Nat.{mul-le-mul_left}
 use borrow.Rule.Slice.PartMut.{put_mid}
@@ -17,7 +17,7 @@ use Rattle.painter.proofs.Region.{below_part, in_part}
 -- a pixel of a part of the pixels
 pixel_of_part : (pixels : List Pixel) (start n k : ℕ) → k < n → pixel_color_at (take n (drop start pixels)) k ≡ pixel_color_at pixels (start + k)
 pixel_of_part pixels start n k lt =
-    let here : get_or (take n (drop start pixels)) k black_pixel ≡ get_or pixels (start + k) black_pixel = search (rules, slots) in
+    let here : get_or (take n (drop start pixels)) k black_pixel ≡ get_or pixels (start + k) black_pixel = search (rules, places) in
     ap color_of here
 
 -- a row that was read: the colours of a part of the pixels, in as many elements of the colours

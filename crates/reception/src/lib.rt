@@ -8,4 +8,4 @@ mod term;
 
 pub use backlog::Backlog;
 pub use reception::Reception;
-pub use term::{Arrival, Reason, Term};
+pub use term::{Arrival, Reason, Stop, Term};

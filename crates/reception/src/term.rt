@@ -11,6 +11,30 @@ pub enum Term {
     Stop,
 }
 
+/// When a server is stopped from outside.
+#[derive(Clone, Copy, Debug, PartialEq, Eq)]
+pub struct Stop {
+    /// Once standard input has ended.
+    pub at_end_of_input: bool,
+    /// After so many seconds.
+    pub after: Option<u64>,
+}
+
+impl Stop {
+    /// Never.
+    pub fn never() -> Stop {
+        Stop {
+            at_end_of_input: false,
+            after: None,
+        }
+    }
+
+    /// Whether it may ever come.
+    pub fn may_come(self) -> bool {
+        self.at_end_of_input || self.after.is_some()
+    }
+}
+
 /// Why a connection is turned away.
 #[derive(Clone, Copy, Debug, PartialEq, Eq)]
 pub enum Reason {

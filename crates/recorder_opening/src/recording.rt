@@ -3,12 +3,12 @@
 use crate::draft::{DraftFault, draft_path, open_draft};
 use crate::opening::Opening;
 use block_walk::{hidden_after, read_header};
-use connections::Refusal;
 use file_disk::{FileDisk, LastError, Written, sync_name};
 use flusher_core::Book;
 use gated_journal::{CreateFault, Header};
 use key_index::IndexFault;
 use pixel_format::Format;
+use refusals::Refusal;
 use std::alloc::Global;
 use std::fs::{File, Metadata, OpenOptions};
 use std::os::unix::fs::MetadataExt;

@@ -1,6 +1,6 @@
 //! How a recorder ends that isn't done.
 
-use connections::Refusal;
+use refusals::Refusal;
 use std::alloc::{AllocError, AllocFailed};
 use std::io;
 

@@ -3,7 +3,7 @@ use Rattle.std.proofs.Common.{◌≡◌, ℕ, ◌+◌, ◌*◌, ◌<◌, ◌≤�
 use Rattle.std.specs.Prelude.{not}
 use Rattle.std.proofs.lemmas.Bool.{cases_Bool, cases_lt, eqb-true}
 use Rattle.std.proofs.lemmas.Nat.{mul-add-lt}
-use Rattle.std.proofs.lemmas.List.{pixels, take-take}
+use Rattle.std.proofs.lemmas.List.{places, take-take}
 use Rattle.std.proofs.lemmas.List.Sums.{count_by_more_yes, sum_by-take-le}
 use Rattle.pixel_format.specs.declared.Color.{Color}
 use Rattle.pixel_format.specs.Format.{Format}
@@ -45,7 +45,7 @@ apart_all background numbers most count n lt other so_far many =
 
 -- a pixel of a row
 pub line_at : (numbers : List ℕ) (from n i : ℕ) → i < n → get_or (take n (drop from numbers)) i 0 ≡ get_or numbers (from + i) 0
-line_at numbers from n i lt = search (rules, pixels)
+line_at numbers from n i lt = search (rules, places)
 
 -- a pixel of a row that lies in the rectangle
 pub index_in : (row w column h size : ℕ) → row < h → column < w → size ≡ h * w → row * w + column < size

@@ -10,8 +10,4 @@ mod refusing;
 mod service;
 mod serving;
 
-pub use connections::{Audience, Format, Origin, Plan, Playing};
-pub use playing::Pace;
 pub use serving::{serve, serve_on};
-pub use sockets::Stop;
-pub use telling::Told;

@@ -1,6 +1,6 @@
 //! How a refusal is told.
 
-use connections::Refusal;
+use refusals::{Refusal, write_refusal};
 use std::io;
 use std::io::Write;
 use std::sync::Wait;
@@ -16,6 +16,6 @@ pub fn refuse<R: Clock + Wait, E: Write>(
     err: &mut E,
 ) -> io::Result<()> {
     telling.settle(rt);
-    writeln!(err, "recorderd: serve refused {refusal}")?;
+    write_refusal("serve", refusal, err)?;
     err.flush()
 }

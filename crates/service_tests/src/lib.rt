@@ -3,7 +3,10 @@
 
 ghost use Rattle.std.specs.Prelude.{◌≡◌};
 
-use serve::{Audience, Format, Origin, Plan, Stop, Told};
+use pixel_format::Format;
+use reception::Stop;
+use serve_plan::{Audience, Origin, Plan};
+use telling::Told;
 
 /// A plan of a test: what it serves, to whom, and the position at which they begin. It ends with
 /// its viewers.

@@ -12,4 +12,4 @@ pub use bell::{Bell, Woken};
 pub use connection::Connection;
 pub use limits::{pause, time_left, watch_over, write_within};
 pub use listening::{Accepted, accept};
-pub use stop::{Stop, wait_for_stop};
+pub use stop::wait_for_stop;

@@ -2,32 +2,9 @@
 
 use crate::bell::{Bell, Woken};
 use libc::STDIN_FILENO;
+use reception::Stop;
 use std::io;
 use std::time::{Clock, Duration, Instant};
-
-/// When a server is stopped from outside.
-#[derive(Clone, Copy, Debug, PartialEq, Eq)]
-pub struct Stop {
-    /// Once standard input has ended.
-    pub at_end_of_input: bool,
-    /// After so many seconds.
-    pub after: Option<u64>,
-}
-
-impl Stop {
-    /// Never.
-    pub fn never() -> Stop {
-        Stop {
-            at_end_of_input: false,
-            after: None,
-        }
-    }
-
-    /// Whether it may ever come.
-    pub fn may_come(self) -> bool {
-        self.at_end_of_input || self.after.is_some()
-    }
-}
 
 // Reads over what standard input has: whether it goes on.
 fn input_goes_on() -> bool {

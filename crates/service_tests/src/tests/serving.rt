@@ -36,7 +36,8 @@ mod viewers;
 
 use file_commands::{FileCommand, run};
 use file_disk::Progress;
-use serve::{Plan, serve_on};
+use serve::serve_on;
+use serve_plan::Plan;
 use std::fs::File;
 use std::net::{Net, TcpListener, TcpStream};
 use std::rt::Files;

@@ -1,11 +1,11 @@
 use Rattle.std.proofs.Common.{◌≡◌, ℕ, ◌+◌, ◌-◌, ◌<◌, ◌≤◌, List, length, get_or, take, drop, inl, inr, sym, ap, ◌∙◌, arith, rules}
 use Rattle.std.proofs.lemmas.Bool.{cases_lt}
-use Rattle.std.proofs.lemmas.List.{pixels, length-take, length-drop}
+use Rattle.std.proofs.lemmas.List.{places, length-take, length-drop}
 use Rattle.pixel_format.proofs.runs.end_of_number.Invariants.{OneNumber}
 use Rattle.pixel_format.proofs.runs.end_of_number.Goals as goal
 
 part : (numbers : List ℕ) (from n i : ℕ) → i < n → get_or (take n (drop from numbers)) i 0 ≡ get_or numbers (from + i) 0
-part numbers from n i lt = search (rules, pixels)
+part numbers from n i lt = search (rules, places)
 
 -- so many more positions have the number
 more : (numbers : List ℕ) (start end n : ℕ) (number : ℕ) → end + 8 ≤ length numbers → n ≡ 8 → OneNumber numbers start end number

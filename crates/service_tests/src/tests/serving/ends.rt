@@ -4,7 +4,7 @@ use super::checked;
 use super::peers::{
     ALL, BLACK, CHANGES, GREEN, Loopback, Peer, RED, silent_viewer, small_host, viewer,
 };
-use serve::{Audience, Origin};
+use serve_plan::{Audience, Origin};
 use std::alloc::Global;
 use std::fs;
 use std::net::{Net, TcpStream};

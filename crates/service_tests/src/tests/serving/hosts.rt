@@ -6,7 +6,7 @@ use super::peers::{
     viewer,
 };
 use crate::plan_of;
-use serve::{Audience, Origin};
+use serve_plan::{Audience, Origin};
 use std::fs;
 use std::net::{Net, TcpStream};
 use std::test::Fail;

@@ -5,7 +5,8 @@ use super::peers::{
     ALL, BLACK, CHANGES, Endpoint, GREEN, Peer, RED, listener, silent_viewer, viewer,
 };
 use crate::plan_of;
-use serve::{Audience, Origin, Pace, Plan, Playing};
+use playing::Pace;
+use serve_plan::{Audience, Origin, Plan, Playing};
 use std::fs;
 use std::fs::OpenOptions;
 use std::net::{Net, TcpListener, TcpStream};

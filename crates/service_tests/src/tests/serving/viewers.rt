@@ -4,7 +4,7 @@ use super::is_recorded;
 use super::peers::{
     ALL, BLACK, CHANGES, GREEN, Loopback, RED, large_host, silent_viewer, small_host, viewer,
 };
-use serve::{Audience, Origin};
+use serve_plan::{Audience, Origin};
 use std::fs::OpenOptions;
 use std::net::{Net, TcpStream};
 use std::test::Fail;

@@ -1,8 +1,8 @@
 //! The text for a refusal.
 
 ghost use Rattle.std.specs.Prelude.{◌≡◌, ◌↔◌, ◌≤◌, IsSome, length};
-ghost use Rattle.explanations.specs.declared.area.Area.{Area};
-ghost use Rattle.explanations.specs.Areas.{word_of, IsNumberOf};
+ghost use Rattle.refusals.specs.declared.area.Area.{Area};
+ghost use Rattle.refusals.specs.Areas.{word_of, IsNumberOf};
 
 use crate::area::Area;
 use crate::exports::{EXPORT, FBS};

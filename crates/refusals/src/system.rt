@@ -16,7 +16,7 @@ Nothing more was recorded than `recorderd check PATH` tells.
 Raise the limit, or free memory, and start again.";
 
 const FILE_WAS_LONGER: &str = "\
-Behind the recording's end stand blocks that go on with its digests, more than
+After the recording's end are blocks that go on with its digests, more than
 a crash leaves: a damaged gate hides them. `salvage PATH OUT --behind` saves
 them. To write over them, start `recorderd serve` with `--overwrite`.";
 

@@ -1,7 +1,7 @@
 -- The areas: the word of each, and which numbers its refusals have.
 use Rattle.std.specs.Prelude.{◌≡◌, ◌≤◌, ◌⊎◌, ℕ, List, codes}
-use Rattle.explanations.specs.declared.area.Area.{Area}
-use Rattle.explanations.specs.declared.area.Area.TheVariants as area
+use Rattle.refusals.specs.declared.area.Area.{Area}
+use Rattle.refusals.specs.declared.area.Area.TheVariants as area
 
 -- the word that names an area in a refusal's line
 abbrev pub word_of : Area → List ℕ

@@ -1,59 +1,12 @@
-//! Why `serve` is refused, and which of several reasons is told.
+//! How a recorder ended, and which of several reasons is told.
 
-ghost use Rattle.host_session.specs.declared.fault.HostFault.{HostFault};
 ghost use Rattle.std.specs.Prelude.{◌≡◌, ℕ, None, Some, IfErr, OnOk, OnErr, true, false};
+ghost use Rattle.host_session.specs.declared.fault.HostFault.{HostFault};
 
-use broadcast::StepRefusal;
 use flusher_core::HostRefusal;
-use gated_journal::{CreateFault, OpenFault, ReadFault};
-use host_session::HostFault;
-use key_index::{IndexFault, Numbered};
+use refusals::Refusal;
 use shared_book::FlusherEnd;
 use telling::HostEnd;
-use thiserror::Error;
-
-/// Why `serve` is refused. Its text is the part that refused it, and the number there.
-#[derive(Clone, Copy, Debug, PartialEq, Eq, Error)]
-pub enum Refusal {
-    /// The recording's file can't be opened or made, another recorder has it, or it isn't there any
-    /// more in the end.
-    #[error("file 1")]
-    File,
-    /// More blocks than a crash leaves go on with the digests after the end of the recording, and
-    /// would be written over.
-    #[error("file 2")]
-    Hidden,
-    /// The recording isn't opened.
-    #[error("{}", Numbered(*.0))]
-    Recording(IndexFault),
-    /// The recording isn't made.
-    #[error("journal {}", .0.number())]
-    Create(CreateFault),
-    /// The device failed while messages were written, or were read for a viewer.
-    #[error("journal 3")]
-    Device,
-    /// The host sent a fault, or is of another size.
-    #[error("host {}", .0.number())]
-    Host(HostFault),
-    /// The recording takes no more messages, or memory ran out for one.
-    #[error("book {}", StepRefusal::Host(*.0).number())]
-    Book(HostRefusal),
-    /// A socket failed.
-    #[error("net 1")]
-    Net,
-    /// A thread can't be made.
-    #[error("thread 1")]
-    Thread,
-}
-
-impl From<ReadFault> for Refusal {
-    fn from(fault: ReadFault) -> Refusal {
-        Refusal::Recording(match fault {
-            ReadFault::NoMemory => IndexFault::NoMemory,
-            ReadFault::Device => IndexFault::Journal(OpenFault::Device),
-        })
-    }
-}
 
 /// How each part of a recorder ended.
 #[derive(Clone, Copy, Debug, PartialEq, Eq)]

@@ -3,8 +3,7 @@
 use broadcast::Start;
 use pixel_format::Format;
 use playing::{Pace, Program};
-use reception::Term;
-use sockets::Stop;
+use reception::{Stop, Term};
 use telling::Told;
 
 /// How many viewers are served.

@@ -1,5 +1,7 @@
 //! The parts of the recorder that refuse a command.
 
+use std::fmt;
+
 /// A part of the recorder that refuses a command, as the refusal's line names it.
 #[derive(Clone, Copy, Debug, PartialEq, Eq)]
 pub enum Area {
@@ -35,7 +37,29 @@ pub enum Area {
 
 impl Area {
     ghost use Rattle.std.specs.Prelude.{◌≡◌, Some, IfSome};
-    ghost use Rattle.explanations.specs.Areas.{word_of};
+    ghost use Rattle.refusals.specs.Areas.{word_of};
+
+    /// The word that names it in a refusal's line.
+    pub fn word(self) -> &'static str
+        ensures { result.now ≡ word_of self }
+    {
+        match self {
+            Area::Journal => "journal",
+            Area::Index => "index",
+            Area::Replay => "replay",
+            Area::Digest => "digest",
+            Area::Migrate => "migrate",
+            Area::Salvage => "salvage",
+            Area::Export => "export",
+            Area::Fbs => "fbs",
+            Area::Wire => "wire",
+            Area::Host => "host",
+            Area::Book => "book",
+            Area::File => "file",
+            Area::Net => "net",
+            Area::Thread => "thread",
+        }
+    }
 
     /// The area that this word names, if any.
     pub fn from_word(word: &str) -> Option<Area>
@@ -59,5 +83,11 @@ impl Area {
             "thread" => Some(Area::Thread),
             _ => None,
         }
+    }
+}
+
+impl fmt::Display for Area {
+    fn fmt<W: fmt::Write>(&self, f: &mut fmt::Formatter<W>) -> fmt::Result {
+        write!(f, "{}", self.word())
     }
 }

@@ -1,0 +1,9 @@
+//! What `recorderd serve` is asked for, and which of its ends is told: values, without a socket or a
+//! thread.
+#![tactic(auto)]
+
+mod ends;
+mod plan;
+
+pub use ends::{Ends, first_refusal};
+pub use plan::{Audience, Beginning, Origin, Plan, Playing};
