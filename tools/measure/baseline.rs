@@ -1,6 +1,6 @@
 //! The baselines that `tools/measure/measure` counts beside the encoders and `Screen::paint`: plain
-//! Rust, with no proof and no care for other pixel formats than four bytes a place, lowest first. RRE
-//! and Hextile choose as libvncserver does; a screen is a number for each place. Prints how many bytes
+//! Rust, with no proof and no care for other pixel formats than four bytes a pixel, lowest first. RRE
+//! and Hextile choose as libvncserver does; a screen is a number for each pixel. Prints how many bytes
 //! the update has.
 
 const WIDTH: usize = 1920;
@@ -34,12 +34,12 @@ fn color_at(picture: &str, x: u32, y: u32) -> Color {
     }
 }
 
-// Words of letters of five by seven places, with a line of them in every twenty rows.
+// Words of letters of five by seven pixels, with a line of them in every twenty rows.
 fn is_ink(x: u32, y: u32) -> bool {
     let (column, row) = (x % 6, (y + 15) % 20);
-    let place = column * 5 + row * 3 + column * row;
+    let dot = column * 5 + row * 3 + column * row;
     let letter = x / 6 * 7 + y / 20 * 13;
-    column < 5 && row < 7 && x / 6 % 9 < 6 && (letter + place) % 3 == 0
+    column < 5 && row < 7 && x / 6 % 9 < 6 && (letter + dot) % 3 == 0
 }
 
 fn pixel_of(color: Color) -> u32 {
@@ -52,7 +52,7 @@ fn append_rows(rows: &[[u8; 4]], out: &mut Vec<u8>) {
     }
 }
 
-// The larger of two rectangles of one colour at a place: the run to the right as far down as it
+// The larger of two rectangles of one colour from a pixel on: the run to the right as far down as it
 // goes, and the run down as far to the right as it goes.
 fn larger(pixels: &[u32], w: usize, h: usize, x: usize, y: usize) -> (usize, usize) {
     let color = pixels[y * w + x];
@@ -78,7 +78,7 @@ fn larger(pixels: &[u32], w: usize, h: usize, x: usize, y: usize) -> (usize, usi
     }
 }
 
-// Appends subrectangles over a background while they have at most so many bytes, and answers how
+// Appends subrectangles over a background while they have at most `most` bytes, and answers how
 // many they are.
 fn append_parts(
     pixels: &mut [u32],
@@ -165,7 +165,7 @@ struct Known {
     foreground: Option<u32>,
 }
 
-fn place(x: usize, y: usize, w: usize, h: usize) -> [u8; 2] {
+fn position_and_size(x: usize, y: usize, w: usize, h: usize) -> [u8; 2] {
     [(x * 16 + y) as u8, ((w - 1) * 16 + h - 1) as u8]
 }
 
@@ -199,14 +199,14 @@ fn append_tile(tile: &mut [u32], w: usize, h: usize, known: &mut Known, out: &mu
     copy[..w * h].copy_from_slice(tile);
     let parts = if let Kind::Two(..) = kind {
         append_parts(tile, w, h, background, most, out, |_, x, y, w, h, out| {
-            out.extend_from_slice(&place(x, y, w, h))
+            out.extend_from_slice(&position_and_size(x, y, w, h))
         })
     } else {
         out[start] |= 16;
         known.foreground = None;
         append_parts(tile, w, h, background, most, out, |color, x, y, w, h, out| {
             out.extend_from_slice(&color.to_le_bytes());
-            out.extend_from_slice(&place(x, y, w, h));
+            out.extend_from_slice(&position_and_size(x, y, w, h));
         })
     };
     match parts {
@@ -242,8 +242,8 @@ fn pixel_at(bytes: &[u8]) -> u32 {
 }
 
 fn paint_row(bytes: &[u8], row: &mut [u32]) {
-    for (place, pixel) in row.iter_mut().zip(bytes.chunks_exact(4)) {
-        *place = pixel_at(pixel);
+    for (pixel, bytes) in row.iter_mut().zip(bytes.chunks_exact(4)) {
+        *pixel = pixel_at(bytes);
     }
 }
 

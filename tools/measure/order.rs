@@ -1,7 +1,7 @@
-//! Two orders in which a screen may keep its places, by rows and by tiles of 16 by 16, with the same
-//! work on both. `order rows WORK` and `order tiles WORK` do WORK ten times on 1920 by 1080 places, or
+//! Two orders in which a screen may keep its pixels, by rows and by tiles of 16 by 16, with the same
+//! work on both. `order rows WORK` and `order tiles WORK` do WORK ten times on 1920 by 1080 pixels, or
 //! `none`, to be counted by `valgrind --tool=callgrind`: `raw`, `fill` and `copy` (up by a row) paint
-//! all places, `parts` areas of 8 by 4; `area` reads all places, `areas` those of each tile in turn;
+//! all pixels, `parts` areas of 8 by 4; `area` reads all pixels, `areas` those of each tile in turn;
 //! `same` compares two screens.
 use std::hint::black_box;
 
@@ -11,11 +11,11 @@ const SIDE: usize = 16;
 const COLUMNS: usize = WIDTH.div_ceil(SIDE);
 const TIMES: usize = 10;
 
-/// Where runs of places of a row lie, one after another.
+/// Which pixels of a row have consecutive indexes.
 trait Order {
-    /// How many places a screen takes.
+    /// How many indexes a screen takes.
     const SIZE: usize;
-    /// The index of a place, and how many places to the right of it, with it, lie after one another.
+    /// The index of a pixel, and how many pixels, from it to the right, have consecutive indexes.
     fn run(x: usize, y: usize) -> (usize, usize);
 }
 

@@ -1,7 +1,7 @@
 //! The baseline that `tools/measure_reader/measure_reader` counts beside `ServerReader::feed`: plain
 //! Rust, with no proof, which takes a host's stream in pieces, judges each field once it is whole,
-//! and keeps a message's bytes and where its rectangles lie; and beside `Screen::paint`, on a number
-//! for each place. It does the same works as `main.rt.in`.
+//! and keeps a message's bytes and where its rectangles are; and beside `Screen::paint`, on a number
+//! for each pixel. It does the same works as `main.rt.in`.
 
 use std::{env, fs, process};
 
@@ -183,7 +183,7 @@ impl Reader {
         Ok(Some(Field::TileHead { tile, mask }))
     }
 
-    // Judges the field, which is whole. None comes next where the message is whole.
+    // Judges the field, which is whole. None comes next if the message is whole.
     fn step(&mut self) -> Result<Option<Field>, ()> {
         let field = &self.bytes[self.start..];
         Ok(match self.field {
@@ -339,8 +339,8 @@ fn pixel_at(bytes: &[u8]) -> u32 {
 fn paint_raw(bytes: &[u8], x: usize, y: usize, w: usize, screen: &mut [u32]) {
     for (row, pixels) in bytes.chunks_exact(4 * w).enumerate() {
         let start = (y + row) * SCREEN + x;
-        for (place, pixel) in screen[start..start + w].iter_mut().zip(pixels.chunks_exact(4)) {
-            *place = pixel_at(pixel);
+        for (pixel, bytes) in screen[start..start + w].iter_mut().zip(pixels.chunks_exact(4)) {
+            *pixel = pixel_at(bytes);
         }
     }
 }
@@ -366,7 +366,7 @@ fn copy(from: [usize; 2], [x, y, w, h]: [usize; 4], screen: &mut [u32]) {
 fn paint_rre(bytes: &[u8], [x, y, w, h]: [usize; 4], screen: &mut [u32]) {
     fill(screen, x, y, w, h, pixel_at(&bytes[4..]));
     for part in bytes[8..].chunks_exact(12) {
-        let at = |place| u16_at(part, place);
+        let at = |offset| u16_at(part, offset);
         fill(screen, x + at(4), y + at(6), at(8), at(10), pixel_at(part));
     }
 }
@@ -427,7 +427,7 @@ fn paint(message: &Message, screen: &mut [u32]) {
     }
 }
 
-// A sum over the first places of a screen that shows the messages, or is black.
+// A sum over the first pixels of a screen that shows the messages, or is black.
 fn sum_of_screen(messages: &[Message], paints: bool) -> u32 {
     let mut screen = vec![0; SCREEN * SCREEN];
     if paints {
@@ -435,8 +435,8 @@ fn sum_of_screen(messages: &[Message], paints: bool) -> u32 {
             paint(message, &mut screen);
         }
     }
-    let places = screen.chunks(SCREEN).take(240).flat_map(|row| &row[..320]);
-    places.fold(0, |sum: u32, place| sum.wrapping_mul(31).wrapping_add(*place))
+    let pixels = screen.chunks(SCREEN).take(240).flat_map(|row| &row[..320]);
+    pixels.fold(0, |sum: u32, pixel| sum.wrapping_mul(31).wrapping_add(*pixel))
 }
 
 fn main() {

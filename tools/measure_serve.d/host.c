@@ -7,7 +7,7 @@
    up by a line of 16 pixels, and a new line of text comes) or `clock` (an area of 64 by 16 pixels
    changes). RATE is how many updates there are a second, if they are asked for, or 0: as many as
    are asked for. ENCODING is `raw` or `hextile`; clients have to take it, and CopyRect. A client is
-   first sent the whole screen. Each client has a thread and numbers of its own, since a proxy
+   first sent the whole screen. Each client has its own thread and numbers, since a proxy
    connects once for each viewer.
 
    Prints `listening`. At each line on its input, and at the input's end, prints what it has sent

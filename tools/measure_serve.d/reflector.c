@@ -37,22 +37,22 @@ static void in_our_format(rfbPixelFormat *format)
     format->blueShift = 0;
 }
 
-static rfbClient *host_at(char *place)
+static rfbClient *host_at(char *endpoint)
 {
     rfbClient *host = rfbGetClient(8, 3, 4);
-    char *words[] = {"reflector", place};
+    char *words[] = {"reflector", endpoint};
     int count = 2;
     in_our_format(&host->format);
     host->appData.encodingsString = "copyrect hextile rre raw";
     host->GotCopyRect = copied;
     host->GotFrameBufferUpdate = changed;
     if (!rfbInitClient(host, &count, words))
-        fail("no host at %s", place);
+        fail("no host at %s", endpoint);
     return host;
 }
 
 /* The screen has a cursor without pixels, beside it: a copy needs one. */
-static void show(rfbClient *host, const char *place)
+static void show(rfbClient *host, const char *endpoint)
 {
     screen = rfbGetScreen(NULL, NULL, host->width, host->height, 8, 3, 4);
     screen->frameBuffer = (char *)host->frameBuffer;
@@ -63,11 +63,11 @@ static void show(rfbClient *host, const char *place)
     screen->alwaysShared = TRUE;
     screen->listenInterface = htonl(INADDR_LOOPBACK);
     screen->autoPort = FALSE;
-    screen->port = number(strchr(place, ':') + 1);
+    screen->port = number(strchr(endpoint, ':') + 1);
     screen->ipv6port = 0;
     rfbInitServer(screen);
     if (screen->listenSock < 0)
-        fail("can't listen at %s", place);
+        fail("can't listen at %s", endpoint);
     FD_SET(host->sock, &screen->allFds);
     screen->maxFd = screen->maxFd > host->sock ? screen->maxFd : host->sock;
 }

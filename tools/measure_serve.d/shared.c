@@ -68,18 +68,18 @@ int64_t number(const char *word)
     return value;
 }
 
-static struct sockaddr_in address_of(const char *place)
+static struct sockaddr_in address_of(const char *endpoint)
 {
     struct sockaddr_in address = {.sin_family = AF_INET};
     char text[64];
-    const char *colon = strchr(place, ':');
-    if (!colon || colon - place >= (long)sizeof text)
-        fail("%s is no ADDRESS:PORT", place);
-    memcpy(text, place, colon - place);
-    text[colon - place] = 0;
+    const char *colon = strchr(endpoint, ':');
+    if (!colon || colon - endpoint >= (long)sizeof text)
+        fail("%s is no ADDRESS:PORT", endpoint);
+    memcpy(text, endpoint, colon - endpoint);
+    text[colon - endpoint] = 0;
     address.sin_port = htons(number(colon + 1));
     if (inet_pton(AF_INET, text, &address.sin_addr) != 1)
-        fail("%s is no ADDRESS:PORT", place);
+        fail("%s is no ADDRESS:PORT", endpoint);
     return address;
 }
 
@@ -90,13 +90,13 @@ static int without_delay(int socket)
     return socket;
 }
 
-int listening(const char *place)
+int listening(const char *endpoint)
 {
-    struct sockaddr_in address = address_of(place);
+    struct sockaddr_in address = address_of(endpoint);
     int yes = 1, listener = socket(AF_INET, SOCK_STREAM, 0);
     setsockopt(listener, SOL_SOCKET, SO_REUSEADDR, &yes, sizeof yes);
     if (bind(listener, (struct sockaddr *)&address, sizeof address) || listen(listener, 256))
-        fail("can't listen at %s: %s", place, strerror(errno));
+        fail("can't listen at %s: %s", endpoint, strerror(errno));
     return listener;
 }
 
@@ -108,12 +108,12 @@ int accepted(int listener)
     return without_delay(peer);
 }
 
-int connected(const char *place)
+int connected(const char *endpoint)
 {
-    struct sockaddr_in address = address_of(place);
+    struct sockaddr_in address = address_of(endpoint);
     int peer = socket(AF_INET, SOCK_STREAM, 0);
     if (connect(peer, (struct sockaddr *)&address, sizeof address))
-        fail("can't connect to %s: %s", place, strerror(errno));
+        fail("can't connect to %s: %s", endpoint, strerror(errno));
     return without_delay(peer);
 }
 

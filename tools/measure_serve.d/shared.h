@@ -31,9 +31,9 @@ void *room(size_t bytes);
 int64_t number(const char *word);
 
 /* Sockets of ADDRESS:PORT, without delay of small messages. */
-int listening(const char *place);
+int listening(const char *endpoint);
 int accepted(int listener);
-int connected(const char *place);
+int connected(const char *endpoint);
 
 /* All of it is read or written; 0 if the peer has ended. */
 int read_all(int socket, void *bytes, size_t count);

@@ -8,7 +8,7 @@ enum state {
 };
 enum { IS_RAW = 1, HAS_BACK = 2, HAS_FORE = 4, HAS_PARTS = 8, IS_COLOURED = 16, SIDE = 16 };
 
-/* Skips so many bytes, gathers so many more, and is in this state then. */
+/* Skips `skip` bytes, gathers `need` more, and is in this state then. */
 static void want(struct reader *reader, int state, size_t skip, size_t need)
 {
     reader->state = state;
@@ -99,7 +99,7 @@ static void rectangle(struct reader *reader, const uint8_t *head)
     reader->encodings[encoding]++;
 }
 
-/* Subrectangles of so many bytes each: they are read where the stamp is, and skipped elsewhere. */
+/* Subrectangles of `each` bytes: they are read where the stamp is, and skipped elsewhere. */
 static void parts(struct reader *reader, struct area in, int part, size_t each, int then)
 {
     if (reader->parts && has_any(reader, in))

@@ -8,7 +8,7 @@ struct area {
     int x, y, width, height;
 };
 
-/* What comes next in a stream: first so many bytes that are skipped, then a field, and then `step`
+/* What comes next in a stream: first `skip` bytes that are skipped, then a field, and then `step`
    does what the state says. */
 struct reader {
     int width, height;

@@ -87,12 +87,12 @@ static void shake_hands(struct viewer *viewer)
         hear(viewer, got, 1);
 }
 
-static void begin(struct viewer *viewer, const char *place, const char *encodings)
+static void begin(struct viewer *viewer, const char *endpoint, const char *encodings)
 {
     uint8_t format[20] = {0}, list[4 + 4 * 16] = {2};
     char words[256];
     int listed = 0;
-    viewer->socket = connected(place);
+    viewer->socket = connected(endpoint);
     shake_hands(viewer);
     memcpy(format + 4, FORMAT, sizeof FORMAT);
     say(viewer, format, sizeof format);

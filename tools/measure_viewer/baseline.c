@@ -1,4 +1,4 @@
-/* libvncserver's own Raw rectangles of 1920 by 1080 places, ten of them, written to a socket that a
+/* libvncserver's own Raw rectangles of 1920 by 1080 pixels, ten of them, written to a socket that a
  * thread empties: in the host's format (`host`), in two bytes a pixel (`two`), or none (`none`). */
 #include <pthread.h>
 #include <rfb/rfb.h>

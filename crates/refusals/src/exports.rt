@@ -6,22 +6,22 @@ Blocks count from 0, and `recorderd list PATH` prints a line for each: give FROM
 one of these numbers.";
 
 const BAD_END: &str = "\
-TO lies before the first message of block FROM, or after the last message.
+TO is before the first message of block FROM, or after the last message.
 OUT wasn't touched. `recorderd list PATH` prints the first message of each
 block, and `recorderd check PATH` how many messages there are.";
 
 const DEVICE_FAILED: &str = "\
 The device failed while the recording was read. The recording is as it was; OUT
-has a beginning of the file. See to the device, and export again.";
+has only the beginning of the file. See to the device, and export again.";
 
 const NO_MEMORY_TO_EXPORT: &str = "\
 Memory ran out while the recording was exported. The recording is as it was; OUT
-has a beginning of the file. Free memory or raise its limit, and export again.";
+has only the file's beginning. Free memory or raise its limit, and export again.";
 
 const CANNOT_WRITE: &str = "\
 OUT can't be written: its device is full or failed, or what reads it has gone.
-The recording is as it was; OUT has a beginning of the file. Make room, or name
-another OUT, and export again.";
+The recording is as it was; OUT has only the beginning of the file. Make room,
+or name another OUT, and export again.";
 
 const NO_FBS_FILE: &str = "\
 The file doesn't begin as an FBS file of version 001, or has under 12 bytes.

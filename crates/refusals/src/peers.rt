@@ -3,37 +3,37 @@
 const UNKNOWN_TYPE: &str = "\
 A message has a type that no message of a host has.
 The host, or what wrote the FBS file, keeps to another protocol or extension.
-Messages before it stand. Use or update a VNC server that keeps to RFB 3.8.";
+Messages before it are valid. Use or update a VNC server that keeps to RFB 3.8.";
 
 const OUTSIDE_SCREEN: &str = "\
 A rectangle of an update leaves the screen.
 The host's screen was resized meanwhile, or its server or the FBS file is wrong.
-Messages before it stand. After a resize, record into a new file.";
+Messages before it are valid. After a resize, record into a new file.";
 
 const ENCODING: &str = "\
 A rectangle is in an encoding other than Raw, CopyRect, RRE and Hextile.
 The host sent what it wasn't asked for, or another program wrote the FBS file.
-Messages before it stand. Use or update a VNC server that keeps to RFB 3.8.";
+Messages before it are valid. Use or update a VNC server that keeps to RFB 3.8.";
 
 const TOO_LONG: &str = "\
 An update is longer than 67,108,864 bytes, in format 2 than 268,435,456.
 The host's server is faulty, or another program wrote the FBS file.
-Messages before it stand. Use another server, or a smaller screen.";
+Messages before it are valid. Use another server, or a smaller screen.";
 
 const BAD_RRE: &str = "\
 In RRE data, a subrectangle leaves its rectangle.
 The host's server is faulty, or the FBS file was changed.
-Messages before it stand. Update the server, or use another one.";
+Messages before it are valid. Update the server, or use another one.";
 
 const BAD_HEXTILE: &str = "\
 In Hextile data, a tile says what it may not, or a subrectangle leaves its tile.
 The host's server is faulty, or the FBS file was changed.
-Messages before it stand. Update the server, or use another one.";
+Messages before it are valid. Update the server, or use another one.";
 
 const SOURCE_OUTSIDE: &str = "\
 A CopyRect copies from outside the screen.
 The host's server is faulty, or the FBS file was changed.
-Messages before it stand. Update the server, or use another one.";
+Messages before it are valid. Update the server, or use another one.";
 
 const BAD_FORMAT: &str = "\
 A pixel format is refused. Only a viewer sends one, so no command is refused by
@@ -41,7 +41,7 @@ this: a viewer whose format can't be used is closed, and all else goes on.";
 
 const NO_MEMORY: &str = "\
 Memory ran out while a message was read. This says nothing of the host or file.
-Messages before it stand. Free memory or raise its limit, and start again.";
+Messages before it are valid. Free memory or raise its limit, and start again.";
 
 const OTHER_VERSION: &str = "\
 The host doesn't speak RFB 3.8 (`RFB 003.008`), the only version that is spoken

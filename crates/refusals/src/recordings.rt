@@ -1,7 +1,7 @@
 //! Refusals of a recording: opened, made, read, or written.
 
 const NO_RECORDING: &str = "\
-The file isn't a recording; or bytes lie where a new one was to be made.
+The file isn't a recording; or a new one was to be made, and it isn't empty.
 It is another file, or an older version's creation was cut off. Nothing was
 written to it: name another PATH, or move the file away.";
 
@@ -61,7 +61,7 @@ Memory ran out while a screen of the recording was painted.
 Nothing was written. Free memory or raise its limit, and start again.";
 
 const BACKLOG: &str = "\
-As many messages as may be, 1,024, wait to be committed.
+1,024 messages, the most that may, wait to be committed.
 `serve` waits by itself until there is room, and prints no such line; a drill's
 `host refused 1` says the same: there `take`, `body` and `gate` make room.";
 
@@ -115,7 +115,7 @@ pub const DIGEST: [&str; 2] = [NO_DIGESTS, NO_SUCH_DIGEST];
 
 const TARGET_NOT_EMPTY: &str = "\
 The file to write has bytes, and is as it was.
-Name a file that isn't there; what an earlier `migrate` was refused in, remove.";
+Name a file that isn't there, or remove what a refused `migrate` left.";
 
 const SOURCE_FAILED: &str = "\
 The recording can't be read: its disk failed, or the file changed meanwhile.
@@ -149,7 +149,7 @@ pub const MIGRATE: [&str; 6] = [
 
 const SAVED_TARGET_NOT_EMPTY: &str = "\
 The file to write has bytes, and is as it was.
-Name a file that isn't there; what an earlier `salvage` was refused in, remove.";
+Name a file that isn't there, or remove what a refused `salvage` left.";
 
 const DAMAGED_SOURCE_FAILED: &str = "\
 The damaged recording can't be read: its disk failed, or it changed meanwhile.

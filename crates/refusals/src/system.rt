@@ -11,14 +11,14 @@ can't be reached, was silent for 30 seconds in its handshake, or broke off: see
 `--verbose`. What was committed is safe: start again, and the recorder goes on.";
 
 const THREAD_FAILS: &str = "\
-The system makes no thread: a limit of threads, or memory, is reached.
+The system makes no more threads: a limit of them, or of memory, is reached.
 Nothing more was recorded than `recorderd check PATH` tells.
 Raise the limit, or free memory, and start again.";
 
 const FILE_WAS_LONGER: &str = "\
-After the recording's end are blocks that go on with its digests, more than
-a crash leaves: a damaged gate hides them. `salvage PATH OUT --behind` saves
-them. To write over them, start `recorderd serve` with `--overwrite`.";
+After the recording's end there are blocks that go on with its digests, more
+than a crash leaves: a damaged gate hides them. `salvage PATH OUT --behind`
+saves them. To write over them, start `recorderd serve` with `--overwrite`.";
 
 /// The texts of `file`, by number.
 pub const FILE: [&str; 2] = [FILE_FAILS, FILE_WAS_LONGER];
