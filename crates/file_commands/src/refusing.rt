@@ -87,11 +87,14 @@ pub fn refuse<E: Write>(
 }
 
 /// How a command ends that isn't done.
-#[derive(Drop)]
+#[derive(Debug, Drop, Error)]
 pub enum Ended<'a> {
+    /// It is refused.
+    #[error("{0}")]
     Refused(Refused<'a>),
     /// A stream can't be written, or memory for the program's own work runs out.
-    Failed(io::Error),
+    #[error("{0}")]
+    Failed(#[source] io::Error),
 }
 
 impl<'a> From<Refused<'a>> for Ended<'a> {

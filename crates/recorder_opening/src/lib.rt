@@ -6,9 +6,7 @@ mod draft;
 mod opening;
 mod reading;
 mod recording;
-mod stopped;
 
 pub use opening::{Begun, Opened, Opening, Source};
 pub use reading::Reading;
 pub use recording::Identity;
-pub use stopped::Stopped;

@@ -3,7 +3,6 @@
 use crate::beginning::beginning_of;
 use crate::reading::Reading;
 use crate::recording::{Found, Identity};
-use crate::stopped::Stopped;
 use broadcast::Desk;
 use connections::{Host, Stopwatch};
 use disk::Disk;
@@ -12,7 +11,7 @@ use flusher_core::Book;
 use gated_journal::Header;
 use pixel_format::Format;
 use refusals::Refusal;
-use serve_plan::{Beginning, Plan};
+use serve_plan::{Beginning, Plan, Stopped};
 use std::alloc::Global;
 use std::fs::File;
 use std::io;

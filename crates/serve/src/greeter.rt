@@ -2,9 +2,9 @@
 
 ghost use Rattle.std.specs.Prelude.{◌<◌, ◌^◌, length};
 
-use crate::accepting::accept_until_rung;
 use connections::{Greeting, Guest, Hall};
 use reception::Arrival;
+use recorder_threads::{Comer, accept_until_rung};
 use sockets::Bell;
 use std::alloc::Global;
 use std::net::{SocketAddr, TcpListener, TcpStream};
@@ -14,14 +14,6 @@ use std::thread::{Scope, Threads};
 use std::time::Clock;
 use telling::{Event, Telling};
 use terms::ScreenSize;
-
-/// One who came while the recording was read, and the address that it came from. The handshake is
-/// whole, or goes on.
-#[derive(Drop)]
-pub struct Comer {
-    pub guest: Guest<TcpStream>,
-    pub from: SocketAddr,
-}
 
 /// The door for those who are greeted while the recording is read.
 #[derive(Drop)]

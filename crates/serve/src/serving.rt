@@ -3,15 +3,14 @@
 ghost use Rattle.std.specs.Prelude.{◌≡◌};
 ghost use Rattle.flusher_core.specs.State.{accepted_count};
 
-use crate::greeter::{Comer, Door, Greeter};
-use crate::refusing::refuse;
-use crate::service::{Service, run_threads};
+use crate::greeter::{Door, Greeter};
 use connections::{Device, Hall, Room};
 use file_disk::{LastError, Written};
 use libc::STDERR_FILENO;
-use recorder_opening::{Begun, Opened, Opening, Reading, Source, Stopped};
+use recorder_opening::{Begun, Opened, Opening, Reading, Source};
+use recorder_threads::{Comer, Service, refuse, run_threads};
 use refusals::Refusal;
-use serve_plan::{Origin, Plan};
+use serve_plan::{Origin, Plan, Stopped};
 use shared_book::{Mark, Shared, Token};
 use sockets::Bell;
 use std::fmt::Display;

@@ -4,6 +4,8 @@
 
 mod ends;
 mod plan;
+mod stopped;
 
 pub use ends::{Ends, first_refusal};
 pub use plan::{Audience, Beginning, Origin, Plan, Playing};
+pub use stopped::Stopped;

@@ -1,7 +1,7 @@
 //! How viewers come in: one thread accepts, and each connection has a thread of its own.
 
 use crate::accepting::accept_until_rung;
-use crate::greeter::Comer;
+use crate::comer::Comer;
 use crate::no_turnstile::NoTurnstile;
 use crate::service::Service;
 use broadcast::{NextRefusal, Start};

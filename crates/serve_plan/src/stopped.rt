@@ -3,14 +3,20 @@
 use refusals::Refusal;
 use std::alloc::{AllocError, AllocFailed};
 use std::io;
+use thiserror::Error;
 
 /// How a recorder ends that isn't done.
+#[derive(Debug, Drop, Error)]
 pub enum Stopped {
-    Refused(Refusal),
+    /// It is refused, which is still to be told.
+    #[error("{0}")]
+    Refused(#[source] Refusal),
     /// It was refused, and that was told.
+    #[error("it was refused")]
     Told,
     /// A stream can't be written, or memory for the program's own work runs out.
-    Failed(io::Error),
+    #[error("{0}")]
+    Failed(#[source] io::Error),
 }
 
 impl Stopped {

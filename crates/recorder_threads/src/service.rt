@@ -1,16 +1,15 @@
 //! The threads that record, beside those of viewers.
 
+use crate::comer::Comer;
 use crate::committing::Committing;
-use crate::greeter::Comer;
 use crate::no_turnstile::NoTurnstile;
 use crate::refusing::refuse;
 use connections::{Host, Messages, Room, Stopwatch};
 use disk::Disk;
 use flusher_core::HostRefusal;
 use reception::Stop;
-use recorder_opening::Stopped;
 use refusals::Refusal;
-use serve_plan::{Ends, first_refusal};
+use serve_plan::{Ends, Stopped, first_refusal};
 use shared_book::{FlusherEnd, Mark, Shared, run_flusher, run_host};
 use sockets::{Woken, wait_for_stop};
 use std::io::Write;

@@ -1,0 +1,12 @@
+//! Who comes before the recording is open.
+
+use connections::Guest;
+use std::net::{SocketAddr, TcpStream};
+
+/// One who came while the recording was read, and the address that it came from. The handshake is
+/// whole, or goes on.
+#[derive(Drop)]
+pub struct Comer {
+    pub guest: Guest<TcpStream>,
+    pub from: SocketAddr,
+}

@@ -1,0 +1,16 @@
+//! The threads of a recorder whose recording is open: they record its host, commit, and serve viewers,
+//! until all is done.
+#![tactic(auto)]
+
+mod accepting;
+mod comer;
+mod committing;
+mod entrance;
+mod no_turnstile;
+mod refusing;
+mod service;
+
+pub use accepting::accept_until_rung;
+pub use comer::Comer;
+pub use refusing::refuse;
+pub use service::{Outcome, Service, run_threads};
