@@ -5,8 +5,8 @@ ghost use Rattle.recording_bytes.specs.BlockText.{format_of};
 
 use block_walk::{Hidden, hidden_after};
 use file_disk::FileDisk;
-use gated_journal::{Header, OpenFault, ReadFault};
-use key_index::{IndexFault, Indexed};
+use gated_journal::Header;
+use key_index::Indexed;
 use pixel_format::Format;
 use refusals::Refusal;
 use std::fmt;
@@ -53,11 +53,7 @@ pub fn after_gate<R: Files<File = File> + AllocGlobal>(
                 hidden,
             }),
         ),
-        Err(ReadFault::NoMemory) => Err(Refusal::Recording(IndexFault::NoMemory)),
-        Err(ReadFault::Device) => {
-            let fault = IndexFault::Journal(OpenFault::Device);
-            Err(Refusal::Recording(fault))
-        }
+        Err(fault) => Err(fault.into()),
     }
 }
 

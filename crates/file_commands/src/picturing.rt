@@ -7,7 +7,6 @@ use crate::recording::open_recording;
 use crate::refusing::Ended;
 use crate::source_file::open_source;
 use file_disk::{FileDisk, Progress, Watched};
-use gated_journal::ReadFault;
 use key_index::Indexed;
 use painter::Screen;
 use pictures::{PictureFormat, write_picture};
@@ -44,11 +43,7 @@ pub struct Scene<'a> {
 fn count_of(index: &mut Indexed<FileDisk>, moment: Moment) -> Result<u64, ReplayFault> {
     match moment {
         Moment::Count(count) => Ok(count),
-        Moment::Time(time) => match count_at(index, time) {
-            Ok(count) => Ok(count),
-            Err(ReadFault::Device) => Err(ReplayFault::Device),
-            Err(ReadFault::NoMemory) => Err(ReplayFault::NoMemory),
-        },
+        Moment::Time(time) => Ok(count_at(index, time)?),
     }
 }
 

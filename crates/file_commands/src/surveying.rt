@@ -4,10 +4,8 @@ ghost use Rattle.std.specs.Prelude.{◌≡◌, ◌<◌, length};
 
 use crate::refusing::Ended;
 use file_disk::FileDisk;
-use gated_journal::ReadFault;
 use key_index::{Indexed, Stamped};
 use refusals::Refusal;
-use replay::ReplayFault;
 use std::io;
 
 /// What came in a stretch of a recording's time.
@@ -68,8 +66,7 @@ fn block_messages(index: &mut Indexed<FileDisk>, block: u64) -> Result<Vec<Stamp
 {
     match index.read(block) {
         Ok(messages) => Ok(messages),
-        Err(ReadFault::Device) => Err(Refusal::Screen(ReplayFault::Device).into()),
-        Err(ReadFault::NoMemory) => Err(Refusal::Screen(ReplayFault::NoMemory).into()),
+        Err(fault) => Err(Refusal::Screen(fault.into()).into()),
     }
 }
 
