@@ -77,7 +77,7 @@ impl StepRefusal {
         ensures { IsStepNumber self result }
     {
         match self {
-            StepRefusal::Host(why) => why as u64,
+            StepRefusal::Host(why) => why.number(),
             StepRefusal::Take(why) => why as u64,
             StepRefusal::Flush(why) => why as u64,
             StepRefusal::Join(why) => why as u64,

@@ -7,7 +7,6 @@ use crate::limits::{HANDSHAKE, REQUEST};
 use crate::room::Room;
 use host_session::{HostFault, HostSession};
 use pixel_format::Format;
-use refusals::Refusal;
 use rfb_wire::HostMessage;
 use shared_book::{HostSource, Mark, Ticket};
 use sockets::{pause, time_left, watch_over, write_within};
@@ -19,9 +18,21 @@ use std::time::{Clock, Instant};
 use std::{io, thread};
 use telling::{Event, HostEnd, Telling};
 use terms::ScreenSize;
+use thiserror::Error;
 
 /// How many bytes are read at a time.
 const PIECE: usize = 1 << 16;
+
+/// Why there is no connection to a host.
+#[derive(Clone, Copy, Debug, PartialEq, Eq, Error)]
+pub enum ConnectFault {
+    /// It can't be reached, broke off, or was silent for 30 seconds in its handshake.
+    #[error("the host isn't reached")]
+    Socket,
+    /// It sent a fault in its handshake, or is of another size.
+    #[error("{0}")]
+    Host(#[source] HostFault),
+}
 
 /// A connection to a host: its socket, its session, and the messages that came and weren't handed
 /// out yet, the last one first.
@@ -45,24 +56,24 @@ impl Host {
         format: Format,
         expected: Option<ScreenSize>,
         telling: &Telling,
-    ) -> Result<Host, Refusal> {
+    ) -> Result<Host, ConnectFault> {
         let stream = match TcpStream::connect(rt, address) {
             Ok(stream) => stream,
             Err(error) => {
                 telling.tell_failure(rt, "connect to host", address, &error);
-                return Err(Refusal::Net);
+                return Err(ConnectFault::Socket);
             }
         };
         let mut host = match Host::over(rt.alloc(), stream, format, expected) {
             Ok(host) => host,
             Err(error) => {
                 telling.tell_failure(rt, "connect to host", address, &error);
-                return Err(Refusal::Net);
+                return Err(ConnectFault::Socket);
             }
         };
         if let Err(error) = host.greet(rt) {
             telling.tell_failure(rt, "handshake of host", address, &error);
-            return Err(Refusal::Net);
+            return Err(ConnectFault::Socket);
         }
         host.is_welcome(rt, address, telling)?;
         Ok(host)
@@ -108,7 +119,12 @@ impl Host {
     }
 
     // Whether the handshake ended well: tells how.
-    fn is_welcome<R: Wait>(&self, rt: &R, address: &str, telling: &Telling) -> Result<(), Refusal> {
+    fn is_welcome<R: Wait>(
+        &self,
+        rt: &R,
+        address: &str,
+        telling: &Telling,
+    ) -> Result<(), ConnectFault> {
         if let Some((size, name)) = self.screen() {
             telling.tell(
                 rt,
@@ -126,8 +142,8 @@ impl Host {
         }
         telling.tell(rt, Event::HostEnded(end));
         match end {
-            HostEnd::Fault(fault) => Err(Refusal::Host(fault)),
-            _ => Err(Refusal::Net),
+            HostEnd::Fault(fault) => Err(ConnectFault::Host(fault)),
+            _ => Err(ConnectFault::Socket),
         }
     }
 

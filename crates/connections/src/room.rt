@@ -9,7 +9,7 @@ use pixel_format::RecordedScreen;
 use playing::Program;
 use reception::{Arrival, Backlog, Reason, Reception, Term};
 use rfb_wire::HostMessage;
-use serve_plan::{Beginning, Plan};
+use serve_plan::Plan;
 use shared_book::Mark;
 use sockets::{Bell, Connection};
 use std::alloc::Global;
@@ -18,6 +18,14 @@ use std::sync::atomic::{AtomicBool, AtomicU64, Ordering};
 use std::sync::{Condvar, Mutex, Wait};
 use std::time::{Clock, Duration, Instant};
 use telling::{Answering, Event, Silence, Telling};
+
+/// The position at which viewers begin in a recording that is open, and how it is played.
+#[derive(Clone, Copy, Debug, PartialEq, Eq)]
+pub struct Beginning {
+    pub start: Start,
+    /// `None` if it is shown as it grows.
+    pub program: Option<Program>,
+}
 
 /// Who watches, under a lock. Whoever waits here waits for the recorder to close or to be done, or
 /// for a viewer to have left, and is woken at each of them.

@@ -1,11 +1,12 @@
 //! The position at which viewers begin in a recording.
 
 use broadcast::Start;
+use connections::Beginning;
 use disk::Disk;
 use flusher_core::Book;
 use gated_journal::ReadFault;
 use playing::Program;
-use serve_plan::{Beginning, Origin, Plan};
+use serve_plan::{Origin, Plan};
 
 // The time of the last of the first so many messages, or 0.
 fn time_of_last<D: Disk>(book: &mut Book<D>, count: u64) -> Result<u32, ReadFault> {

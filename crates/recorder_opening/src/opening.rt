@@ -4,14 +4,14 @@ use crate::beginning::beginning_of;
 use crate::reading::Reading;
 use crate::recording::{Found, Identity};
 use broadcast::Desk;
-use connections::{Host, Stopwatch};
+use connections::{Beginning, ConnectFault, Host, Stopwatch};
 use disk::Disk;
 use file_disk::{FileDisk, LastError, Written};
 use flusher_core::Book;
 use gated_journal::Header;
 use pixel_format::Format;
-use refusals::Refusal;
-use serve_plan::{Beginning, Plan, Stopped};
+use refusals::{Refusal, Stopped};
+use serve_plan::Plan;
 use std::alloc::Global;
 use std::fs::File;
 use std::io;
@@ -128,8 +128,11 @@ impl<
             Found::Recording(unread) => (unread.header.format(), Some(unread.header.size())),
             _ => (self.plan.format, None),
         };
-        let host = Host::connect(self.rt, address, format, expected, self.telling)?;
-        Ok(Some(Box::new(self.rt.alloc(), host)?))
+        match Host::connect(self.rt, address, format, expected, self.telling) {
+            Ok(host) => Ok(Some(Box::new(self.rt.alloc(), host)?)),
+            Err(ConnectFault::Socket) => Err(Refusal::Net.into()),
+            Err(ConnectFault::Host(fault)) => Err(Refusal::Host(fault).into()),
+        }
     }
 
     // The recording that was found, read, or a new one for a host.

@@ -5,6 +5,7 @@
 mod accepting;
 mod comer;
 mod committing;
+mod ends;
 mod entrance;
 mod no_turnstile;
 mod refusing;

@@ -2,14 +2,14 @@
 
 use crate::comer::Comer;
 use crate::committing::Committing;
+use crate::ends::{Ends, first_refusal};
 use crate::no_turnstile::NoTurnstile;
 use crate::refusing::refuse;
 use connections::{Host, Messages, Room, Stopwatch};
 use disk::Disk;
 use flusher_core::HostRefusal;
 use reception::Stop;
-use refusals::Refusal;
-use serve_plan::{Ends, Stopped, first_refusal};
+use refusals::{Refusal, Stopped};
 use shared_book::{FlusherEnd, Mark, Shared, run_flusher, run_host};
 use sockets::{Woken, wait_for_stop};
 use std::io::Write;

@@ -10,6 +10,7 @@ mod name;
 mod peers;
 mod recordings;
 mod refusal;
+mod stopped;
 mod system;
 
 pub use area::Area;
@@ -17,3 +18,4 @@ pub use digest_fault::DigestFault;
 pub use explaining::{explain, explanation};
 pub use name::{Detail, Name, write_refusal};
 pub use refusal::Refusal;
+pub use stopped::Stopped;

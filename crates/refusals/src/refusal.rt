@@ -5,7 +5,6 @@ ghost use Rattle.refusals.specs.Areas.{IsNumberOf};
 use crate::area::Area;
 use crate::digest_fault::DigestFault;
 use crate::name::{Detail, Name};
-use broadcast::StepRefusal;
 use fbs_export::{ExportFault, FbsFault};
 use flusher_core::HostRefusal;
 use gated_journal::{CreateFault, OpenFault, ReadFault};
@@ -147,7 +146,7 @@ impl Refusal {
             Refusal::Salvage(fault) => plain(Area::Salvage, fault.number()),
             Refusal::Fbs(fault) => name_of_fbs(fault),
             Refusal::Host(fault) => plain(Area::Host, u64::from(fault.number())),
-            Refusal::Book(refusal) => plain(Area::Book, StepRefusal::Host(refusal).number()),
+            Refusal::Book(refusal) => plain(Area::Book, refusal.number()),
             Refusal::Net => plain(Area::Net, 1),
             Refusal::Thread => plain(Area::Thread, 1),
         }

@@ -1,8 +1,7 @@
 //! What is to be served, and for how long.
 
-use broadcast::Start;
 use pixel_format::Format;
-use playing::{Pace, Program};
+use playing::Pace;
 use reception::{Stop, Term};
 use telling::Told;
 
@@ -34,14 +33,6 @@ pub struct Playing {
     pub longest_pause: Option<u32>,
     /// Whether it begins again at its end.
     pub repeats: bool,
-}
-
-/// The position at which viewers begin in a recording that is open, and how it is played.
-#[derive(Clone, Copy, Debug, PartialEq, Eq)]
-pub struct Beginning {
-    pub start: Start,
-    /// `None` if it is shown as it grows.
-    pub program: Option<Program>,
 }
 
 /// What is to be served.

@@ -1,6 +1,6 @@
 //! How a recorder ends that isn't done.
 
-use refusals::Refusal;
+use crate::refusal::Refusal;
 use std::alloc::{AllocError, AllocFailed};
 use std::io;
 use thiserror::Error;
