@@ -129,8 +129,8 @@ function turn() {
 }
 
 function change(step) {
-  const place = speed.selectedIndex + step;
-  if (place >= 0 && place < speed.options.length) speed.selectedIndex = place;
+  const index = speed.selectedIndex + step;
+  if (index >= 0 && index < speed.options.length) speed.selectedIndex = index;
   if (playedFrom) playedFrom = { began: performance.now(), moment };
 }
 

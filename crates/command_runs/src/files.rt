@@ -22,14 +22,14 @@ pub fn change<R: AllocGlobal + Files<File = File>>(
     rt: &R,
     from: &str,
     name: &str,
-    place: &str,
+    offset: &str,
     byte: &str,
 ) -> io::Result<()> {
     let mut bytes = fs::read(rt, from)?;
-    let (Ok(place), Ok(byte)) = (place.parse::<usize>(), byte.parse::<u8>()) else {
+    let (Ok(offset), Ok(byte)) = (offset.parse::<usize>(), byte.parse::<u8>()) else {
         return Err(io::ErrorKind::InvalidData.into());
     };
-    match bytes.get_mut(place) {
+    match bytes.get_mut(offset) {
         Some(changed) => *changed = byte,
         None => return Err(io::ErrorKind::InvalidData.into()),
     }

@@ -70,7 +70,7 @@ where
     let words: Vec<&str> = head.split_whitespace().collect(alloc)?;
     match words.as_slice() {
         ["file", name] => fs::write(rt, *name, bytes_of(alloc, lines)?.as_slice())?,
-        ["change", from, name, place, byte] => change(rt, from, name, place, byte)?,
+        ["change", from, name, offset, byte] => change(rt, from, name, offset, byte)?,
         ["link", from, name] => fs::hard_link(rt, *from, *name)?,
         ["remove", names @ ..] => remove(rt, names),
         ["here", name] => return other_bytes(rt, name, lines),

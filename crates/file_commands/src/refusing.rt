@@ -1,6 +1,7 @@
 //! Why a command is refused, what the system said of it, and how that is told.
 
 use crate::file_fault::FileFault;
+use crate::surveying::SurveyFault;
 use file_disk::SystemError;
 use key_index::{IndexFault, Numbered};
 use pictures::FilmFault;
@@ -118,6 +119,15 @@ impl<'a> From<FileFault<'a>> for Ended<'a> {
 impl From<io::Error> for Ended<'_> {
     fn from(error: io::Error) -> Self {
         Ended::Failed(error)
+    }
+}
+
+impl From<SurveyFault> for Ended<'_> {
+    fn from(fault: SurveyFault) -> Self {
+        match fault {
+            SurveyFault::Read(fault) => Ended::from(Refusal::Screen(fault)),
+            SurveyFault::Write(error) => Ended::Failed(error),
+        }
     }
 }
 
