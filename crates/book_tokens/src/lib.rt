@@ -5,7 +5,9 @@
 mod history;
 mod mark;
 mod numbers;
+mod pens;
 
 pub use history::{Front, Growth, History};
-pub use mark::{Mark, Token};
+pub use mark::{Mark, Named, Token};
 pub use numbers::{NumberProof, NumberSource};
+pub use pens::{Accepting, Committing, Count, Counting, Pen, Right};

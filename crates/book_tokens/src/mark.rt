@@ -5,9 +5,11 @@ ghost use Rattle.book_tokens.specs.History.{total};
 
 use crate::history::{History, Opened};
 use crate::numbers::{Counter, NumberSource};
+use crate::pens::{Accepting, Committing, Counting};
 use std::alloc::Global;
 use std::marker::{Brand, Model};
 use std::sync::Wait;
+use tally::{Halves, Tally};
 use terms::NoMemory;
 
 /// Marks a desk that threads share, and all that comes from it: a receipt of one mark is known to
@@ -41,7 +43,16 @@ impl Mark for Brand {
 
     ghost first = { 0 };
 
-    ghost names = { record { book = no_book; table = no_table } };
+    ghost names = { record { book = no_book; table = no_table; accepted = no_table; committed = no_table } };
+}
+
+/// What a token names, under a mark: what is for the lock, and the two pens.
+#[derive(Drop)]
+pub struct Named<M: Mark> {
+    pub history: History<M>,
+    pub numbers: NumberSource<M>,
+    pub accepted: Counting<M, Accepting>,
+    pub committed: Counting<M, Committing>,
 }
 
 /// What names one desk that threads are to share. Contracts see the names.
@@ -49,6 +60,11 @@ impl Mark for Brand {
 pub struct Token {
     opened: Opened,
     counter: Counter,
+    accepted: Halves,
+    committed: Halves,
+    ghost accepted_halves: { accepted.counterpart ≡ accepted.tally },
+    ghost committed_halves: { committed.counterpart ≡ committed.tally },
+    ghost none: { (accepted.tally.number ≡ 0) × (committed.tally.number ≡ 0) },
 }
 
 impl Model for Token {
@@ -56,26 +72,47 @@ impl Model for Token {
 
     ghost Value = { Names };
 
-    ghost view = { λ t. record { book = t.opened.seen.book; table = t.counter.table.shared.table_id } };
+    ghost view = { λ t. record {
+      book = t.opened.seen.book;
+      table = t.counter.table.shared.table_id;
+      accepted = t.accepted.tally.table;
+      committed = t.committed.tally.table;
+    } };
 }
 
 impl Token {
-    /// A new one; `NoMemory` if its one word finds no room.
+    /// A new one; `NoMemory` if its three words find no room.
     pub fn new(alloc: Global) -> Result<Token, NoMemory> {
         let counter = Counter::new(alloc)?;
+        let accepted = Tally::halves(alloc)?;
+        let committed = Tally::halves(alloc)?;
         Ok(Token {
             opened: Opened::new(),
             counter,
+            accepted,
+            committed,
         })
     }
 
-    /// The history and the numbers that it names, under a mark that fits it.
-    pub fn named<M: Mark, R: Wait>(self, rt: &R) -> (History<M>, NumberSource<M>)
+    /// What it names, under a mark that fits it. The counts are 0.
+    pub fn named<M: Mark, R: Wait>(self, rt: &R) -> Named<M>
         requires { self ≡ M.names }
-        ensures history { result.0 ≡ total [] }
-        ensures numbers { result.1 ≡ 0 }
+        ensures history { result.history ≡ total [] }
+        ensures numbers { result.numbers ≡ 0 }
+        ensures accepted { (result.accepted.count ≡ 0) × (result.accepted.pen ≡ 0) }
+        ensures committed { (result.committed.count ≡ 0) × (result.committed.pen ≡ 0) }
     {
-        let Token { opened, counter } = self;
-        (opened.named::<M, R>(rt), counter.named::<M>())
+        let Token {
+            opened,
+            counter,
+            accepted,
+            committed,
+        } = self;
+        Named {
+            history: opened.named::<M, R>(rt),
+            numbers: counter.named::<M>(),
+            accepted: Counting::of(accepted),
+            committed: Counting::of(committed),
+        }
     }
 }

@@ -1,1 +1,3 @@
 mod Queries
+mod Once
+mod Stays

@@ -1,7 +1,7 @@
 //! Answers: HTTP responses with a body that is known before it is written.
 
-use crate::request::Fault;
 use arrayvec::ArrayString;
+use request_head::Fault;
 use std::io::Write;
 use std::{fmt, io};
 

@@ -10,5 +10,6 @@ mod request;
 mod serving;
 mod site;
 
-pub use request::{Asked, Fault, Judged, asked_by, judge};
+pub use request::{Asked, Judged, asked_by, judge};
+pub use request_head::Fault;
 pub use serving::{Browsing, browse, listen_at};

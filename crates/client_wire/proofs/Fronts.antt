@@ -1,17 +1,21 @@
 -- What the grammar says of bytes whose first field is known.
-use Rattle.std.proofs.Common.{◌≡◌, ℕ, ◌*◌, List, nat_eq, false, drop, refl, slice_index}
-use Rattle.std.specs.Prelude.{Result, Ok, Err}
+use Rattle.std.proofs.Common.{◌≡◌, ℕ, ◌*◌, List, drop, refl, slice_index}
+use Rattle.std.specs.Prelude.{Option, Result, Ok, Err}
 use Rattle.terms.proofs.Readings.{bind_got}
 use Rattle.terms.specs.declared.format_fault.FormatFault.{FormatFault}
 use Rattle.pixel_format.specs.Format.{Format}
 use Rattle.terms.specs.Reading.{Got, More, Bad, field}
 use Rattle.pixel_format.specs.Written.{format_at, is_flag}
+use Rattle.terms.specs.Area.{area_at}
 use Rattle.terms.specs.Number.{u16_at, u32_at}
 use Rattle.terms.specs.declared.wire_fault.WireFault.{WireFault}
 use Rattle.terms.specs.declared.wire_fault.WireFault.TheVariants as faults
+use Rattle.client_wire.specs.declared.message_type.ClientMessageType.{ClientMessageType}
+use Rattle.client_wire.specs.declared.message_type.ClientMessageType.TheVariants as types
 use Rattle.client_wire.specs.declared.message.ClientMessage.TheVariants as messages
+use Rattle.client_wire.specs.MessageType.{type_of}
 use Rattle.terms.specs.Fault.{UnlessMemory}
-use Rattle.client_wire.specs.Grammar.{judged, set_pixel_format_at, numbers_of, encodings_at, set_encodings_at, request_at, input_at, cut_text_at, body_at, message_at}
+use Rattle.client_wire.specs.Grammar.{judged, set_pixel_format_at, numbers_of, encodings_at, set_encodings_at, request_at, input_at, cut_text_at, typed_at, message_at}
 
 pub pixel_format_short : (bytes : List ℕ) → field {E = WireFault} 19 bytes ≡ More → set_pixel_format_at bytes ≡ More
 unfolding set_pixel_format_at
@@ -43,23 +47,23 @@ unfolding request_at
 request_short bytes e = rw e refl
 
 pub request_read : (bytes f rest : List ℕ) → field {E = WireFault} 9 bytes ≡ Got f rest
-    → request_at bytes ≡ Got (messages.Request (is_flag (slice_index f 0)) (u16_at f 1) (u16_at f 3) (u16_at f 5) (u16_at f 7)) rest
+    → request_at bytes ≡ Got (messages.Request (is_flag (slice_index f 0)) (area_at f 1)) rest
 unfolding request_at
 request_read bytes f rest e = rw e refl
 
-pub input_short : (kind left : ℕ) (bytes : List ℕ) → field {E = WireFault} left bytes ≡ More → input_at kind left bytes ≡ More
+pub input_short : (type : ClientMessageType) (left : ℕ) (bytes : List ℕ) → field {E = WireFault} left bytes ≡ More → input_at type left bytes ≡ More
 unfolding input_at
-input_short kind left bytes e = rw e refl
+input_short type left bytes e = rw e refl
 
-pub input_read : (kind left : ℕ) (bytes f rest : List ℕ) → field {E = WireFault} left bytes ≡ Got f rest → input_at kind left bytes ≡ Got (messages.Input kind) rest
+pub input_read : (type : ClientMessageType) (left : ℕ) (bytes f rest : List ℕ) → field {E = WireFault} left bytes ≡ Got f rest → input_at type left bytes ≡ Got (messages.Input type) rest
 unfolding input_at
-input_read kind left bytes f rest e = rw e refl
+input_read type left bytes f rest e = rw e refl
 
 pub text_short : (bytes : List ℕ) → field {E = WireFault} 7 bytes ≡ More → cut_text_at bytes ≡ More
 unfolding cut_text_at
 text_short bytes e = rw e refl
 
-pub text_read : (bytes f rest : List ℕ) (count : ℕ) → field {E = WireFault} 7 bytes ≡ Got f rest → u32_at f 3 ≡ count → cut_text_at bytes ≡ input_at 6 count rest
+pub text_read : (bytes f rest : List ℕ) (count : ℕ) → field {E = WireFault} 7 bytes ≡ Got f rest → u32_at f 3 ≡ count → cut_text_at bytes ≡ input_at types.ClientCutText count rest
 unfolding cut_text_at
 text_read bytes f rest count e is = rw (e, is) refl
 
@@ -67,39 +71,10 @@ pub type_short : (bytes : List ℕ) → field {E = WireFault} 1 bytes ≡ More �
 unfolding message_at
 type_short bytes e = rw e refl
 
-pub type_read : (bytes f rest : List ℕ) (kind : ℕ) → field {E = WireFault} 1 bytes ≡ Got f rest → slice_index f 0 ≡ kind → message_at bytes ≡ body_at kind rest
+pub typed_read : (bytes f rest : List ℕ) (type : Option ClientMessageType) → field {E = WireFault} 1 bytes ≡ Got f rest → type_of (slice_index f 0) ≡ type
+    → message_at bytes ≡ typed_at type rest
 unfolding message_at
-type_read bytes f rest kind e is = rw (e, is) refl
-
--- the body of a message by its type
-pub body_of_pixel_format : (bytes : List ℕ) → body_at 0 bytes ≡ set_pixel_format_at bytes
-unfolding body_at
-body_of_pixel_format bytes = refl
-
-pub body_of_encodings : (bytes : List ℕ) → body_at 2 bytes ≡ set_encodings_at bytes
-unfolding body_at
-body_of_encodings bytes = refl
-
-pub body_of_request : (bytes : List ℕ) → body_at 3 bytes ≡ request_at bytes
-unfolding body_at
-body_of_request bytes = refl
-
-pub body_of_key : (bytes : List ℕ) → body_at 4 bytes ≡ input_at 4 7 bytes
-unfolding body_at
-body_of_key bytes = refl
-
-pub body_of_pointer : (bytes : List ℕ) → body_at 5 bytes ≡ input_at 5 5 bytes
-unfolding body_at
-body_of_pointer bytes = refl
-
-pub body_of_text : (bytes : List ℕ) → body_at 6 bytes ≡ cut_text_at bytes
-unfolding body_at
-body_of_text bytes = refl
-
-pub body_unknown : (kind : ℕ) (bytes : List ℕ) → nat_eq kind 0 ≡ false → nat_eq kind 2 ≡ false → nat_eq kind 3 ≡ false → nat_eq kind 4 ≡ false → nat_eq kind 5 ≡ false
-    → nat_eq kind 6 ≡ false → body_at kind bytes ≡ Bad faults.UnknownType
-unfolding body_at
-body_unknown kind bytes a b c d e f = rw (a, b, c, d, e, f) refl
+typed_read bytes f rest type e is = rw (e, is) refl
 
 -- what holds of a fault holds unless memory ran out
 pub unless_memory : (f : WireFault) (P : Type 0) → P → UnlessMemory f P
@@ -125,25 +100,25 @@ unless_memory_map (faults.BadFormat e) P Q m p = m p
 unless_memory_map faults.NoMemory P Q m p = tt
 
 -- no input message is a format, a list of encodings or a request
-judged_never : (r : Result Format FormatFault) (after : List ℕ) (kind : ℕ) (rest : List ℕ) → judged r after ≡ Got (messages.Input kind) rest → ⊥
-judged_never (Ok f) after kind rest e = absurd (cc)
-judged_never (Err g) after kind rest e = absurd (cc)
+judged_never : (r : Result Format FormatFault) (after : List ℕ) (type : ClientMessageType) (rest : List ℕ) → judged r after ≡ Got (messages.Input type) rest → ⊥
+judged_never (Ok f) after type rest e = absurd (cc)
+judged_never (Err g) after type rest e = absurd (cc)
 
-pub pixel_format_never : (bytes : List ℕ) (kind : ℕ) (rest : List ℕ) → set_pixel_format_at bytes ≡ Got (messages.Input kind) rest → ⊥
+pub pixel_format_never : (bytes : List ℕ) (type : ClientMessageType) (rest : List ℕ) → set_pixel_format_at bytes ≡ Got (messages.Input type) rest → ⊥
 unfolding set_pixel_format_at
-pixel_format_never bytes kind rest e =
-    let b = bind_got (field {E = WireFault} 19 bytes) (λ f after. judged (format_at (drop 3 f)) after) (messages.Input kind) rest e in
-    judged_never (format_at (drop 3 b.value)) b.rest kind rest b.then
+pixel_format_never bytes type rest e =
+    let b = bind_got (field {E = WireFault} 19 bytes) (λ f after. judged (format_at (drop 3 f)) after) (messages.Input type) rest e in
+    judged_never (format_at (drop 3 b.value)) b.rest type rest b.then
 
-pub encodings_never : (count : ℕ) (bytes : List ℕ) (kind : ℕ) (rest : List ℕ) → encodings_at count bytes ≡ Got (messages.Input kind) rest → ⊥
+pub encodings_never : (count : ℕ) (bytes : List ℕ) (type : ClientMessageType) (rest : List ℕ) → encodings_at count bytes ≡ Got (messages.Input type) rest → ⊥
 unfolding encodings_at
-encodings_never count bytes kind rest e =
-    let b = bind_got (field {E = WireFault} (4 * count) bytes) (λ f after. Got (messages.SetEncodings (numbers_of f)) after) (messages.Input kind) rest e in
+encodings_never count bytes type rest e =
+    let b = bind_got (field {E = WireFault} (4 * count) bytes) (λ f after. Got (messages.SetEncodings (numbers_of f)) after) (messages.Input type) rest e in
     let then = b.then in absurd (cc)
 
-pub request_never : (bytes : List ℕ) (kind : ℕ) (rest : List ℕ) → request_at bytes ≡ Got (messages.Input kind) rest → ⊥
+pub request_never : (bytes : List ℕ) (type : ClientMessageType) (rest : List ℕ) → request_at bytes ≡ Got (messages.Input type) rest → ⊥
 unfolding request_at
-request_never bytes kind rest e =
+request_never bytes type rest e =
     let b = bind_got (field {E = WireFault} 9 bytes)
-    (λ f after. Got (messages.Request (is_flag (slice_index f 0)) (u16_at f 1) (u16_at f 3) (u16_at f 5) (u16_at f 7)) after) (messages.Input kind) rest e in
+    (λ f after. Got (messages.Request (is_flag (slice_index f 0)) (area_at f 1)) after) (messages.Input type) rest e in
     let then = b.then in absurd (cc)

@@ -1,3 +1,4 @@
+pub mod MessageTypes
 pub mod Fronts
 pub mod Local
 pub mod Streams

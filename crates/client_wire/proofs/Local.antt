@@ -1,16 +1,20 @@
 -- What bytes say they say whatever follows them: each part of the grammar is local.
-use Rattle.std.proofs.Common.{ℕ, ◌*◌, List, drop, nat_eq, slice_index, refl, inl, inr}
-use Rattle.std.specs.Prelude.{Result, Ok, Err, ◌++◌}
+use Rattle.std.proofs.Common.{ℕ, ◌*◌, List, drop, slice_index, refl}
+use Rattle.std.specs.Prelude.{Option, Some, None, Result, Ok, Err, ◌++◌}
 use Rattle.terms.specs.Reading.{Reading, Got, ◌>>=◌, field, Extends, IsLocal}
 use Rattle.pixel_format.specs.Format.{Format}
 use Rattle.pixel_format.specs.Written.{format_at, is_flag}
 use Rattle.terms.specs.declared.format_fault.FormatFault.{FormatFault}
-use Rattle.terms.proofs.Readings.{field_local, bind_local, true_or_false}
+use Rattle.terms.proofs.Readings.{field_local, bind_local}
+use Rattle.terms.specs.Area.{area_at}
 use Rattle.terms.specs.Number.{u16_at, u32_at}
+use Rattle.client_wire.specs.declared.message_type.ClientMessageType.{ClientMessageType}
+use Rattle.client_wire.specs.declared.message_type.ClientMessageType.TheVariants as types
 use Rattle.client_wire.specs.declared.message.ClientMessage.{ClientMessage}
 use Rattle.client_wire.specs.declared.message.ClientMessage.TheVariants as messages
 use Rattle.terms.specs.declared.wire_fault.WireFault.{WireFault}
-use Rattle.client_wire.specs.Grammar.{judged, set_pixel_format_at, numbers_of, encodings_at, set_encodings_at, request_at, input_at, cut_text_at, body_at, message_at}
+use Rattle.client_wire.specs.MessageType.{type_of}
+use Rattle.client_wire.specs.Grammar.{judged, set_pixel_format_at, numbers_of, encodings_at, set_encodings_at, request_at, input_at, cut_text_at, body_at, typed_at, message_at}
 
 judged_local : (r : Result Format FormatFault) (rest more : List ℕ) → Extends (judged r rest) more (judged r (rest ++ more))
 judged_local (Ok f) rest more = refl
@@ -39,39 +43,29 @@ set_encodings_local bytes more =
 request_local : IsLocal request_at
 unfolding request_at
 request_local bytes more =
-    field_then 9 (λ f rest. Got (messages.Request (is_flag (slice_index f 0)) (u16_at f 1) (u16_at f 3) (u16_at f 5) (u16_at f 7)) rest) bytes more (λ f rest. refl)
+    field_then 9 (λ f rest. Got (messages.Request (is_flag (slice_index f 0)) (area_at f 1)) rest) bytes more (λ f rest. refl)
 
-input_local : (kind left : ℕ) → IsLocal (input_at kind left)
+input_local : (type : ClientMessageType) (left : ℕ) → IsLocal (input_at type left)
 unfolding input_at
-input_local kind left bytes more = field_then left (λ f rest. Got (messages.Input kind) rest) bytes more (λ f rest. refl)
+input_local type left bytes more = field_then left (λ f rest. Got (messages.Input type) rest) bytes more (λ f rest. refl)
 
 text_local : IsLocal cut_text_at
 unfolding cut_text_at
-text_local bytes more = field_then 7 (λ f rest. input_at 6 (u32_at f 3) rest) bytes more (λ f rest. input_local 6 (u32_at f 3) rest more)
+text_local bytes more = field_then 7 (λ f rest. input_at types.ClientCutText (u32_at f 3) rest) bytes more (λ f rest. input_local types.ClientCutText (u32_at f 3) rest more)
 
-body_local : (kind : ℕ) → IsLocal (body_at kind)
-unfolding body_at
-body_local kind bytes more = elim (true_or_false (nat_eq kind 0)) [
-  | inl a ↦ rw a (pixel_format_local bytes more)
-  | inr a ↦ elim (true_or_false (nat_eq kind 2)) [
-    | inl b ↦ rw (a, b) (set_encodings_local bytes more)
-    | inr b ↦ elim (true_or_false (nat_eq kind 3)) [
-      | inl c ↦ rw (a, b, c) (request_local bytes more)
-      | inr c ↦ elim (true_or_false (nat_eq kind 4)) [
-        | inl d ↦ rw (a, b, c, d) (input_local 4 7 bytes more)
-        | inr d ↦ elim (true_or_false (nat_eq kind 5)) [
-          | inl e ↦ rw (a, b, c, d, e) (input_local 5 5 bytes more)
-          | inr e ↦ elim (true_or_false (nat_eq kind 6)) [
-            | inl f ↦ rw (a, b, c, d, e, f) (text_local bytes more)
-            | inr f ↦ rw (a, b, c, d, e, f) refl
-          ]
-        ]
-      ]
-    ]
-  ]
-]
+body_local : (type : ClientMessageType) → IsLocal (body_at type)
+body_local types.SetPixelFormat bytes more = pixel_format_local bytes more
+body_local types.SetEncodings bytes more = set_encodings_local bytes more
+body_local types.FramebufferUpdateRequest bytes more = request_local bytes more
+body_local types.KeyEvent bytes more = input_local types.KeyEvent 7 bytes more
+body_local types.PointerEvent bytes more = input_local types.PointerEvent 5 bytes more
+body_local types.ClientCutText bytes more = text_local bytes more
+
+typed_local : (type : Option ClientMessageType) → IsLocal (typed_at type)
+typed_local (Some type) bytes more = body_local type bytes more
+typed_local None bytes more = refl
 
 pub message_local : IsLocal message_at
 unfolding message_at
 message_local bytes more =
-    field_then 1 (λ kind rest. body_at (slice_index kind 0) rest) bytes more (λ kind rest. body_local (slice_index kind 0) rest more)
+    field_then 1 (λ number rest. typed_at (type_of (slice_index number 0)) rest) bytes more (λ number rest. typed_local (type_of (slice_index number 0)) rest more)

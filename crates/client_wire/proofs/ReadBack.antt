@@ -10,18 +10,21 @@ use Rattle.terms.proofs.Readings.{field-whole}
 use Rattle.pixel_format.proofs.Valid.{read_written}
 use Rattle.terms.specs.Number.{u32_at}
 use Rattle.terms.specs.declared.area.Area.{Area}
+use Rattle.terms.specs.Area.{area_bytes}
+use Rattle.terms.proofs.Areas.{area_back}
+use Rattle.client_wire.specs.declared.message_type.ClientMessageType.TheVariants as types
 use Rattle.client_wire.specs.declared.message.ClientMessage.TheVariants as messages
 use Rattle.terms.specs.declared.wire_fault.WireFault.{WireFault}
 use Rattle.terms.specs.Number.{signed, u32_bytes, unsigned, FitsFourBytes}
 use Rattle.client_wire.specs.Grammar.{judged, numbers_of, message_at}
-use Rattle.client_wire.specs.Written.{set_pixel_format_bytes, number_bytes, set_encodings_bytes, request_bytes, key_event_bytes, pointer_event_bytes, cut_text_bytes}
-use Rattle.client_wire.proofs.Fronts.{body_of_pixel_format, body_of_encodings, body_of_request, body_of_key, body_of_pointer, body_of_text, pixel_format_read, head_read, encodings_read, request_read, input_read, text_read}
-use Rattle.client_wire.proofs.Relation.{kind_again, whole_again}
+use Rattle.client_wire.specs.Written.{set_pixel_format_bytes, number_bytes, set_encodings_bytes, request_bytes}
+use Rattle.client_wire.proofs.Fronts.{pixel_format_read, head_read, encodings_read, request_read}
+use Rattle.client_wire.proofs.Relation.{type_read, whole_again}
 
 pub format_back : (f : Format) → IsValid f → message_at (set_pixel_format_bytes f) ≡ Got (messages.SetPixelFormat f) []
 format_back f valid =
     let body : List ℕ = 0 ∷ 0 ∷ 0 ∷ format_bytes f in
-    kind_again 0 (0 ∷ body) body refl ∙ body_of_pixel_format body ∙ pixel_format_read body body [] (whole_again 19 body refl)
+    type_read types.SetPixelFormat (0 ∷ body) body refl ∙ pixel_format_read body body [] (whole_again 19 body refl)
     ∙ ap (λ r. judged r []) (read_written f valid)
 
 -- the four bytes of a number
@@ -51,7 +54,7 @@ encodings_back ns all =
     let head : List ℕ = 0 ∷ n / 256 ∷ n % 256 ∷ [] in
     let list : List ℕ = flat_map number_bytes ns in
     let numbers = numbers_back ns all in
-    kind_again 2 (set_encodings_bytes ns) (head ++ list) refl ∙ body_of_encodings (head ++ list)
+    type_read types.SetEncodings (set_encodings_bytes ns) (head ++ list) refl
     ∙ head_read (head ++ list) head list n (field-whole {E = WireFault} 3 head list refl) (u16_back n)
     ∙ encodings_read n list list [] (whole_again (4 * n) list numbers.1)
     ∙ ap (λ z. Got (messages.SetEncodings z) []) numbers.0
@@ -60,26 +63,8 @@ flag_back : (b : Bool) → is_flag (flag b) ≡ b
 flag_back true = refl
 flag_back false = refl
 
-pub request_back : (incremental : Bool) (a : Area) → message_at (request_bytes incremental a) ≡ Got (messages.Request incremental a.x a.y a.w a.h) []
+pub request_back : (incremental : Bool) (a : Area) → message_at (request_bytes incremental a) ≡ Got (messages.Request incremental a) []
 request_back incremental a =
-    let body : List ℕ = flag incremental ∷ a.x / 256 ∷ a.x % 256 ∷ a.y / 256 ∷ a.y % 256 ∷ a.w / 256 ∷ a.w % 256 ∷ a.h / 256 ∷ a.h % 256 ∷ [] in
-    kind_again 3 (3 ∷ body) body refl ∙ body_of_request body ∙ request_read body body [] (whole_again 9 body refl)
-    ∙ rw (flag_back incremental, u16_back a.x, u16_back a.y, u16_back a.w, u16_back a.h) refl
-
-pub key_back : (down : Bool) (key : ℕ) → message_at (key_event_bytes down key) ≡ Got (messages.Input 4) []
-key_back down key =
-    let body : List ℕ = flag down ∷ 0 ∷ 0 ∷ u32_bytes key in
-    kind_again 4 (4 ∷ body) body refl ∙ body_of_key body ∙ input_read 4 7 body body [] (whole_again 7 body refl)
-
-pub pointer_back : (mask x y : ℕ) → message_at (pointer_event_bytes mask x y) ≡ Got (messages.Input 5) []
-pointer_back mask x y =
-    let body : List ℕ = mask ∷ x / 256 ∷ x % 256 ∷ y / 256 ∷ y % 256 ∷ [] in
-    kind_again 5 (5 ∷ body) body refl ∙ body_of_pointer body ∙ input_read 5 5 body body [] (whole_again 5 body refl)
-
-pub text_back : (text : List ℕ) → message_at (cut_text_bytes text) ≡ Got (messages.Input 6) []
-text_back text =
-    let n : ℕ = length text in
-    let head : List ℕ = 0 ∷ 0 ∷ 0 ∷ u32_bytes n in
-    kind_again 6 (cut_text_bytes text) (head ++ text) refl ∙ body_of_text (head ++ text)
-    ∙ text_read (head ++ text) head text n (field-whole {E = WireFault} 7 head text refl) (u32_back n)
-    ∙ input_read 6 n text text [] (whole_again n text refl)
+    let body : List ℕ = flag incremental ∷ area_bytes a in
+    type_read types.FramebufferUpdateRequest (3 ∷ body) body refl ∙ request_read body body [] (whole_again 9 body refl)
+    ∙ rw (flag_back incremental) (ap (λ z. Got (messages.Request incremental z) []) (area_back a []))

@@ -1,20 +1,26 @@
 -- What the grammar reads is a message, and each message is what it reads.
-use Rattle.std.proofs.Common.{◌≡◌, ℕ, ℤ, zero, suc, ◌+◌, ◌*◌, inl, inr, List, [], ◌∷◌, ◌++◌, length, take, drop, nat_eq, slice_index, refl, sym, ap, ◌∙◌, subst, arith, eqb-true, length-append}
-use Rattle.std.specs.Prelude.{Bool, Result, Ok, Err}
+use Rattle.std.proofs.Common.{◌≡◌, ℕ, ℤ, zero, suc, ◌+◌, ◌*◌, inl, inr, List, [], ◌∷◌, ◌++◌, length, take, drop, slice_index, refl, sym, ap, ◌∙◌, subst, arith, length-append}
+use Rattle.std.specs.Prelude.{Bool, Option, Some, None, Result, Ok, Err}
 use Rattle.std.proofs.lemmas.List.{length-take-le, length-drop, take-append-drop, append-nil, drop_at}
 use Rattle.terms.specs.Reading.{Got, field}
-use Rattle.terms.proofs.Readings.{bind_got, field_got, field-whole, true_or_false, field_front, one_number, three_numbers}
+use Rattle.terms.proofs.Readings.{bind_got, field_got, field-whole, field_front, one_number, three_numbers}
 use Rattle.pixel_format.proofs.Valid.{accepted_is, is_accepted, flag_some}
 use Rattle.pixel_format.specs.Format.{Format}
 use Rattle.pixel_format.specs.Written.{format_at, is_flag}
 use Rattle.terms.specs.declared.format_fault.FormatFault.{FormatFault}
+use Rattle.terms.specs.declared.area.Area.{Area}
+use Rattle.terms.specs.Area.{area_at}
 use Rattle.terms.specs.Number.{u16_at, u32_at}
+use Rattle.client_wire.specs.declared.message_type.ClientMessageType.{ClientMessageType}
+use Rattle.client_wire.specs.declared.message_type.ClientMessageType.TheVariants as types
 use Rattle.client_wire.specs.declared.message.ClientMessage.{ClientMessage}
 use Rattle.client_wire.specs.declared.message.ClientMessage.TheVariants as messages
 use Rattle.terms.specs.declared.wire_fault.WireFault.{WireFault}
-use Rattle.client_wire.specs.Grammar.{judged, set_pixel_format_at, numbers_of, encodings_at, set_encodings_at, request_at, input_at, cut_text_at, body_at, message_at}
+use Rattle.client_wire.specs.MessageType.{number_of, type_of}
+use Rattle.client_wire.specs.Grammar.{judged, set_pixel_format_at, numbers_of, encodings_at, set_encodings_at, request_at, input_at, cut_text_at, body_at, typed_at, message_at}
 use Rattle.client_wire.specs.Message.{IsSetPixelFormat, AreNumbers, IsSetEncodings, IsRequest, IsMessage}
-use Rattle.client_wire.proofs.Fronts.{type_read, body_of_pixel_format, body_of_encodings, body_of_request, body_of_key, body_of_pointer, body_of_text, pixel_format_read, head_read, encodings_read, request_read, input_read, text_read}
+use Rattle.client_wire.proofs.MessageTypes.{type_again, type_number_is}
+use Rattle.client_wire.proofs.Fronts.{typed_read, pixel_format_read, head_read, encodings_read, request_read, input_read, text_read}
 
 -- the only field of a message, to its end
 last_field : (n : ℕ) (bytes f rest : List ℕ) → field {E = WireFault} n bytes ≡ Got f rest → rest ≡ [] → (bytes ≡ f) × (length f ≡ n)
@@ -87,96 +93,84 @@ encodings_are body m e =
     subst (IsMessage (2 ∷ body)) is encodings
 
 -- the flag and the area of a request
-request_of : (f : List ℕ) → length f ≡ 9 → IsRequest (3 ∷ f) (is_flag (slice_index f 0)) (u16_at f 1) (u16_at f 3) (u16_at f 5) (u16_at f 7)
+request_of : (f : List ℕ) → length f ≡ 9 → IsRequest (3 ∷ f) (is_flag (slice_index f 0)) (area_at f 1)
 request_of [] e = absurd (omega arith)
-request_of (flag ∷ area) e = record {
+request_of (flag ∷ numbers) e = record {
   flag = flag;
-  area = area;
+  numbers = numbers;
   bytes_are = refl;
-  area_length = omega arith;
+  numbers_length = omega arith;
   incremental_is = refl;
-  x_is = refl;
-  y_is = refl;
-  w_is = refl;
-  h_is = refl;
+  area_is = refl;
 }
 
 request_is : (body : List ℕ) (m : ClientMessage) → request_at body ≡ Got m [] → IsMessage (3 ∷ body) m
 unfolding request_at
 request_is body m e =
-    let b = bind_got (field 9 body) (λ f rest. Got (messages.Request (is_flag (slice_index f 0)) (u16_at f 1) (u16_at f 3) (u16_at f 5) (u16_at f 7)) rest) m [] e in
+    let b = bind_got (field 9 body) (λ f rest. Got (messages.Request (is_flag (slice_index f 0)) (area_at f 1)) rest) m [] e in
     let last = b.then in
-    let is : messages.Request (is_flag (slice_index b.value 0)) (u16_at b.value 1) (u16_at b.value 3) (u16_at b.value 5) (u16_at b.value 7) ≡ m = cc in
+    let is : messages.Request (is_flag (slice_index b.value 0)) (area_at b.value 1) ≡ m = cc in
     let none : b.rest ≡ [] = cc in
     let whole = last_field 9 body b.value b.rest b.first none in
     let f : List ℕ = b.value in
-    let request = subst (λ (z : List ℕ). IsRequest (3 ∷ z) (is_flag (slice_index f 0)) (u16_at f 1) (u16_at f 3) (u16_at f 5) (u16_at f 7)) (sym whole.0) (request_of f whole.1) in
+    let request = subst (λ (z : List ℕ). IsRequest (3 ∷ z) (is_flag (slice_index f 0)) (area_at f 1)) (sym whole.0) (request_of f whole.1) in
     subst (IsMessage (3 ∷ body)) is request
 
 -- an input message that is read to its end
-input_is : (kind left : ℕ) (body : List ℕ) (m : ClientMessage) → input_at kind left body ≡ Got m [] → (messages.Input kind ≡ m) × (length body ≡ left)
+input_is : (type : ClientMessageType) (left : ℕ) (body : List ℕ) (m : ClientMessage) → input_at type left body ≡ Got m [] → (messages.Input type ≡ m) × (length body ≡ left)
 unfolding input_at
-input_is kind left body m e =
-    let b = bind_got (field left body) (λ f rest. Got (messages.Input kind) rest) m [] e in
+input_is type left body m e =
+    let b = bind_got (field left body) (λ f rest. Got (messages.Input type) rest) m [] e in
     let last = b.then in
-    let is : messages.Input kind ≡ m = cc in
+    let is : messages.Input type ≡ m = cc in
     let none : b.rest ≡ [] = cc in
     let whole = last_field left body b.value b.rest b.first none in
     (is, ap length whole.0 ∙ whole.1)
 
-key_is : (body : List ℕ) (m : ClientMessage) → input_at 4 7 body ≡ Got m [] → IsMessage (4 ∷ body) m
+key_is : (body : List ℕ) (m : ClientMessage) → input_at types.KeyEvent 7 body ≡ Got m [] → IsMessage (4 ∷ body) m
 key_is body m e =
-    let i = input_is 4 7 body m e in
+    let i = input_is types.KeyEvent 7 body m e in
     subst (IsMessage (4 ∷ body)) i.0 (inl (refl, (body, refl, i.1)))
 
-pointer_is : (body : List ℕ) (m : ClientMessage) → input_at 5 5 body ≡ Got m [] → IsMessage (5 ∷ body) m
+pointer_is : (body : List ℕ) (m : ClientMessage) → input_at types.PointerEvent 5 body ≡ Got m [] → IsMessage (5 ∷ body) m
 pointer_is body m e =
-    let i = input_is 5 5 body m e in
+    let i = input_is types.PointerEvent 5 body m e in
     subst (IsMessage (5 ∷ body)) i.0 (inr (inl (refl, (body, refl, i.1))))
 
 text_is : (body : List ℕ) (m : ClientMessage) → cut_text_at body ≡ Got m [] → IsMessage (6 ∷ body) m
 unfolding cut_text_at
 text_is body m e =
-    let h = bind_got (field 7 body) (λ f rest. input_at 6 (u32_at f 3) rest) m [] e in
+    let h = bind_got (field 7 body) (λ f rest. input_at types.ClientCutText (u32_at f 3) rest) m [] e in
     let head = field_front 7 body h.value h.rest (field_got 7 body h.value h.rest h.first) in
-    let i = input_is 6 (u32_at h.value 3) h.rest m h.then in
+    let i = input_is types.ClientCutText (u32_at h.value 3) h.rest m h.then in
     subst (IsMessage (6 ∷ body)) i.0 (inr (inr (refl, (h.value, h.rest, ap (λ z. 6 ∷ z) head.0, head.1, i.1))))
 
 -- the body of each type
-body_is : (kind : ℕ) (body : List ℕ) (m : ClientMessage) → body_at kind body ≡ Got m [] → IsMessage (kind ∷ body) m
-unfolding body_at
-body_is kind body m e = elim (true_or_false (nat_eq kind 0)) [
-  | inl a ↦ (let e' = rw a at e in rw (eqb-true kind 0 a) (pixel_format_is body m e'))
-  | inr a ↦ elim (true_or_false (nat_eq kind 2)) [
-    | inl b ↦ (let e' = rw (a, b) at e in rw (eqb-true kind 2 b) (encodings_are body m e'))
-    | inr b ↦ elim (true_or_false (nat_eq kind 3)) [
-      | inl c ↦ (let e' = rw (a, b, c) at e in rw (eqb-true kind 3 c) (request_is body m e'))
-      | inr c ↦ elim (true_or_false (nat_eq kind 4)) [
-        | inl d ↦ (let e' = rw (a, b, c, d) at e in rw (eqb-true kind 4 d) (key_is body m e'))
-        | inr d ↦ elim (true_or_false (nat_eq kind 5)) [
-          | inl f ↦ (let e' = rw (a, b, c, d, f) at e in rw (eqb-true kind 5 f) (pointer_is body m e'))
-          | inr f ↦ elim (true_or_false (nat_eq kind 6)) [
-            | inl g ↦ (let e' = rw (a, b, c, d, f, g) at e in rw (eqb-true kind 6 g) (text_is body m e'))
-            | inr g ↦ (let e' = rw (a, b, c, d, f, g) at e in absurd (cc))
-          ]
-        ]
-      ]
-    ]
-  ]
-]
+body_is : (type : ClientMessageType) (body : List ℕ) (m : ClientMessage) → body_at type body ≡ Got m [] → IsMessage (number_of type ∷ body) m
+body_is types.SetPixelFormat body m e = pixel_format_is body m e
+body_is types.SetEncodings body m e = encodings_are body m e
+body_is types.FramebufferUpdateRequest body m e = request_is body m e
+body_is types.KeyEvent body m e = key_is body m e
+body_is types.PointerEvent body m e = pointer_is body m e
+body_is types.ClientCutText body m e = text_is body m e
+
+typed_is : (number : ℕ) (type : Option ClientMessageType) (body : List ℕ) (m : ClientMessage) → type_of number ≡ type → typed_at type body ≡ Got m []
+    → IsMessage (number ∷ body) m
+typed_is number (Some type) body m is e = subst (λ n. IsMessage (n ∷ body) m) (type_number_is number type is) (body_is type body m e)
+typed_is number None body m is e = absurd (cc)
 
 pub read_is_message : (bytes : List ℕ) (m : ClientMessage) → message_at bytes ≡ Got m [] → IsMessage bytes m
 unfolding message_at
 read_is_message bytes m e =
-    let b = bind_got (field 1 bytes) (λ kind rest. body_at (slice_index kind 0) rest) m [] e in
+    let b = bind_got (field 1 bytes) (λ number rest. typed_at (type_of (slice_index number 0)) rest) m [] e in
     let t = field_front 1 bytes b.value b.rest (field_got 1 bytes b.value b.rest b.first) in
     let is : bytes ≡ slice_index b.value 0 ∷ b.rest = t.0 ∙ ap (λ z. z ++ b.rest) (one_number b.value t.1) in
-    rw is (body_is (slice_index b.value 0) b.rest m b.then)
+    rw is (typed_is (slice_index b.value 0) (type_of (slice_index b.value 0)) b.rest m refl b.then)
 
 -- what bytes of a known type are read as
-pub kind_again : (kind : ℕ) (bytes body : List ℕ) → bytes ≡ kind ∷ body → message_at bytes ≡ body_at kind body
-kind_again kind bytes body is =
-    type_read bytes (kind ∷ []) body kind (ap (field {E = WireFault} 1) is ∙ field-whole {E = WireFault} 1 (kind ∷ []) body refl) refl
+pub type_read : (type : ClientMessageType) (bytes body : List ℕ) → bytes ≡ number_of type ∷ body → message_at bytes ≡ body_at type body
+type_read type bytes body is =
+    typed_read bytes (number_of type ∷ []) body (Some type) (ap (field {E = WireFault} 1) is ∙ field-whole {E = WireFault} 1 (number_of type ∷ []) body refl) (type_again type)
 
 pub whole_again : (n : ℕ) (f : List ℕ) → length f ≡ n → field {E = WireFault} n f ≡ Got f []
 whole_again n f e = ap (field {E = WireFault} n) (sym (append-nil f)) ∙ field-whole {E = WireFault} n f [] e
@@ -187,7 +181,7 @@ format_again bytes f is =
     let length_is : length body ≡ 19 = length-append is.padding is.format ∙ omega (arith, is.padding_length, is.format_length) in
     let following : drop 3 body ≡ is.format = drop_at is.padding is.format 3 is.padding_length in
     let ok : format_at (drop 3 body) ≡ Ok f = ap format_at following ∙ is_accepted is.format f is.is is.true_color is.valid in
-    kind_again 0 bytes body is.bytes_are ∙ body_of_pixel_format body ∙ pixel_format_read body body [] (whole_again 19 body length_is)
+    type_read types.SetPixelFormat bytes body is.bytes_are ∙ pixel_format_read body body [] (whole_again 19 body length_is)
     ∙ ap (λ r. judged r []) ok
 
 four_numbers : (f : List ℕ) → length f ≡ 4 → f ≡ slice_index f 0 ∷ slice_index f 1 ∷ slice_index f 2 ∷ slice_index f 3 ∷ []
@@ -211,27 +205,27 @@ encodings_again bytes ns is =
     let head : List ℕ = is.padding ∷ is.high ∷ is.low ∷ [] in
     let numbers = numbers_again ns is.list is.list_is in
     let count : length is.list ≡ 4 * (256 * is.high + is.low) = numbers.0 ∙ ap (λ n. 4 * n) is.count_is in
-    kind_again 2 bytes (head ++ is.list) is.bytes_are ∙ body_of_encodings (head ++ is.list)
+    type_read types.SetEncodings bytes (head ++ is.list) is.bytes_are
     ∙ head_read (head ++ is.list) head is.list (256 * is.high + is.low) (field-whole {E = WireFault} 3 head is.list refl) refl
     ∙ encodings_read (256 * is.high + is.low) is.list is.list [] (whole_again (4 * (256 * is.high + is.low)) is.list count)
     ∙ ap (λ n. Got (messages.SetEncodings n) []) numbers.1
 
-request_again : (bytes : List ℕ) (incremental : Bool) (x y w h : ℕ) → IsRequest bytes incremental x y w h
-    → message_at bytes ≡ Got (messages.Request incremental x y w h) []
-request_again bytes incremental x y w h is =
-    let body : List ℕ = is.flag ∷ is.area in
-    kind_again 3 bytes body is.bytes_are ∙ body_of_request body ∙ request_read body body [] (whole_again 9 body (ap suc is.area_length))
-    ∙ rw (is.incremental_is, is.x_is, is.y_is, is.w_is, is.h_is) refl
+request_again : (bytes : List ℕ) (incremental : Bool) (area : Area) → IsRequest bytes incremental area
+    → message_at bytes ≡ Got (messages.Request incremental area) []
+request_again bytes incremental area is =
+    let body : List ℕ = is.flag ∷ is.numbers in
+    type_read types.FramebufferUpdateRequest bytes body is.bytes_are ∙ request_read body body [] (whole_again 9 body (ap suc is.numbers_length))
+    ∙ rw (is.incremental_is, is.area_is) refl
 
 pub message_is_read : (bytes : List ℕ) (m : ClientMessage) → IsMessage bytes m → message_at bytes ≡ Got m []
 message_is_read bytes (messages.SetPixelFormat f) is = format_again bytes f is
 message_is_read bytes (messages.SetEncodings ns) is = encodings_again bytes ns is
-message_is_read bytes (messages.Request incremental x y w h) is = request_again bytes incremental x y w h is
-message_is_read bytes (messages.Input kind) (inl (four, (body, is, whole))) =
-    kind_again 4 bytes body is ∙ body_of_key body ∙ input_read 4 7 body body [] (whole_again 7 body whole) ∙ ap (λ k. Got (messages.Input k) []) (sym four)
-message_is_read bytes (messages.Input kind) (inr (inl (five, (body, is, whole)))) =
-    kind_again 5 bytes body is ∙ body_of_pointer body ∙ input_read 5 5 body body [] (whole_again 5 body whole) ∙ ap (λ k. Got (messages.Input k) []) (sym five)
-message_is_read bytes (messages.Input kind) (inr (inr (six, (head, text, is, seven, whole)))) =
-    kind_again 6 bytes (head ++ text) is ∙ body_of_text (head ++ text)
+message_is_read bytes (messages.Request incremental area) is = request_again bytes incremental area is
+message_is_read bytes (messages.Input type) (inl (four, (body, is, whole))) =
+    type_read types.KeyEvent bytes body is ∙ input_read types.KeyEvent 7 body body [] (whole_again 7 body whole) ∙ ap (λ t. Got (messages.Input t) []) (sym four)
+message_is_read bytes (messages.Input type) (inr (inl (five, (body, is, whole)))) =
+    type_read types.PointerEvent bytes body is ∙ input_read types.PointerEvent 5 body body [] (whole_again 5 body whole) ∙ ap (λ t. Got (messages.Input t) []) (sym five)
+message_is_read bytes (messages.Input type) (inr (inr (six, (head, text, is, seven, whole)))) =
+    type_read types.ClientCutText bytes (head ++ text) is
     ∙ text_read (head ++ text) head text (u32_at head 3) (field-whole {E = WireFault} 7 head text seven) refl
-    ∙ input_read 6 (u32_at head 3) text text [] (whole_again (u32_at head 3) text whole) ∙ ap (λ k. Got (messages.Input k) []) (sym six)
+    ∙ input_read types.ClientCutText (u32_at head 3) text text [] (whole_again (u32_at head 3) text whole) ∙ ap (λ t. Got (messages.Input t) []) (sym six)

@@ -3,6 +3,7 @@ use Rattle.std.proofs.Common.{◌≡◌, ℕ, ◌+◌, ◌-◌, ◌<◌, List, [
 use Rattle.std.proofs.lemmas.List.{append-nil, drop_all, drop-append-le, take-append-drop, length-drop}
 use Rattle.terms.specs.Reading.{Got, More, Bad}
 use Rattle.terms.proofs.Readings.{skip_more, skip_whole, skip_waits}
+use Rattle.client_wire.specs.declared.message_type.ClientMessageType.{ClientMessageType}
 use Rattle.client_wire.specs.declared.message.ClientMessage.{ClientMessage}
 use Rattle.client_wire.specs.declared.message.ClientMessage.TheVariants as messages
 use Rattle.terms.specs.declared.wire_fault.WireFault.{WireFault}
@@ -23,17 +24,17 @@ use Rattle.client_wire.proofs.Resume.{resume-short}
 use Rattle.client_wire.proofs.Streams.{gives_none, gives_one, empty_list, stands_kept, stands_whole, over_more}
 
 -- bytes that are read over: some of those that are left, all of them, and none
-input_more : (kind j : ℕ) (taken more : List ℕ) → input_at kind (length taken + j) (taken ++ more) ≡ input_at kind j more
+input_more : (type : ClientMessageType) (j : ℕ) (taken more : List ℕ) → input_at type (length taken + j) (taken ++ more) ≡ input_at type j more
 unfolding input_at
-input_more kind = skip_more (messages.Input kind)
+input_more type = skip_more (messages.Input type)
 
-input_whole : (kind n : ℕ) (taken : List ℕ) → length taken ≡ n → input_at kind n taken ≡ Got (messages.Input kind) []
+input_whole : (type : ClientMessageType) (n : ℕ) (taken : List ℕ) → length taken ≡ n → input_at type n taken ≡ Got (messages.Input type) []
 unfolding input_at
-input_whole kind = skip_whole (messages.Input kind)
+input_whole type = skip_whole (messages.Input type)
 
-input_waits : (kind n : ℕ) → 0 < n → input_at kind n [] ≡ More
+input_waits : (type : ClientMessageType) (n : ℕ) → 0 < n → input_at type n [] ≡ More
 unfolding input_at
-input_waits kind = skip_waits (messages.Input kind)
+input_waits type = skip_waits (messages.Input type)
 
 append_empty : (bytes skipped : List ℕ) → length skipped ≡ 0 → bytes ++ skipped ≡ bytes
 append_empty bytes skipped none = ap (λ z. bytes ++ z) (empty_list skipped none) ∙ append-nil bytes
@@ -153,16 +154,16 @@ at_short p at = short_there p.bytes.items p.position at
 -- what is kept of an input message is its head: the bytes of another field are of no such message
 in_field_head : (bytes : List ℕ) (stage : Stage) → IsInField bytes stage → IsHeadAlone bytes
 unfolding resume
-in_field_head bytes stages.Type at more rest kind e = omega (arith, at.unfinished)
-in_field_head bytes stages.PixelFormat at more rest kind e = absurd (pixel_format_never (drop 1 bytes ++ more) kind rest (sym (at.linked.link more) ∙ e))
-in_field_head bytes stages.EncodingsHead at more rest kind e = omega (arith, at.unfinished)
-in_field_head bytes (stages.Encodings count) at more rest kind e = absurd (encodings_never count (drop 4 bytes ++ more) kind rest (sym (at.linked.link more) ∙ e))
-in_field_head bytes stages.Request at more rest kind e = absurd (request_never (drop 1 bytes ++ more) kind rest (sym (at.linked.link more) ∙ e))
-in_field_head bytes stages.TextHead at more rest kind e = omega (arith, at.unfinished)
+in_field_head bytes stages.Type at more rest type e = omega (arith, at.unfinished)
+in_field_head bytes stages.PixelFormat at more rest type e = absurd (pixel_format_never (drop 1 bytes ++ more) type rest (sym (at.linked.link more) ∙ e))
+in_field_head bytes stages.EncodingsHead at more rest type e = omega (arith, at.unfinished)
+in_field_head bytes (stages.Encodings count) at more rest type e = absurd (encodings_never count (drop 4 bytes ++ more) type rest (sym (at.linked.link more) ∙ e))
+in_field_head bytes stages.Request at more rest type e = absurd (request_never (drop 1 bytes ++ more) type rest (sym (at.linked.link more) ∙ e))
+in_field_head bytes stages.TextHead at more rest type e = omega (arith, at.unfinished)
 
 head_there : (bytes : List ℕ) (p : Position) → IsAtPosition bytes p → IsHeadAlone bytes
 head_there bytes (positions.Field stage) at = in_field_head bytes stage at
-head_there bytes (positions.ReadOver o) at = λ more rest kind e. at.short
+head_there bytes (positions.ReadOver o) at = λ more rest type e. at.short
 
 pub at_head : (p : PartialMessage) → IsAt p → IsHeadAlone p.bytes.items
 at_head p at = head_there p.bytes.items p.position at

@@ -1,17 +1,21 @@
 -- The messages of a viewer (RFC 6143, section 7.5), read from the front of a list of bytes. Each
 -- field is judged once it is whole, in the order of the fields: so the first fault is the one that
 -- is met.
-use Rattle.std.specs.Prelude.{ℕ, ℤ, ◌*◌, List, [], ◌∷◌, drop, slice_index, nat_eq, Result, Ok, Err, if◌then◌else◌}
+use Rattle.std.specs.Prelude.{ℕ, ℤ, ◌*◌, List, [], ◌∷◌, drop, slice_index, Option, Some, None, Result, Ok, Err}
 use Rattle.terms.specs.Reading.{Reading, Got, Bad, ◌>>=◌, field}
 use Rattle.pixel_format.specs.Format.{Format}
 use Rattle.pixel_format.specs.Written.{format_at, is_flag}
 use Rattle.terms.specs.declared.format_fault.FormatFault.{FormatFault}
+use Rattle.terms.specs.Area.{area_at}
 use Rattle.terms.specs.Number.{u16_at, u32_at}
 use Rattle.terms.specs.Number.{signed}
+use Rattle.client_wire.specs.declared.message_type.ClientMessageType.{ClientMessageType}
+use Rattle.client_wire.specs.declared.message_type.ClientMessageType.TheVariants as types
 use Rattle.client_wire.specs.declared.message.ClientMessage.{ClientMessage}
 use Rattle.client_wire.specs.declared.message.ClientMessage.TheVariants as messages
 use Rattle.terms.specs.declared.wire_fault.WireFault.{WireFault}
 use Rattle.terms.specs.declared.wire_fault.WireFault.TheVariants as faults
+use Rattle.client_wire.specs.MessageType.{type_of}
 
 -- a format that is valid, or the first test that it fails
 abbrev pub judged : Result Format FormatFault → List ℕ → Reading ClientMessage WireFault
@@ -41,30 +45,33 @@ set_encodings_at bytes = field 3 bytes >>= λ f rest. encodings_at (u16_at f 1) 
 -- and x, y, width and height (section 7.5.3)
 unfoldable pub request_at : List ℕ → Reading ClientMessage WireFault
 request_at bytes = field 9 bytes >>= λ f rest.
-    Got (messages.Request (is_flag (slice_index f 0)) (u16_at f 1) (u16_at f 3) (u16_at f 5) (u16_at f 7)) rest
+    Got (messages.Request (is_flag (slice_index f 0)) (area_at f 1)) rest
 
 -- an input message, of which so many bytes are left; whichever they are, the type alone is kept
-unfoldable pub input_at : ℕ → ℕ → List ℕ → Reading ClientMessage WireFault
-input_at kind left bytes = field left bytes >>= λ f rest. Got (messages.Input kind) rest
+unfoldable pub input_at : ClientMessageType → ℕ → List ℕ → Reading ClientMessage WireFault
+input_at type left bytes = field left bytes >>= λ f rest. Got (messages.Input type) rest
 
 -- ClientCutText, after its type 6: three bytes of padding, the text's length, and the text (section
 -- 7.5.6)
 unfoldable pub cut_text_at : List ℕ → Reading ClientMessage WireFault
-cut_text_at bytes = field 7 bytes >>= λ f rest. input_at 6 (u32_at f 3) rest
+cut_text_at bytes = field 7 bytes >>= λ f rest. input_at types.ClientCutText (u32_at f 3) rest
 
 -- What follows the type of a message. KeyEvent, type 4, has seven more bytes: the down-flag, two
 -- bytes of padding and the key (section 7.5.4). PointerEvent, type 5, has five: the button-mask, x
 -- and y (section 7.5.5).
-unfoldable pub body_at : ℕ → List ℕ → Reading ClientMessage WireFault
-body_at kind bytes =
-    if nat_eq kind 0 then set_pixel_format_at bytes
-    else (if nat_eq kind 2 then set_encodings_at bytes
-    else (if nat_eq kind 3 then request_at bytes
-    else (if nat_eq kind 4 then input_at 4 7 bytes
-    else (if nat_eq kind 5 then input_at 5 5 bytes
-    else (if nat_eq kind 6 then cut_text_at bytes
-    else Bad faults.UnknownType)))))
+abbrev pub body_at : ClientMessageType → List ℕ → Reading ClientMessage WireFault
+body_at types.SetPixelFormat bytes = set_pixel_format_at bytes
+body_at types.SetEncodings bytes = set_encodings_at bytes
+body_at types.FramebufferUpdateRequest bytes = request_at bytes
+body_at types.KeyEvent bytes = input_at types.KeyEvent 7 bytes
+body_at types.PointerEvent bytes = input_at types.PointerEvent 5 bytes
+body_at types.ClientCutText bytes = cut_text_at bytes
 
--- the message that bytes begin with, by its type
+-- the same, if the type is one of those that are read
+abbrev pub typed_at : Option ClientMessageType → List ℕ → Reading ClientMessage WireFault
+typed_at (Some type) bytes = body_at type bytes
+typed_at None bytes = Bad faults.UnknownType
+
+-- the message that bytes begin with, by its type's number
 unfoldable pub message_at : List ℕ → Reading ClientMessage WireFault
-message_at bytes = field 1 bytes >>= λ kind rest. body_at (slice_index kind 0) rest
+message_at bytes = field 1 bytes >>= λ number rest. typed_at (type_of (slice_index number 0)) rest

@@ -1,4 +1,5 @@
 pub use Rattle.terms.specs.Reading
+pub mod MessageType
 pub mod Grammar
 pub mod Plain
 pub mod Message

@@ -2,8 +2,12 @@
 use Rattle.std.specs.Prelude.{◌≡◌, ℕ, ℤ, ◌+◌, ◌*◌, ◌<◌, ◌⊎◌, Bool, List, [], ◌∷◌, ◌++◌, length, slice_index}
 use Rattle.pixel_format.specs.Format.{Format, IsValid}
 use Rattle.pixel_format.specs.Written.{format_of, is_flag}
-use Rattle.terms.specs.Number.{u16_at, u32_at}
+use Rattle.terms.specs.declared.area.Area.{Area}
+use Rattle.terms.specs.Area.{area_at}
+use Rattle.terms.specs.Number.{u32_at}
 use Rattle.terms.specs.Number.{signed}
+use Rattle.client_wire.specs.declared.message_type.ClientMessageType.{ClientMessageType}
+use Rattle.client_wire.specs.declared.message_type.ClientMessageType.TheVariants as types
 use Rattle.client_wire.specs.declared.message.ClientMessage.{ClientMessage}
 use Rattle.client_wire.specs.declared.message.ClientMessage.TheVariants as messages
 
@@ -37,16 +41,13 @@ pub record IsSetEncodings (bytes : List ℕ) (ns : List ℤ) : Type 0 where
   pub list_is : AreNumbers ns list
 
 -- FramebufferUpdateRequest: type 3, the incremental flag, x, y, width and height (section 7.5.3)
-pub record IsRequest (bytes : List ℕ) (incremental : Bool) (x y w h : ℕ) : Type 0 where
+pub record IsRequest (bytes : List ℕ) (incremental : Bool) (area : Area) : Type 0 where
   pub flag : ℕ
-  pub area : List ℕ
-  pub bytes_are : bytes ≡ 3 ∷ flag ∷ area
-  pub area_length : length area ≡ 8
+  pub numbers : List ℕ
+  pub bytes_are : bytes ≡ 3 ∷ flag ∷ numbers
+  pub numbers_length : length numbers ≡ 8
   pub incremental_is : incremental ≡ is_flag flag
-  pub x_is : x ≡ u16_at area 0
-  pub y_is : y ≡ u16_at area 2
-  pub w_is : w ≡ u16_at area 4
-  pub h_is : h ≡ u16_at area 6
+  pub area_is : area ≡ area_at numbers 0
 
 -- KeyEvent: type 4, the down-flag, two bytes of padding, and four of the key (section 7.5.4)
 abbrev pub IsKeyEvent : List ℕ → Type 0
@@ -61,12 +62,13 @@ abbrev pub IsCutText : List ℕ → Type 0
 IsCutText bytes = (head : List ℕ) × (text : List ℕ) × (bytes ≡ 6 ∷ (head ++ text)) × (length head ≡ 7) × (length text ≡ u32_at head 3)
 
 -- an input message of this type
-abbrev pub IsInput : List ℕ → ℕ → Type 0
-IsInput bytes kind =
-    ((kind ≡ 4) × IsKeyEvent bytes) ⊎ (((kind ≡ 5) × IsPointerEvent bytes) ⊎ ((kind ≡ 6) × IsCutText bytes))
+abbrev pub IsInput : List ℕ → ClientMessageType → Type 0
+IsInput bytes type =
+    ((type ≡ types.KeyEvent) × IsKeyEvent bytes)
+    ⊎ (((type ≡ types.PointerEvent) × IsPointerEvent bytes) ⊎ ((type ≡ types.ClientCutText) × IsCutText bytes))
 
 abbrev pub IsMessage : List ℕ → ClientMessage → Type 0
 IsMessage bytes (messages.SetPixelFormat f) = IsSetPixelFormat bytes f
 IsMessage bytes (messages.SetEncodings ns) = IsSetEncodings bytes ns
-IsMessage bytes (messages.Request incremental x y w h) = IsRequest bytes incremental x y w h
-IsMessage bytes (messages.Input kind) = IsInput bytes kind
+IsMessage bytes (messages.Request incremental area) = IsRequest bytes incremental area
+IsMessage bytes (messages.Input type) = IsInput bytes type

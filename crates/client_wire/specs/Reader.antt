@@ -2,6 +2,7 @@
 use Rattle.std.specs.Prelude.{◌≡◌, ℕ, ◌≤◌, List, ◌++◌, length, Option}
 use Rattle.terms.specs.Reading.{Got}
 use Rattle.terms.specs.declared.wire_fault.WireFault.{WireFault}
+use Rattle.client_wire.specs.declared.message_type.ClientMessageType.{ClientMessageType}
 use Rattle.client_wire.specs.declared.message.ClientMessage.TheVariants as messages
 use Rattle.client_wire.specs.Grammar.{message_at}
 
@@ -17,7 +18,7 @@ head_limit = 8
 
 -- of bytes that begin an input message, whatever comes, no more than its head
 abbrev pub IsHeadAlone : List ℕ → Type 0
-IsHeadAlone kept = (more rest : List ℕ) → (kind : ℕ) → message_at (kept ++ more) ≡ Got (messages.Input kind) rest → length kept ≤ head_limit
+IsHeadAlone kept = (more rest : List ℕ) → (type : ClientMessageType) → message_at (kept ++ more) ≡ Got (messages.Input type) rest → length kept ≤ head_limit
 
 -- Of an unfinished message the bytes that are kept and the number of those that are read over; for
 -- how many bytes there is room; and the fault that was met, if one was.

@@ -1,4 +1,4 @@
--- A viewer's messages as they are written. Padding is 0.
+-- A viewer's messages, and the head of a host's update, as they are written. Padding is 0.
 use Rattle.std.specs.List.{flat_map}
 use Rattle.std.specs.Prelude.{ℕ, ℤ, ◌/◌, ◌%◌, List, [], ◌∷◌, ◌++◌, length, Bool}
 use Rattle.pixel_format.specs.Format.{Format}
@@ -26,26 +26,6 @@ set_encodings_bytes numbers = encodings_head (length numbers) ++ flat_map number
 -- height (section 7.5.3)
 abbrev pub request_bytes : Bool → Area → List ℕ
 request_bytes incremental a = 3 ∷ flag incremental ∷ area_bytes a
-
--- KeyEvent: type 4, the down-flag, two bytes of padding, and the key (section 7.5.4)
-abbrev pub key_event_bytes : Bool → ℕ → List ℕ
-key_event_bytes down key = 4 ∷ flag down ∷ 0 ∷ 0 ∷ u32_bytes key
-
--- PointerEvent: type 5, the button-mask, x and y (section 7.5.5)
-abbrev pub pointer_event_bytes : ℕ → ℕ → ℕ → List ℕ
-pointer_event_bytes mask x y = 5 ∷ mask ∷ x / 256 ∷ x % 256 ∷ y / 256 ∷ y % 256 ∷ []
-
--- a cut text of either side: its type, three bytes of padding, the text's length, and the text
--- (sections 7.5.6 and 7.6.4)
-abbrev pub text_head : ℕ → ℕ → List ℕ
-text_head kind n = kind ∷ 0 ∷ 0 ∷ 0 ∷ u32_bytes n
-
-abbrev pub text_bytes : ℕ → List ℕ → List ℕ
-text_bytes kind text = text_head kind (length text) ++ text
-
--- ClientCutText: type 6
-abbrev pub cut_text_bytes : List ℕ → List ℕ
-cut_text_bytes = text_bytes 6
 
 -- a host's FramebufferUpdate of one rectangle, up to the rectangle's data: type 0, a byte of padding,
 -- the number of rectangles, and the rectangle's header, its area and the number of its encoding

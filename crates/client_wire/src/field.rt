@@ -3,13 +3,13 @@
 ghost use Rattle.std.specs.Prelude.{◌≡◌, ℕ, List, length, drop, slice_index, IfOk, MatchResult};
 ghost use Rattle.terms.specs.Reading.{Got, Bad};
 ghost use Rattle.pixel_format.specs.Written.{format_at, is_flag};
-ghost use Rattle.terms.specs.Number.{u16_at};
+ghost use Rattle.terms.specs.Area.{area_at};
 ghost use Rattle.client_wire.specs.Grammar.{judged, numbers_of};
 
 use crate::message::{ClientMessage, Encodings};
 use pixel_format::PixelFormat;
 use std::alloc::{AllocError, Global};
-use terms::{WireFault, read_u16, read_u32};
+use terms::{Area, WireFault, read_u32};
 
 /// The message of the field after the type of a SetPixelFormat (RFC 6143, section 7.5.1).
 pub fn pixel_format_in(field: &[u8]) -> Result<ClientMessage, WireFault>
@@ -44,13 +44,10 @@ pub fn encodings_in(alloc: Global, field: &[u8]) -> Result<Encodings, AllocError
 pub fn request_in(field: &[u8]) -> ClientMessage
     requires { length field.now ≡ 9 }
     ensures { result ≡ ClientMessage.Request (is_flag (slice_index field.now 0))
-        (u16_at field.now 1) (u16_at field.now 3) (u16_at field.now 5) (u16_at field.now 7) }
+        (area_at field.now 1) }
 {
     ClientMessage::Request {
         incremental: field[0] != 0,
-        x: read_u16(field, 1),
-        y: read_u16(field, 3),
-        w: read_u16(field, 5),
-        h: read_u16(field, 7),
+        area: Area::read(field, 1),
     }
 }

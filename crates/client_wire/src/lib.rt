@@ -4,6 +4,7 @@
 mod field;
 mod laws;
 mod message;
+mod message_type;
 mod partial_message;
 mod plain;
 mod reader;
@@ -15,11 +16,10 @@ pub use laws::{
     one_reading_of_bytes,
 };
 pub use message::{ClientMessage, Encodings};
+pub use message_type::ClientMessageType;
 pub use plain::read_client_message;
 pub use reader::ClientReader;
 pub use write::{
-    write_client_cut_text, write_key_event, write_pointer_event, write_request,
-    write_set_encodings, write_set_pixel_format, write_text, write_update_head,
-    written_encodings_are_read, written_format_is_read, written_input_is_read,
-    written_request_is_read,
+    write_request, write_set_encodings, write_set_pixel_format, write_update_head,
+    written_encodings_are_read, written_format_is_read, written_request_is_read,
 };

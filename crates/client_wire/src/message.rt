@@ -2,8 +2,10 @@
 
 ghost use Rattle.std.specs.Prelude.{◌≡◌};
 
+use crate::message_type::ClientMessageType;
 use pixel_format::PixelFormat;
 use std::marker::Model;
+use terms::Area;
 
 /// Numbers of encodings, in a viewer's order of preference (RFC 6143, section 7.5.2).
 #[derive(Drop)]
@@ -44,14 +46,8 @@ pub enum ClientMessage {
     SetEncodings(Encodings),
     /// A request for an update of an area; an incremental one asks only for what has changed
     /// (section 7.5.3).
-    Request {
-        incremental: bool,
-        x: u16,
-        y: u16,
-        w: u16,
-        h: u16,
-    },
-    /// A key (type 4), a pointer (5) or a cut text (6), of which the type alone is kept (sections
+    Request { incremental: bool, area: Area },
+    /// A KeyEvent, a PointerEvent or a ClientCutText, of which the type alone is kept (sections
     /// 7.5.4 to 7.5.6).
-    Input(u8),
+    Input(ClientMessageType),
 }

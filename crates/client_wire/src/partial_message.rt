@@ -7,6 +7,7 @@ ghost use Rattle.client_wire.specs.Grammar.{message_at};
 ghost use Rattle.client_wire.specs.Stream.{Moves, Stops, StandsFor, itself};
 
 use crate::message::ClientMessage;
+use crate::message_type::ClientMessageType;
 use crate::step::step;
 use std::alloc::Global;
 use terms::{WireFault, append_come};
@@ -32,7 +33,7 @@ pub enum Stage {
 /// many are left.
 #[derive(Clone, Copy)]
 pub struct Over {
-    pub kind: u8,
+    pub kind: ClientMessageType,
     pub passed: u32,
     pub left: u32,
 }
@@ -95,7 +96,7 @@ impl Stage {
 
 impl Over {
     /// So many bytes, of which none has passed.
-    pub fn new(kind: u8, left: u32) -> Over
+    pub fn new(kind: ClientMessageType, left: u32) -> Over
         ensures { result ≡ record { kind = kind; passed = 0; left = left } }
     {
         Over {

@@ -1,10 +1,11 @@
 //! The grammar of a viewer's messages as a plain function, which has all the bytes before it.
 
-ghost use Rattle.client_wire.specs.Grammar.{set_pixel_format_at, set_encodings_at, request_at, input_at, cut_text_at, message_at};
+ghost use Rattle.client_wire.specs.Grammar.{set_pixel_format_at, set_encodings_at, request_at, input_at, cut_text_at, body_at, message_at};
 ghost use Rattle.client_wire.specs.Plain.{Says};
 
 use crate::field::{encodings_in, pixel_format_in, request_in};
 use crate::message::ClientMessage;
+use crate::message_type::ClientMessageType;
 use std::alloc::Global;
 use terms::{WireFault, field, read_u16, read_u32};
 
@@ -45,7 +46,11 @@ fn request(bytes: &[u8]) -> Result<Option<(ClientMessage, &[u8])>, WireFault>
 }
 
 // The same of an input message that has so many bytes left.
-fn input(kind: u8, left: usize, bytes: &[u8]) -> Result<Option<(ClientMessage, &[u8])>, WireFault>
+fn input(
+    kind: ClientMessageType,
+    left: usize,
+    bytes: &[u8],
+) -> Result<Option<(ClientMessage, &[u8])>, WireFault>
     ensures { Says (λ x. x.0) (λ x. x.1.now) result (input_at kind left bytes.now) }
 {
     let Some((_, rest)) = field(left, bytes) else {
@@ -62,7 +67,25 @@ fn cut_text(bytes: &[u8]) -> Result<Option<(ClientMessage, &[u8])>, WireFault>
         return Ok(None);
     };
     let length = read_u32(head, 3);
-    input(6, length as usize, text)
+    input(ClientMessageType::ClientCutText, length as usize, text)
+}
+
+// What the bytes after this type begin with.
+fn body(
+    alloc: Global,
+    kind: ClientMessageType,
+    bytes: &[u8],
+) -> Result<Option<(ClientMessage, &[u8])>, WireFault>
+    ensures { Says (λ x. x.0) (λ x. x.1.now) result (body_at kind bytes.now) }
+{
+    match kind {
+        ClientMessageType::SetPixelFormat => set_pixel_format(bytes),
+        ClientMessageType::SetEncodings => set_encodings(alloc, bytes),
+        ClientMessageType::FramebufferUpdateRequest => request(bytes),
+        ClientMessageType::KeyEvent => input(kind, 7, bytes),
+        ClientMessageType::PointerEvent => input(kind, 5, bytes),
+        ClientMessageType::ClientCutText => cut_text(bytes),
+    }
 }
 
 /// The message that the bytes begin with, and the bytes after it; `None` if they are too few for
@@ -74,23 +97,11 @@ pub fn read_client_message(
 ) -> Result<Option<(ClientMessage, &[u8])>, WireFault>
     ensures { Says (λ x. x.0) (λ x. x.1.now) result (message_at bytes.now) }
 {
-    let Some((first, body)) = field(1, bytes) else {
+    let Some((first, rest)) = field(1, bytes) else {
         return Ok(None);
     };
-    let kind = first[0];
-    if kind == 0 {
-        set_pixel_format(body)
-    } else if kind == 2 {
-        set_encodings(alloc, body)
-    } else if kind == 3 {
-        request(body)
-    } else if kind == 4 {
-        input(4, 7, body)
-    } else if kind == 5 {
-        input(5, 5, body)
-    } else if kind == 6 {
-        cut_text(body)
-    } else {
-        Err(WireFault::UnknownType)
-    }
+    let Some(kind) = ClientMessageType::from_number(first[0]) else {
+        return Err(WireFault::UnknownType);
+    };
+    body(alloc, kind, rest)
 }

@@ -3,36 +3,43 @@
 ghost use Rattle.std.specs.Prelude.{◌≡◌, ℕ, ◌+◌, List, ◌++◌, length, slice_index, IfOk, IfErr};
 ghost use Rattle.terms.specs.Reading.{Bad};
 ghost use Rattle.terms.specs.Fault.{UnlessMemory};
-ghost use Rattle.client_wire.specs.Grammar.{body_at};
+ghost use Rattle.client_wire.specs.Grammar.{body_at, typed_at};
+ghost use Rattle.client_wire.specs.MessageType.{type_of};
 ghost use Rattle.client_wire.specs.PartialMessage.{wants_of, start_of, resume, position_at, follow, BeginsAt, StepBeginsAt};
 
 use crate::field::{encodings_in, pixel_format_in, request_in};
 use crate::message::{ClientMessage, Encodings};
+use crate::message_type::ClientMessageType;
 use crate::partial_message::{AfterField, Over, Position, Stage};
 use std::alloc::Global;
 use terms::{WireFault, read_u16, read_u32};
 
-// After the type of a message.
-fn after_type(kind: u8) -> Result<Position, WireFault>
-    ensures goes { IfOk result (λ p. (more : List ℕ) → body_at kind more ≡ position_at p more) }
-    ensures begins { IfOk result (BeginsAt 1) }
-    ensures faults { IfErr result (λ f. (more : List ℕ) → body_at kind more ≡ Bad f) }
+// What comes after this type.
+#[tactic(auto, unfolding(crate::specs::PartialMessage::resume))]
+fn position_after(kind: ClientMessageType) -> Position
+    ensures goes { (more : List ℕ) → body_at kind more ≡ position_at result more }
+    ensures begins { BeginsAt 1 result }
 {
-    if kind == 0 {
-        Ok(Position::Field(Stage::PixelFormat))
-    } else if kind == 2 {
-        Ok(Position::Field(Stage::EncodingsHead))
-    } else if kind == 3 {
-        Ok(Position::Field(Stage::Request))
-    } else if kind == 4 {
-        Ok(Position::ReadOver(Over::new(4, 7)))
-    } else if kind == 5 {
-        Ok(Position::ReadOver(Over::new(5, 5)))
-    } else if kind == 6 {
-        Ok(Position::Field(Stage::TextHead))
-    } else {
-        Err(WireFault::UnknownType)
+    match kind {
+        ClientMessageType::SetPixelFormat => Position::Field(Stage::PixelFormat),
+        ClientMessageType::SetEncodings => Position::Field(Stage::EncodingsHead),
+        ClientMessageType::FramebufferUpdateRequest => Position::Field(Stage::Request),
+        ClientMessageType::KeyEvent => Position::ReadOver(Over::new(kind, 7)),
+        ClientMessageType::PointerEvent => Position::ReadOver(Over::new(kind, 5)),
+        ClientMessageType::ClientCutText => Position::Field(Stage::TextHead),
     }
+}
+
+// After the number of a message's type.
+fn after_type(number: u8) -> Result<Position, WireFault>
+    ensures goes { IfOk result (λ p. (more : List ℕ) → typed_at (type_of number) more ≡ position_at p more) }
+    ensures begins { IfOk result (BeginsAt 1) }
+    ensures faults { IfErr result (λ f. (more : List ℕ) → typed_at (type_of number) more ≡ Bad f) }
+{
+    let Some(kind) = ClientMessageType::from_number(number) else {
+        return Err(WireFault::UnknownType);
+    };
+    Ok(position_after(kind))
 }
 
 // After the head of a SetEncodings.
@@ -59,9 +66,10 @@ fn after_text_head(field: &[u8]) -> AfterField
 {
     let length = read_u32(field, 3);
     if length == 0 {
-        return AfterField::Whole(ClientMessage::Input(6));
+        return AfterField::Whole(ClientMessage::Input(ClientMessageType::ClientCutText));
     }
-    AfterField::Goes(Position::ReadOver(Over::new(6, length)))
+    let left = Over::new(ClientMessageType::ClientCutText, length);
+    AfterField::Goes(Position::ReadOver(left))
 }
 
 /// What follows from the whole field of a stage.

@@ -1,22 +1,25 @@
 //! The connection to a host.
 
-ghost use Rattle.std.specs.Prelude.{◌≡◌};
+ghost use Rattle.std.specs.Prelude.{◌≡◌, ◌<◌, [], None, IfNone, IfSome, length};
+ghost use Rattle.host_stream.specs.Streams.{HasRead, GivesAll, GivesNext};
 
 use crate::clock::Stopwatch;
 use crate::limits::{HANDSHAKE, REQUEST};
 use crate::room::Room;
-use host_session::{HostFault, HostSession};
+use book_workers::HostSource;
+use host_session::HostFault;
+use host_stream::{HostEnd, HostStream, Next};
+use key_index::Stamped;
 use pixel_format::Format;
 use rfb_wire::HostMessage;
-use shared_book::{HostSource, Mark, Ticket};
+use shared_book::{Mark, Ticket};
 use sockets::{pause, time_left, watch_over, write_within};
 use std::alloc::{AllocError, Global};
-use std::io::Read;
 use std::net::{Net, Shutdown, TcpStream};
 use std::sync::{Mutex, Wait};
 use std::time::{Clock, Instant};
 use std::{io, thread};
-use telling::{Event, HostEnd, Telling};
+use telling::{Event, Telling};
 use terms::ScreenSize;
 use thiserror::Error;
 
@@ -34,16 +37,14 @@ pub enum ConnectFault {
     Host(#[source] HostFault),
 }
 
-/// A connection to a host: its socket, its session, and the messages that came and weren't handed
-/// out yet, the last one first.
+/// A connection to a host: its socket, and what has come of its stream.
 #[derive(Drop)]
 pub struct Host {
     alloc: Global,
-    stream: TcpStream,
-    session: HostSession,
+    socket: TcpStream,
+    pub(crate) stream: HostStream,
     buffer: Vec<u8>,
-    waiting: Vec<HostMessage>,
-    end: Option<HostEnd>,
+    ghost room: { 0 < length buffer.items },
 }
 
 impl Host {
@@ -57,14 +58,14 @@ impl Host {
         expected: Option<ScreenSize>,
         telling: &Telling,
     ) -> Result<Host, ConnectFault> {
-        let stream = match TcpStream::connect(rt, address) {
-            Ok(stream) => stream,
+        let socket = match TcpStream::connect(rt, address) {
+            Ok(socket) => socket,
             Err(error) => {
                 telling.tell_failure(rt, "connect to host", address, &error);
                 return Err(ConnectFault::Socket);
             }
         };
-        let mut host = match Host::over(rt.alloc(), stream, format, expected) {
+        let mut host = match Host::over(rt.alloc(), socket, format, expected) {
             Ok(host) => host,
             Err(error) => {
                 telling.tell_failure(rt, "connect to host", address, &error);
@@ -81,20 +82,18 @@ impl Host {
 
     fn over(
         alloc: Global,
-        stream: TcpStream,
+        socket: TcpStream,
         format: Format,
         expected: Option<ScreenSize>,
     ) -> io::Result<Host> {
-        watch_over(&stream)?;
+        watch_over(&socket)?;
         let mut buffer = Vec::new(alloc);
         buffer.resize(PIECE, 0)?;
         Ok(Host {
             alloc,
-            stream,
-            session: HostSession::in_format(alloc, format, expected),
+            socket,
+            stream: HostStream::new(alloc, format, expected),
             buffer,
-            waiting: Vec::new(alloc),
-            end: None,
         })
     }
 
@@ -102,11 +101,11 @@ impl Host {
     fn greet<R: Clock>(&mut self, rt: &R) -> io::Result<()> {
         let started = Instant::now(rt)?;
         for _ in 0..u64::MAX {
-            if self.session.size().is_some() || self.end.is_some() {
+            if self.stream.size().is_some() || !self.stream.is_read_next() {
                 break;
             }
             let left = time_left(rt, started, HANDSHAKE)?;
-            self.stream.set_read_timeout(Some(left))?;
+            self.socket.set_read_timeout(Some(left))?;
             match self.read_piece() {
                 Err(error) if error.kind() == io::ErrorKind::WouldBlock => {
                     return Err(io::ErrorKind::TimedOut.into());
@@ -115,7 +114,7 @@ impl Host {
             }
             self.tell(rt)?;
         }
-        self.stream.set_read_timeout(None)
+        self.socket.set_read_timeout(None)
     }
 
     // Whether the handshake ended well: tells how.
@@ -138,7 +137,7 @@ impl Host {
         }
         let end = self.end();
         if let HostEnd::Fault(HostFault::Failed) = end {
-            telling.tell(rt, Event::HostRefused(self.session.reason()));
+            telling.tell(rt, Event::HostRefused(self.stream.reason()));
         }
         telling.tell(rt, Event::HostEnded(end));
         match end {
@@ -149,94 +148,99 @@ impl Host {
 
     /// The size of the host's screen, and its name.
     pub fn screen(&self) -> Option<(ScreenSize, &[u8])> {
-        let size = self.session.size()?;
-        Some((size, self.session.name()))
+        let size = self.stream.size()?;
+        Some((size, self.stream.name()))
     }
 
     /// Another handle of the socket.
-    pub fn stream(&self) -> io::Result<TcpStream> {
-        self.stream.try_clone()
+    pub fn socket(&self) -> io::Result<TcpStream> {
+        self.socket.try_clone()
     }
 
     // Tells the host that nothing more is wanted.
     fn hang_up(&self) {
-        let _shut = self.stream.shutdown(Shutdown::Both);
+        let _shut = self.socket.shutdown(Shutdown::Both);
     }
 
-    // Reads a piece, and takes its messages. What ends the stream is kept; an error is of a read.
-    fn read_piece(&mut self) -> io::Result<()> {
-        let count = match (&mut &self.stream).read(&mut self.buffer) {
-            Ok(0) => {
-                self.end = Some(HostEnd::Closed(self.session.unfinished()));
-                return Ok(());
-            }
-            Ok(count) => count,
-            Err(error) if error.kind() == io::ErrorKind::Interrupted => return Ok(()),
-            Err(error) => {
-                self.end = Some(HostEnd::Socket);
-                return Err(error);
-            }
-        };
-        let mut came = Vec::new(self.alloc);
-        let heard = self.session.feed(&self.buffer[..count], &mut came);
-        came.reverse();
-        self.waiting = came;
-        if let Err(fault) = heard {
-            self.end = Some(HostEnd::Fault(fault));
-        }
-        Ok(())
+    // Reads a piece, and takes its messages, once none waits. What ends the stream is kept; an error
+    // is of a read.
+    fn read_piece(&mut self) -> io::Result<()>
+        requires none { self.old.stream.waiting ≡ [] }
+        requires goes_on { self.old.stream.end ≡ None }
+        ensures { HasRead self.old.stream self.new.stream }
+    {
+        self.stream.read_from(&mut &self.socket, &mut self.buffer)
     }
 
     // Writes what is due to the host.
-    fn tell<R: Clock>(&mut self, rt: &R) -> io::Result<()> {
+    fn tell<R: Clock>(&mut self, rt: &R) -> io::Result<()>
+        ensures given { HasRead self.old.stream self.new.stream }
+        ensures waiting { self.new.stream.waiting ≡ self.old.stream.waiting }
+        ensures end { self.new.stream.end ≡ self.old.stream.end }
+    {
         let mut due = Vec::new(self.alloc);
-        self.session.out(&mut due)?;
-        write_within(rt, &self.stream, &due, REQUEST)
+        self.stream.say(&mut due)?;
+        write_within(rt, &self.socket, &due, REQUEST)
     }
 
     // How the stream ended.
     fn end(&self) -> HostEnd {
-        self.end.unwrap_or(HostEnd::Closed(0))
+        self.stream.end().unwrap_or(HostEnd::Closed(0))
     }
 
-    // The next message; `None` at the stream's end, or once the recorder was asked to end. The host
-    // is asked for more, and read from, only if there is room for it.
-    fn next<M: Mark, R: Clock + Wait>(&mut self, rt: &R, room: &Room<M>) -> Option<HostMessage> {
-        let mut is_short = false;
-        for _ in 0..u64::MAX {
-            if room.is_stopped() {
-                return None;
-            }
-            if let Some(message) = self.waiting.pop() {
-                return Some(message);
-            }
-            if self.end.is_some() {
-                return None;
-            }
-            room.intake.wait_for_room(rt);
-            match self.tell(rt) {
-                Err(error) if error.kind() == io::ErrorKind::OutOfMemory => {
-                    if !is_short {
-                        room.telling.tell(rt, Event::Shortage);
-                    }
-                    is_short = true;
-                    thread::sleep(rt, pause());
+    // Reads from the host, once there is room for what comes: first it is asked for more.
+    fn ask<M: Mark, R: Clock + Wait>(&mut self, rt: &R, room: &Room<M>, was_short: bool) -> bool
+        requires none { self.old.stream.waiting ≡ [] }
+        requires goes_on { self.old.stream.end ≡ None }
+        ensures { HasRead self.old.stream self.new.stream }
+    {
+        room.intake.wait_for_room(rt);
+        match self.tell(rt) {
+            Err(error) if error.kind() == io::ErrorKind::OutOfMemory => {
+                if !was_short {
+                    room.telling.tell(rt, Event::Shortage);
                 }
-                // If the host takes no more, reading meets its end, which says how it ended.
-                _ => {
-                    let _read = self.read_piece();
-                }
+                thread::sleep(rt, pause());
+                true
+            }
+            // If the host takes no more, reading meets its end, which says how it ended.
+            _ => {
+                let _read = self.read_piece();
+                was_short
             }
         }
-        None
     }
+
+    // The next message; `None` once all that came was given, at the stream's end, or if the recorder
+    // was asked to end.
+    fn next<M: Mark, R: Clock + Wait>(&mut self, rt: &R, room: &Room<M>) -> Option<HostMessage>
+        ensures given { IfSome result (λ message. GivesNext self.old.stream self.new.stream message) }
+        ensures all { IfNone result (GivesAll self.old.stream self.new.stream) }
+    {
+        let mut is_short = false;
+        for _ in rt.forever() {
+            match self.stream.next(room.is_stopped()) {
+                Next::Message(message) => return Some(message),
+                Next::Ended => return None,
+                Next::Read => is_short = self.ask(rt, room, is_short),
+            }
+        }
+        unreachable!()
+    }
+}
+
+/// A host, and the clock by which its messages have their times.
+#[derive(Drop)]
+pub struct HostOnClock {
+    pub host: Box<Host>,
+    pub stopwatch: Stopwatch,
 }
 
 /// A host's messages, each with the time when it came. How its stream ended is then told.
 #[derive(Drop)]
 pub struct Messages<'a, M: Mark, R: Clock + Wait> {
     rt: &'a R,
-    host: Host,
+    host: Box<Host>,
     stopwatch: Stopwatch,
     room: &'a Room<M>,
     end: &'a Mutex<HostEnd>,
@@ -247,11 +251,11 @@ impl<'a, M: Mark, R: Clock + Wait> Messages<'a, M, R> {
     /// Those of a host, whose screen has the recording's size and whose messages have its format.
     pub fn new(
         rt: &'a R,
-        host: Host,
-        stopwatch: Stopwatch,
+        host: HostOnClock,
         room: &'a Room<M>,
         end: &'a Mutex<HostEnd>,
     ) -> Messages<'a, M, R> {
+        let HostOnClock { host, stopwatch } = host;
         Messages {
             rt,
             host,
@@ -264,18 +268,33 @@ impl<'a, M: Mark, R: Clock + Wait> Messages<'a, M, R> {
 }
 
 impl<'a, M: Mark, R: Clock + Wait> HostSource<Ticket<M>> for Messages<'a, M, R> {
+    ghost use Rattle.std.specs.Prelude.{[], false};
+
     ghost format = { λ m. M.head.format };
 
     ghost width = { λ m. M.head.width };
 
     ghost height = { λ m. M.head.height };
 
-    fn next(&mut self) -> Option<(u32, HostMessage)> {
+    ghost is_modelled = { ⊥ };
+
+    ghost account = { λ m. record { first = 0; given = []; told = []; has_ended = false } };
+
+    ghost ticket_of = { λ t. t };
+
+    fn next(&mut self) -> Option<Stamped>
+        ensures sized { IfSome result (λ r. (r.message.format ≡ M.head.format) × (r.message.width ≡ M.head.width) × (r.message.height ≡ M.head.height)) }
+        ensures screen { (M.head.format ≡ M.head.format) × (M.head.width ≡ M.head.width) × (M.head.height ≡ M.head.height) }
+        ensures next { IfSome result (λ r. GivesNext self.old.host.value.stream self.new.host.value.stream r.message) }
+    {
         match self.host.next(self.rt, self.room) {
             // The session has the recording's size and format, so that each message has them.
             Some(message) if self.room.is_for(&message) => {
                 self.handed = message.bytes().len() as u64;
-                Some((self.stopwatch.now(self.rt), message))
+                Some(Stamped {
+                    time: self.stopwatch.now(self.rt),
+                    message,
+                })
             }
             _ => {
                 self.host.hang_up();

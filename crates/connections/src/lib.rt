@@ -11,6 +11,6 @@ mod viewer;
 
 pub use clock::{Stopwatch, time_after};
 pub use guest::{Greeting, Guest};
-pub use host::{ConnectFault, Host, Messages};
+pub use host::{ConnectFault, Host, HostOnClock, Messages};
 pub use room::{Beginning, Device, Hall, Intake, Room};
-pub use viewer::{Viewer, turn_away};
+pub use viewer::{Standing, Viewer, turn_away};

@@ -26,6 +26,17 @@ const PIECE: usize = 4096;
 /// The version that is spoken, and its newline.
 const VERSION: [u8; 12] = *b"RFB 003.008\n";
 
+/// What a viewer was shown and asks for, as it stands at a moment.
+#[derive(Clone, Copy, Debug, PartialEq, Eq)]
+pub struct Standing {
+    /// Whether it asks for what changes next, and isn't answered yet.
+    pub has_asked: bool,
+    /// Whether it was sent an update since it was handed anything.
+    pub is_answered: bool,
+    /// Whether all of its screen changed since it was sent an update.
+    pub is_stale: bool,
+}
+
 /// A viewer's session of the recording's size.
 #[derive(Drop)]
 struct Talk<M: Mark> {
@@ -35,6 +46,8 @@ struct Talk<M: Mark> {
     /// Whether the whole screen has changed since the viewer was sent an update: it is sent all of
     /// it next, whatever comes.
     lacks_all: bool,
+    /// Whether it was sent an update since it was handed anything.
+    is_answered: bool,
     of: PhantomData<M>,
     ghost sized: { (session.view.screen.width ≡ M.head.width) × (session.view.screen.height ≡ M.head.height) },
 }
@@ -66,6 +79,7 @@ impl<M: Mark> Talk<M> {
             return false;
         }
         self.session.advance(slice);
+        self.is_answered = self.is_answered && slice.start.is_none() && slice.messages.is_empty();
         self.lacks_all = self.lacks_all || slice.start.is_some();
         for stamped in &slice.messages {
             self.lacks_all = self.lacks_all || is_of_whole_screen(&stamped.message);
@@ -89,6 +103,7 @@ impl<M: Mark> Talk<M> {
         self.session.answer(&mut due)?;
         if is_asked && !self.session.wants() {
             self.lacks_all = false; // an update is among what is due
+            self.is_answered = true;
         }
         connection.write_within(rt, &due, ANSWER)
     }
@@ -96,6 +111,20 @@ impl<M: Mark> Talk<M> {
     // Whether the viewer asks for what changes next, so that it was shown all that there is.
     fn is_shown(&self) -> bool {
         self.session.wants()
+    }
+
+    // Whether the viewer was shown what it has, also if it asks for nothing now.
+    fn was_shown(&self) -> bool {
+        self.is_answered || self.is_shown()
+    }
+
+    // What is to be known of the viewer to decide what it is shown next.
+    fn standing(&self) -> Standing {
+        Standing {
+            has_asked: self.session.wants(),
+            is_answered: self.is_answered,
+            is_stale: self.lacks_all,
+        }
     }
 }
 
@@ -130,6 +159,7 @@ impl<M: Mark, C: Connection> Viewer<M, C> {
                 session,
                 shows_from: 0,
                 lacks_all: false,
+                is_answered: false,
                 of: PhantomData,
             }),
             changed: Condvar::new(),
@@ -189,8 +219,14 @@ impl<M: Mark, C: Connection> Viewer<M, C> {
         );
     }
 
-    /// Waits until the viewer was shown what it has and asks for what comes next, has gone, or it is
-    /// over, which is looked at each second.
+    /// What the viewer was shown and asks for.
+    pub fn standing<R: Wait>(&self, rt: &R) -> Standing {
+        self.talk.lock(rt).standing()
+    }
+
+    /// Waits until the viewer was shown what it has, has gone, or it is over, which is looked at each
+    /// second. It was shown that if it was sent an update since it was handed anything, or asks for
+    /// what changes next.
     pub fn wait_until_asked<R: Clock + Wait, F: Fn() -> bool>(&self, rt: &R, is_over: F)
         requires { F.IsAlwaysCallable is_over }
     {
@@ -200,10 +236,10 @@ impl<M: Mark, C: Connection> Viewer<M, C> {
                     rt,
                     self.talk.lock(rt),
                     Duration::from_secs(1),
-                    |talk| !talk.is_shown() && !self.has_left(),
+                    |talk| !talk.was_shown() && !self.has_left(),
                 ),
             );
-            if self.has_left() || is_over() || self.talk.lock(rt).is_shown() {
+            if self.has_left() || is_over() || self.talk.lock(rt).was_shown() {
                 return;
             }
         }

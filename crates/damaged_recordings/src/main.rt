@@ -27,7 +27,7 @@ fn print_offset(rt: &HostRuntime, kind: Kind, file: &[u8], offset: usize) -> io:
         let outcome = outcome_of(rt.alloc(), kind, changed, &mut read);
         runs.note(usize::from(value), outcome)?;
     }
-    print!(rt; "place {offset}:")?;
+    print!(rt; "offset {offset}:")?;
     runs.print(rt, read.finalize())
 }
 

@@ -26,10 +26,3 @@ pub fn sync_folder<R: Files<File = File>>(files: &R, path: &str) -> io::Result<(
     };
     File::open(files, folder)?.sync_all()
 }
-
-/// Brings the name that a file got by a rename onto the device: syncs the file once more, since on
-/// some file systems (FAT) only that completes its new entry, and then the folder.
-pub fn sync_name<R: Files<File = File>>(files: &R, path: &str) -> io::Result<()> {
-    File::open(files, path)?.sync_all()?;
-    sync_folder(files, path)
-}

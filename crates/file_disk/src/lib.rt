@@ -17,7 +17,7 @@ mod whole;
 mod written;
 
 pub use disk_of_file::{DiskOfFile, FileDisk};
-pub use folder::{create_exclusively, sync_folder, sync_name};
+pub use folder::{create_exclusively, sync_folder};
 pub use last_error::LastError;
 pub use os_file::OsFile;
 pub use progress::{Progress, Watched};

@@ -10,11 +10,11 @@ use Rattle.terms.proofs.Measured.{measured_bad}
 use Rattle.terms.proofs.Listed.{StopsIn, stops_here, stops_after}
 use Rattle.hextile.specs.declared.fields.Subrectangle.{Subrectangle}
 use Rattle.hextile.specs.declared.fields.Named.{Named}
-use Rattle.hextile.specs.declared.fault.Measure.TheVariants as answers
+use Rattle.terms.specs.declared.measuring.NoLength.TheVariants as answers
 use Rattle.hextile.specs.Tiles.{tile_count, tile_width, tile_height}
 use Rattle.hextile.specs.Grammar.{Tile, Raw, Parts, Fault, Refused, mask_of, is_allowed, colors_of, head_bytes, background_in, foreground_in, count_in, subrectangle_bytes, subrectangle_of, is_inside, subrectangle_at, subrectangles_at, raw_at, parts_at, body_at, tile_at, named_with, tiles_at, data_at}
 use Rattle.hextile.specs.Data.{IsAllowed, LiesWithin, AreBytesOf, AreSubrectangles, AreTiles, onto, HasForbidden, HasOutside, IsRefused}
-use Rattle.hextile.specs.Measuring.{measured}
+use Rattle.terms.specs.Measuring.{measured}
 use Rattle.hextile.proofs.FieldsRead.{head_is, head_again, bytes_of_field, inside_is, names_of, names_more, allowed_is, allowed_again, forbidden_again, refused_is_not_raw}
 use Rattle.hextile.proofs.TilesRead.{subrectangle_read, subrectangles_refused, mask_first, tile_read, tile_again}
 
@@ -281,5 +281,5 @@ refused_again f w h bytes is =
 
 pub measured_is_refused : (f : Format) (w h : ℕ) (bytes : List ℕ) → measured (length bytes) (data_at f w h bytes) ≡ Err answers.Bad → IsRefused f w h bytes
 measured_is_refused f w h bytes e =
-    let bad = measured_bad answers.NeedMore answers.Bad (length bytes) (data_at f w h bytes) (λ same. absurd (cc)) e in
+    let bad = measured_bad (length bytes) (data_at f w h bytes) e in
     refused_read f w h bytes (bad.1 ∙ ap (λ z. Bad z) (one_fault bad.0))

@@ -15,8 +15,8 @@ use Rattle.hextile.specs.declared.measuring.Measuring.{Measuring}
 use Rattle.hextile.specs.declared.measuring.Measuring.TheVariants as stages
 use Rattle.hextile.specs.Tiles.{tiles_across, tile_count}
 use Rattle.hextile.specs.Grammar.{Tile, Raw, Parts, Fault, Refused, mask_of, is_allowed, pixel_if, color_if, head_bytes, subrectangle_bytes, background_in, foreground_in, count_in, subrectangle_of, is_inside, subrectangle_at, subrectangles_at, raw_at, parts_at, body_at, tile_at, named_with, tiles_at, colors_of, data_at}
-use Rattle.hextile.specs.declared.fault.Measure.TheVariants as answers
-use Rattle.hextile.specs.Measuring.{named_by, width_of, height_of, wants_of, judged, following, body_left, parts_left, resume, go_on, measured}
+use Rattle.hextile.specs.Measuring.{named_by, width_of, height_of, wants_of, following, body_left, parts_left, resume, go_on}
+use Rattle.terms.specs.Measuring.{judged, measured}
 
 -- ---- readings
 
@@ -163,12 +163,6 @@ unfolding tiles_across
 no_pixels w h (inl none) = rw none (mul-zero _)
 no_pixels w h (inr none) = rw none (zero-mul _)
 
--- the length of what is whole is that of what is judged whole
-pub measured_judged : {A : Type 0} (size : ℕ) (r : Reading A Fault) → measured size (judged r) ≡ measured size r
-measured_judged size (Got x rest) = refl
-measured_judged size More = refl
-measured_judged size (Bad fault) = refl
-
 pub head_whole : (f : Format) (head : TileHead) (first more : List ℕ) → length first ≡ head_bytes f head.mask
     → resume f (stages.Head head) (first ++ more) ≡ parts_left f head.tile head.mask.colored (count_in f head.mask first) more
 unfolding resume
@@ -245,43 +239,24 @@ run_parts n bytes front rest is =
 -- ---- all the fields of bytes
 
 -- what is judged of the bytes' front is judged of the bytes
-all_is : (f : Format) (w h n : ℕ) (bytes : List ℕ) (first : Measuring) (next : Option Measuring)
+pub all_is : (f : Format) (w h n : ℕ) (bytes : List ℕ) (first : Measuring) (next : Option Measuring)
     → ((more : List ℕ) → resume f first more ≡ judged (data_at f w h more))
     → ((more : List ℕ) → resume f first (take n bytes ++ more) ≡ go_on f next more)
     → judged (data_at f w h bytes) ≡ go_on f next (drop n bytes)
 all_is f w h n bytes first next starts goes =
     sym (starts bytes) ∙ ap (resume f first) (sym (take-append-drop n bytes)) ∙ goes (drop n bytes)
 
-pub all_whole : (f : Format) (w h n : ℕ) (bytes : List ℕ) (first : Measuring) → n ≤ length bytes
-    → ((more : List ℕ) → resume f first more ≡ judged (data_at f w h more))
-    → ((more : List ℕ) → resume f first (take n bytes ++ more) ≡ go_on f None more)
-    → Ok n ≡ measured (length bytes) (data_at f w h bytes)
-unfolding go_on
-all_whole f w h n bytes first within starts goes =
-    let size : length bytes - length (drop n bytes) ≡ n = rw (length-drop n bytes) (omega (arith, within)) in
-    sym (sym (measured_judged (length bytes) (data_at f w h bytes)) ∙ ap (measured (length bytes)) (all_is f w h n bytes first None starts goes) ∙ ap Ok size)
-
 pub all_waits : (f : Format) (w h n : ℕ) (bytes : List ℕ) (first next : Measuring) → n ≤ length bytes → length bytes < n + wants_of f next
     → ((more : List ℕ) → resume f first more ≡ judged (data_at f w h more))
     → ((more : List ℕ) → resume f first (take n bytes ++ more) ≡ go_on f (Some next) more)
-    → Err answers.NeedMore ≡ measured (length bytes) (data_at f w h bytes)
+    → judged (data_at f w h bytes) ≡ More
 unfolding go_on
 all_waits f w h n bytes first next within few starts goes =
     let short : length (drop n bytes) < wants_of f next = rw (length-drop n bytes) (omega (arith, few, within)) in
-    sym (sym (measured_judged (length bytes) (data_at f w h bytes))
-    ∙ ap (measured (length bytes)) (all_is f w h n bytes first (Some next) starts goes ∙ field_waits f next (drop n bytes) short))
+    all_is f w h n bytes first (Some next) starts goes ∙ field_waits f next (drop n bytes) short
 
 pub all_refused : (f : Format) (w h : ℕ) (bytes : List ℕ) (first : Measuring)
     → ((more : List ℕ) → resume f first more ≡ judged (data_at f w h more))
     → ((more : List ℕ) → resume f first (bytes ++ more) ≡ Bad Refused)
-    → Err answers.Bad ≡ measured (length bytes) (data_at f w h bytes)
-all_refused f w h bytes first starts refused =
-    sym (sym (measured_judged (length bytes) (data_at f w h bytes))
-    ∙ ap (measured (length bytes)) (sym (starts bytes) ∙ ap (resume f first) (sym (append-nil bytes)) ∙ refused []))
-
-pub all_none : (f : Format) (w h : ℕ) (bytes : List ℕ) → go_on f None bytes ≡ judged (data_at f w h bytes)
-    → Ok 0 ≡ measured (length bytes) (data_at f w h bytes)
-unfolding go_on
-all_none f w h bytes starts =
-    let size : length bytes - length bytes ≡ 0 = omega arith in
-    sym (sym (measured_judged (length bytes) (data_at f w h bytes)) ∙ ap (measured (length bytes)) (sym starts) ∙ ap Ok size)
+    → judged (data_at f w h bytes) ≡ Bad Refused
+all_refused f w h bytes first starts refused = sym (starts bytes) ∙ ap (resume f first) (sym (append-nil bytes)) ∙ refused []

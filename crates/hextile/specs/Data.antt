@@ -4,6 +4,8 @@ use Rattle.std.specs.Prelude.{◌≡◌, ℕ, ◌+◌, ◌*◌, ◌/◌, ◌%◌
 use Rattle.pixel_format.specs.declared.Color.{Color}
 use Rattle.pixel_format.specs.Format.{Format}
 use Rattle.pixel_format.specs.Pixel.{IsPixel, ArePixels}
+use Rattle.terms.specs.Area as areas
+use Rattle.terms.specs.declared.area.Area.{Area}
 use Rattle.hextile.specs.declared.fields.Subrectangle.{Subrectangle}
 use Rattle.hextile.specs.declared.fields.Mask.{Mask}
 use Rattle.hextile.specs.Tiles.{tile_count, tile_width, tile_height}
@@ -50,10 +52,13 @@ abbrev pub IsCountIf : Bool → ℕ → List ℕ → Type 0
 IsCountIf true count bytes = bytes ≡ count ∷ []
 IsCountIf false count bytes = (count ≡ 0) × (bytes ≡ [])
 
+-- the area of a subrectangle
+abbrev pub area_of : Subrectangle → Area
+area_of s = record { x = s.x; y = s.y; w = s.w; h = s.h }
+
 -- the subrectangle lies within a tile of w by h
-pub record LiesWithin (w h : ℕ) (s : Subrectangle) : Type 0 where
-  pub columns : s.x + s.w ≤ w
-  pub rows : s.y + s.h ≤ h
+abbrev pub LiesWithin : ℕ → ℕ → Subrectangle → Type 0
+LiesWithin w h s = areas.LiesWithin w h (area_of s)
 
 -- bytes of a subrectangle: a pixel, if it is coloured; x and y; width and height less one
 pub record AreBytesOf (f : Format) (colored : Bool) (s : Subrectangle) (bytes : List ℕ) : Type 0 where

@@ -1,11 +1,10 @@
 -- What is left of data that are judged field by field.
 use Rattle.std.specs.Prelude.{ℕ, suc, ◌-◌, ◌*◌, List, Option, Some, None, Result, Bool, ◌||◌}
 use Rattle.pixel_format.specs.Format.{Format, pixel_bytes}
-use Rattle.terms.specs.Reading.{Reading, Got, ◌>>=◌, field, measured_as}
+use Rattle.terms.specs.Reading.{Reading, Got, ◌>>=◌, field}
 use Rattle.hextile.specs.declared.fields.Mask.{Mask}
 use Rattle.hextile.specs.declared.fields.Named.{Named}
-use Rattle.hextile.specs.declared.fault.Measure.{Measure}
-use Rattle.hextile.specs.declared.fault.Measure.TheVariants as answers
+use Rattle.terms.specs.Measuring.{judged}
 use Rattle.hextile.specs.declared.position.Position.{Position}
 use Rattle.hextile.specs.declared.measuring.Measuring.{Measuring}
 use Rattle.hextile.specs.declared.measuring.Measuring.TheVariants as stages
@@ -33,10 +32,6 @@ wants_of f (stages.Pixels tile) = width_of tile * height_of tile * pixel_bytes f
 wants_of f (stages.Head head) = head_bytes f head.mask
 wants_of f (stages.Subrectangle tile colored others) = subrectangle_bytes f colored
 
--- whether data are whole, faulty or too short, whatever they say
-abbrev pub judged : {A : Type 0} → Reading A Fault → Reading Unit Fault
-judged r = r >>= λ content rest. Got tt rest
-
 -- the tiles after this one
 unfoldable pub following : Format → Position → List ℕ → Reading Unit Fault
 following f tile bytes = judged (tiles_at f tile.w tile.h tile.named tile.more bytes)
@@ -63,7 +58,3 @@ resume f (stages.Subrectangle tile colored others) bytes = parts_left f tile col
 unfoldable pub go_on : Format → Option Measuring → List ℕ → Reading Unit Fault
 go_on f None bytes = Got tt bytes
 go_on f (Some stage) bytes = resume f stage bytes
-
--- what a reading of so many bytes is to one who measures: the length of what is whole
-abbrev pub measured : {A : Type 0} → ℕ → Reading A Fault → Result ℕ Measure
-measured size r = measured_as answers.NeedMore answers.Bad size r

@@ -14,7 +14,7 @@ use crate::position::{count_tiles, tile_area};
 use crate::writing::{Known, append_parts_tile, append_raw_tile};
 use pixel_format::{Color, PixelFormat, Pixels, same};
 use std::alloc::Global;
-use terms::{NoMemory, whole_or_none};
+use terms::{NoMemory, keep_below, whole_or_none};
 
 const NOTHING_KNOWN: Known = Known {
     background: None,
@@ -211,9 +211,5 @@ pub fn encode_numbers_below(
 {
     let before = bytes.len();
     encode_numbers(format, pixels, bytes)?;
-    if bytes.len() - before < limit {
-        return Ok(true);
-    }
-    bytes.truncate(before);
-    Ok(false)
+    Ok(keep_below(limit, before, bytes))
 }

@@ -4,7 +4,6 @@
 
 mod cover;
 mod encoding;
-mod fault;
 mod fields;
 mod laws;
 mod measuring;
@@ -13,9 +12,9 @@ mod position;
 mod writing;
 
 pub use encoding::{encode, encode_numbers_below};
-pub use fault::Measure;
 pub use fields::{Mask, Named, Subrectangle};
 pub use laws::{grammar_reads_data, no_data_begin_others, one_reading_of_data};
 pub use measuring::{Measuring, measure};
 pub use painting::paint;
 pub use position::{Position, TileHead};
+pub use terms::NoLength;

@@ -2,10 +2,10 @@
 
 ghost use Rattle.std.specs.Prelude.{◌≡◌, ◌<◌, ◌≤◌, ◌||◌, true};
 
-use crate::fault::Measure;
 use crate::fields::{Mask, Named, is_part_inside, may_stand, pixel_size, read_count, read_mask};
 use crate::position::{Position, TileHead, count_tiles};
 use pixel_format::PixelFormat;
+use terms::{NoLength, whole_length};
 
 /// Which field of a rectangle's data comes next: what stands for the part that is judged. Data that
 /// come in pieces are judged by [`run`](Measuring::run), from [`start`](Measuring::start) on, and no
@@ -32,7 +32,8 @@ ghost use Rattle.terms.specs.Reading.{Bad};
 ghost use Rattle.pixel_format.specs.Format.{Format};
 ghost use Rattle.hextile.specs.Grammar.{Refused, mask_of, head_bytes, subrectangle_bytes, tiles_at, data_at};
 ghost use Rattle.hextile.specs.Data.{AreData, IsRefused};
-ghost use Rattle.hextile.specs.Measuring.{named_by, following, body_left, parts_left, go_on, resume, wants_of, judged, measured};
+ghost use Rattle.hextile.specs.Measuring.{named_by, following, body_left, parts_left, go_on, resume, wants_of};
+ghost use Rattle.terms.specs.Measuring.{judged, measured};
 
 // The field after a tile: the next one's mask.
 fn next_tile(tile: Position) -> Option<Measuring>
@@ -72,14 +73,14 @@ fn judge_parts(
     colored: bool,
     others: u8,
     bytes: &[u8],
-) -> Result<(usize, Option<Measuring>), Measure>
+) -> Result<(usize, Option<Measuring>), NoLength>
     requires { subrectangle_bytes format.now colored ≤ length bytes.now }
     ensures taken { IfOk result (λ x. (subrectangle_bytes format.now colored ≤ x.0) × (x.0 ≤ length bytes.now)) }
     ensures goes { IfOk result (λ x. (more : List ℕ)
         → parts_left format.now tile colored (suc others) (take x.0 bytes.now ++ more) ≡ go_on format.now x.1 more) }
     ensures refused { IfErr result (λ _. (more : List ℕ)
         → parts_left format.now tile colored (suc others) (bytes.now ++ more) ≡ Bad Refused) }
-    ensures only { IfErr result (λ fault. fault ≡ Measure.Bad) }
+    ensures only { IfErr result (λ fault. fault ≡ NoLength.Bad) }
 {
     let size = pixel_size(format, colored) + 2;
     let area = tile.area();
@@ -88,7 +89,7 @@ fn judge_parts(
     while left > 0 && rest.len() >= size {
         let (part, following) = rest.split_at(size);
         if !is_part_inside(format, colored, part, area.w, area.h) {
-            return Err(Measure::Bad);
+            return Err(NoLength::Bad);
         }
         left -= 1;
         rest = following;
@@ -172,14 +173,14 @@ impl Measuring {
         self,
         format: &PixelFormat,
         bytes: &[u8],
-    ) -> Result<Option<(usize, Option<Measuring>)>, Measure>
+    ) -> Result<Option<(usize, Option<Measuring>)>, NoLength>
         ensures taken { IfOk result (λ o. IfSome o (λ x. (0 < x.0) × (wants_of format.now self ≤ x.0) × (x.0 ≤ length bytes.now))) }
         ensures goes { IfOk result (λ o. IfSome o (λ x. (more : List ℕ)
             → resume format.now self (take x.0 bytes.now ++ more) ≡ go_on format.now x.1 more)) }
         ensures waits { result ≡ Ok None → length bytes.now < wants_of format.now self }
         ensures refused { IfErr result (λ _. (more : List ℕ)
             → resume format.now self (bytes.now ++ more) ≡ Bad Refused) }
-        ensures only { IfErr result (λ fault. fault ≡ Measure.Bad) }
+        ensures only { IfErr result (λ fault. fault ≡ NoLength.Bad) }
     {
         let wants = self.wants(format);
         if bytes.len() < wants {
@@ -190,7 +191,7 @@ impl Measuring {
             Measuring::Mask(tile) => {
                 let mask = read_mask(field[0]);
                 if !may_stand(tile.named, field[0], mask) {
-                    return Err(Measure::Bad);
+                    return Err(NoLength::Bad);
                 }
                 Ok(Some((wants, next_field(tile, mask))))
             }
@@ -212,13 +213,13 @@ impl Measuring {
     }
 
     /// Judges the whole fields that the bytes begin with. Answers how many bytes they have, and the
-    /// field after them, which isn't whole in the bytes, `None` if the data end; and `Measure::Bad`
+    /// field after them, which isn't whole in the bytes, `None` if the data end; and `NoLength::Bad`
     /// if one of them is a mask that may not stand there, or a subrectangle that leaves its tile.
     pub fn run(
         self,
         format: &PixelFormat,
         bytes: &[u8],
-    ) -> Result<(usize, Option<Measuring>), Measure>
+    ) -> Result<(usize, Option<Measuring>), NoLength>
         ensures taken { IfOk result (λ x. x.0 ≤ length bytes.now) }
         ensures first { IfOk result (λ x. wants_of format.now self ≤ length bytes.now → wants_of format.now self ≤ x.0) }
         ensures goes { IfOk result (λ x. (more : List ℕ)
@@ -226,7 +227,7 @@ impl Measuring {
         ensures waits { IfOk result (λ x. IfSome x.1 (λ next. length bytes.now < x.0 + wants_of format.now next)) }
         ensures refused { IfErr result (λ _. (more : List ℕ)
             → resume format.now self (bytes.now ++ more) ≡ Bad Refused) }
-        ensures only { IfErr result (λ fault. fault ≡ Measure.Bad) }
+        ensures only { IfErr result (λ fault. fault ≡ NoLength.Bad) }
     {
         let mut rest = bytes;
         let mut next = Some(self);
@@ -242,28 +243,26 @@ impl Measuring {
 }
 
 // The same as `measure`, in the words of the grammar.
-fn measure_by_fields(format: &PixelFormat, w: u16, h: u16, bytes: &[u8]) -> Result<usize, Measure>
+fn measure_by_fields(format: &PixelFormat, w: u16, h: u16, bytes: &[u8]) -> Result<usize, NoLength>
     ensures { result ≡ measured (length bytes.now) (data_at format.now w h bytes.now) }
 {
     let Some(first) = Measuring::start(w, h) else {
         return Ok(0);
     };
-    match first.run(format, bytes)? {
-        (taken, None) => Ok(taken),
-        (_, Some(_)) => Err(Measure::NeedMore),
-    }
+    let (taken, following) = first.run(format, bytes)?;
+    whole_length(taken, following)
 }
 
 /// The length of the data of a rectangle of w by h that begin the bytes (RFC 6143, section 7.7.4);
-/// of a rectangle of no area it is 0. `Measure::Bad` comes at the byte of the first mask that may
+/// of a rectangle of no area it is 0. `NoLength::Bad` comes at the byte of the first mask that may
 /// not stand there, or at the last byte of the first subrectangle that leaves its tile, whichever
-/// comes first, and `Measure::NeedMore` for all other bytes that no data begin. It takes no memory.
-pub fn measure(format: &PixelFormat, w: u16, h: u16, bytes: &[u8]) -> Result<usize, Measure>
+/// comes first, and `NoLength::NeedMore` for all other bytes that no data begin. It takes no memory.
+pub fn measure(format: &PixelFormat, w: u16, h: u16, bytes: &[u8]) -> Result<usize, NoLength>
     ensures value { result ≡ measured (length bytes.now) (data_at format.now w h bytes.now) }
     ensures ok { IfOk result (λ n. (n ≤ length bytes.now) × AreData format.now w h (take n bytes.now)) }
     ensures whole { (front more : List ℕ) → bytes.now ≡ front ++ more → AreData format.now w h front
         → result ≡ Ok (length front) }
-    ensures bad { (result ≡ Err Measure.Bad) ↔ IsRefused format.now w h bytes.now }
+    ensures bad { (result ≡ Err NoLength.Bad) ↔ IsRefused format.now w h bytes.now }
 {
     measure_by_fields(format, w, h, bytes)
 }

@@ -4,6 +4,7 @@ ghost use Rattle.std.specs.Prelude.{◌≡◌, ℕ, List, ◌<◌, ◌≤◌, �
 ghost use Rattle.pixel_format.specs.Format.{pixel_bytes};
 ghost use Rattle.pixel_format.specs.Pixel.{pixel_color};
 ghost use Rattle.pixel_format.specs.Canvas.{laid_over, pixel_rows, Agree};
+ghost use Rattle.terms.specs.Area.{LiesWithin};
 ghost use Rattle.terms.specs.Reading.{Got};
 ghost use Rattle.hextile.specs.declared.fields.Subrectangle.{Subrectangle};
 ghost use Rattle.hextile.specs.declared.fields.Named.{Named};
@@ -13,8 +14,9 @@ ghost use Rattle.hextile.specs.Picture.{tile_picture, painted_over};
 ghost use Rattle.hextile.specs.Painting.{named_in_head, carried, BeginsWithTile, BeginsWithParts, PartsPainted};
 
 use crate::fields::{Mask, pixel_size, read_count, read_mask, read_subrectangle};
-use crate::position::{TileArea, count_tiles, tile_area};
+use crate::position::{count_tiles, tile_area};
 use pixel_format::{Canvas, Color, PixelFormat};
+use terms::Area;
 
 const BLACK: Color = Color { r: 0, g: 0, b: 0 };
 
@@ -59,10 +61,9 @@ fn name_colors(format: &PixelFormat, mask: Mask, head: &[u8], colors: TileColors
 }
 
 // Paints pixels by rows into a tile's area of the canvas.
-fn paint_pixels<C: Canvas>(format: &PixelFormat, area: TileArea, pixels: &[u8], canvas: &mut C)
+fn paint_pixels<C: Canvas>(format: &PixelFormat, area: Area, pixels: &[u8], canvas: &mut C)
     requires size { length pixels.now ≡ area.w * area.h * pixel_bytes format.now }
-    requires columns { area.x + area.w ≤ C.width canvas.old }
-    requires rows { area.y + area.h ≤ C.height canvas.old }
+    requires within { LiesWithin (C.width canvas.old) (C.height canvas.old) area }
     requires last_column { area.x + area.w < 2 ^ 16 }
     requires last_row { area.y + area.h < 2 ^ 16 }
     requires held { (pixel : List ℕ) → C.holds (pixel_color format.now pixel) }
@@ -71,23 +72,17 @@ fn paint_pixels<C: Canvas>(format: &PixelFormat, area: TileArea, pixels: &[u8], 
     ensures width { C.width canvas.new ≡ C.width canvas.old }
     ensures height { C.height canvas.new ≡ C.height canvas.old }
 {
-    let (w, h) = (area.w as u16, area.h as u16);
     if format.is_host() {
-        canvas.host_pixels(area.x, area.y, w, h, pixels);
-        return;
-    }
-    let size = format.bytes();
-    for k in 0..w * h {
-        let start = k as usize * size;
-        let color = format.pixel(&pixels[start..start + size]);
-        canvas.fill(area.x + k % w, area.y + k / w, 1, 1, color);
+        canvas.host_pixels(area, pixels);
+    } else {
+        canvas.pixels(format, area, pixels);
     }
 }
 
 // Paints subrectangles into a tile's area of the canvas, and answers the bytes after them.
 fn paint_parts<'a, 'b, 'c, C: Canvas>(
     format: &'b PixelFormat,
-    area: TileArea,
+    area: Area,
     colored: bool,
     count: u8,
     foreground: Color,
@@ -95,8 +90,7 @@ fn paint_parts<'a, 'b, 'c, C: Canvas>(
     canvas: &'c mut C,
 ) -> &'a [u8]
     requires begin { BeginsWithParts format.now colored area.w area.h count bytes.now }
-    requires columns { area.x + area.w ≤ C.width canvas.old }
-    requires rows { area.y + area.h ≤ C.height canvas.old }
+    requires within { LiesWithin (C.width canvas.old) (C.height canvas.old) area }
     requires last_column { area.x + area.w < 2 ^ 16 }
     requires last_row { area.y + area.h < 2 ^ 16 }
     requires held { (pixel : List ℕ) → C.holds (pixel_color format.now pixel) }
@@ -114,9 +108,13 @@ fn paint_parts<'a, 'b, 'c, C: Canvas>(
     for _ in 0..count {
         let (field, following) = rest.split_at(size);
         let part = read_subrectangle(format, colored, field);
-        let (x, y) = (area.x + part.x as u16, area.y + part.y as u16);
-        let color = part.color.unwrap_or(foreground);
-        canvas.fill(x, y, part.w as u16, part.h as u16, color);
+        let filled = Area {
+            x: area.x + part.x as u16,
+            y: area.y + part.y as u16,
+            w: part.w as u16,
+            h: part.h as u16,
+        };
+        canvas.fill(filled, part.color.unwrap_or(foreground));
         rest = following;
     }
     rest
@@ -125,14 +123,13 @@ fn paint_parts<'a, 'b, 'c, C: Canvas>(
 // Paints a tile into its area of the canvas, and answers the bytes after it.
 fn paint_tile<'a, 'b, 'c, 'd, C: Canvas>(
     format: &'b PixelFormat,
-    area: TileArea,
+    area: Area,
     colors: &'d mut TileColors,
     bytes: &'a [u8],
     canvas: &'c mut C,
 ) -> &'a [u8]
     requires begin { BeginsWithTile format.now area.w area.h bytes.now }
-    requires columns { area.x + area.w ≤ C.width canvas.old }
-    requires rows { area.y + area.h ≤ C.height canvas.old }
+    requires within { LiesWithin (C.width canvas.old) (C.height canvas.old) area }
     requires last_column { area.x + area.w < 2 ^ 16 }
     requires last_row { area.y + area.h < 2 ^ 16 }
     requires held { (pixel : List ℕ) → C.holds (pixel_color format.now pixel) }
@@ -161,13 +158,7 @@ fn paint_tile<'a, 'b, 'c, 'd, C: Canvas>(
     }
     let (head, parts) = body.split_at(head_size(format, mask));
     *colors = name_colors(format, mask, head, *colors);
-    canvas.fill(
-        area.x,
-        area.y,
-        area.w as u16,
-        area.h as u16,
-        colors.background,
-    );
+    canvas.fill(area, colors.background);
     let count = read_count(format, mask, head);
     paint_parts(
         format,
@@ -180,27 +171,18 @@ fn paint_tile<'a, 'b, 'c, 'd, C: Canvas>(
     )
 }
 
-/// Paints a rectangle of w by h whose upper left corner is the pixel (x, y) of the canvas, from its
-/// data: the bytes that [`measure`](crate::measure) takes whole (RFC 6143, section 7.7.4). The
-/// other pixels stay as they were. The canvas can have the colours of the format's pixels. It takes
-/// no memory.
-pub fn paint<C: Canvas>(
-    format: &PixelFormat,
-    x: u16,
-    y: u16,
-    w: u16,
-    h: u16,
-    bytes: &[u8],
-    canvas: &mut C,
-)
-    requires whole { AreData format.now w h bytes.now }
-    requires columns { x + w ≤ C.width canvas.old }
-    requires rows { y + h ≤ C.height canvas.old }
-    requires last_column { x + w < 2 ^ 16 }
-    requires last_row { y + h < 2 ^ 16 }
+/// Paints a rectangle of this area of the canvas from its data: the bytes that
+/// [`measure`](crate::measure) takes whole (RFC 6143, section 7.7.4). The other pixels stay as they
+/// were. The canvas can have the colours of the format's pixels. It takes no memory.
+pub fn paint<C: Canvas>(format: &PixelFormat, area: Area, bytes: &[u8], canvas: &mut C)
+    requires whole { AreData format.now area.w area.h bytes.now }
+    requires within { LiesWithin (C.width canvas.old) (C.height canvas.old) area }
+    requires last_column { area.x + area.w < 2 ^ 16 }
+    requires last_row { area.y + area.h < 2 ^ 16 }
     requires held { (pixel : List ℕ) → C.holds (pixel_color format.now pixel) }
-    ensures painted { (tiles : List Tile) → IsData format.now w h bytes.now tiles
-        → Agree (C.width canvas.old) (C.height canvas.old) (C.picture canvas.new) (painted_over x y w h tiles (C.picture canvas.old)) }
+    ensures painted { (tiles : List Tile) → IsData format.now area.w area.h bytes.now tiles
+        → Agree (C.width canvas.old) (C.height canvas.old) (C.picture canvas.new)
+        (painted_over area.x area.y area.w area.h tiles (C.picture canvas.old)) }
     ensures width { C.width canvas.new ≡ C.width canvas.old }
     ensures height { C.height canvas.new ≡ C.height canvas.old }
 {
@@ -209,14 +191,14 @@ pub fn paint<C: Canvas>(
         foreground: BLACK,
     };
     let mut rest = bytes;
-    for number in 0..count_tiles(w, h) {
-        let tile = tile_area(w, h, number);
-        let area = TileArea {
-            x: x + tile.x,
-            y: y + tile.y,
-            w: tile.w,
-            h: tile.h,
+    for number in 0..count_tiles(area.w, area.h) {
+        let tile = tile_area(area.w, area.h, number);
+        let painted = Area {
+            x: area.x + tile.x,
+            y: area.y + tile.y,
+            w: tile.w as u16,
+            h: tile.h as u16,
         };
-        rest = paint_tile(format, area, &mut colors, rest, canvas);
+        rest = paint_tile(format, painted, &mut colors, rest, canvas);
     }
 }

@@ -4,9 +4,10 @@ ghost use Rattle.std.specs.Prelude.{◌≤◌, ◌+◌, length, IfSome};
 ghost use Rattle.pixel_format.specs.Format.{host_format};
 ghost use Rattle.hextile.specs.Data.{AreData};
 
-use hextile::{Measure, measure, paint};
+use hextile::{measure, paint};
 use pixel_format::{Color, PixelFormat};
 use std::io;
+use terms::{Area, NoLength};
 use wire_tests::{HEIGHT, TestCanvas, WIDTH, hextile_in_pieces};
 
 const BLACK: Color = Color { r: 0, g: 0, b: 0 };
@@ -37,7 +38,7 @@ fn first_rectangle(bytes: &[u8]) -> Option<Rectangle<'_>>
     let length = measure(&host, w, h, rest).ok()?;
     let in_pieces = hextile_in_pieces(&host, w, h, rest).ok()?;
     let needs_all = length > 0
-        && measure(&host, w, h, &rest[..length - 1]) == Err(Measure::NeedMore);
+        && measure(&host, w, h, &rest[..length - 1]) == Err(NoLength::NeedMore);
     if w > WIDTH || h > HEIGHT || in_pieces != length || !needs_all {
         return None;
     }
@@ -56,15 +57,13 @@ impl Rectangle<'_> {
         requires rows { self.now.h ≤ 120 }
     {
         let mut test_canvas = TestCanvas::new(BLACK);
-        paint(
-            &PixelFormat::host(),
-            0,
-            0,
-            self.w,
-            self.h,
-            self.bytes,
-            &mut test_canvas,
-        );
+        let area = Area {
+            x: 0,
+            y: 0,
+            w: self.w,
+            h: self.h,
+        };
+        paint(&PixelFormat::host(), area, self.bytes, &mut test_canvas);
         let mut sum = 0u32;
         for y in 0..self.h {
             for x in 0..self.w {

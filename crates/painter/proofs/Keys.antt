@@ -11,7 +11,7 @@ use Rattle.terms.specs.Appending.{Appends}
 use Rattle.terms.specs.declared.area.Area.{Area}
 use Rattle.terms.specs.declared.screen_size.ScreenSize.{ScreenSize}
 use Rattle.pixel_format.specs.Canvas.{Picture, rows_of}
-use Rattle.rect_data.specs.Data.{LiesWithin}
+use Rattle.terms.specs.Area.{LiesWithin}
 use Rattle.rect_data.specs.declared.encoding.Encoding.{Encoding}
 use Rattle.rect_data.specs.declared.encoding.Encoding.TheVariants as encodings
 use Rattle.rect_codec.specs.Parts.{parts_head, IsRectangle, IsUpdateFor, AreParts}

@@ -13,7 +13,8 @@ use Rattle.rect_data.specs.declared.encoding.Encoding.TheVariants as encodings
 use Rattle.rect_data.specs.Grammar.{source_of}
 use Rattle.rect_data.specs.Data.{AreData}
 use Rattle.rfb_wire.specs.Host.{Host, IsPlaced}
-use Rattle.rect_codec.specs.Picture.{is_in, copied_picture, picture_of, painted_data}
+use Rattle.terms.specs.Area.{is_in}
+use Rattle.rect_codec.specs.Picture.{copied_picture, picture_of, painted_data}
 use Rattle.painter.specs.Picture.{painted_rectangle, painted_rectangles, painted_message, painted_over}
 use Rattle.painter.proofs.Region.{IsIn, in_is}
 

@@ -6,7 +6,7 @@ use borrow.Rule.Slice.PartMut.{put_mid}
 use Rattle.std.proofs.lemmas.Nat.{mul-add-lt}
 use Rattle.terms.specs.declared.area.Area.{Area}
 pub use Rattle.terms.proofs.Areas.{IsIn, in_is, is_in_true}
-use Rattle.rect_codec.specs.Picture.{is_in}
+use Rattle.terms.specs.Area.{is_in}
 
 -- two areas that agree on a pixel
 pub same_in : (a b : Area) (x y : ℕ) → (IsIn a x y → IsIn b x y) → (IsIn b x y → IsIn a x y) → is_in a x y ≡ is_in b x y

@@ -11,7 +11,8 @@ use Rattle.pixel_format.specs.Pixel.{host_color}
 use Rattle.terms.specs.declared.area.Area.{Area}
 use Rattle.painter.specs.declared.pixel.Pixel.{Pixel}
 use Rattle.pixel_format.specs.Format.{host_format}
-use Rattle.rect_codec.specs.Picture.{is_in, raw_picture, copied_picture}
+use Rattle.terms.specs.Area.{is_in}
+use Rattle.rect_codec.specs.Picture.{raw_picture, copied_picture}
 use Rattle.painter.specs.Pixels.{black_pixel, color_of, pixel_color_at, color_in, pixel_at}
 use Rattle.painter.proofs.Region.{IsIn, in_is, is_in_true, same_in, below_part, in_part, above_part, row_before}
 

@@ -26,7 +26,8 @@ use Rattle.std.proofs.lemmas.Nat.{mul-add-lt}
 use Rattle.rfb_wire.specs.Host.{Host, IsPlaced}
 use Rattle.painter.specs.declared.pixel.Pixel.{Pixel}
 use Rattle.painter.specs.Framebuffer.{Framebuffer, color_at, Has, Shows}
-use Rattle.rect_codec.specs.Picture.{is_in, raw_picture, rre_shown, hextile_shown, shown_at, painted_data}
+use Rattle.terms.specs.Area.{is_in}
+use Rattle.rect_codec.specs.Picture.{raw_picture, rre_shown, hextile_shown, shown_at, painted_data}
 use Rattle.painter.specs.Picture.{black, painted_rectangle, painted_rectangles, painted_message, painted}
 use Rattle.painter.specs.Pixels.{black_pixel, color_of, pixel_color_at, color_in}
 use Rattle.painter.proofs.Order.{no_rectangle, last_painted, agree_data, agree_rectangles, one_message_more, no_messages}

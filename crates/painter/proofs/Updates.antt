@@ -8,11 +8,14 @@ use Rattle.pixel_format.specs.declared.Color.{Color}
 use Rattle.pixel_format.specs.Format.{host_format}
 use Rattle.pixel_format.specs.Canvas.{Picture}
 use Rattle.terms.specs.declared.area.Area.{Area}
-use Rattle.rect_data.specs.Data.{LiesWithin, AreData, number_of}
+use Rattle.rect_data.specs.Data.{AreData, number_of}
+use Rattle.terms.specs.Area.{LiesWithin}
 use Rattle.rect_data.specs.declared.encoding.Encoding.{Encoding}
 use Rattle.rect_data.specs.declared.encoding.Encoding.TheVariants as encodings
 use Rattle.rect_codec.specs.Picture.{painted_data}
 use Rattle.rect_codec.specs.Update.{HasColors}
+use Rattle.terms.specs.Number.{u32_bytes}
+use Rattle.terms.proofs.Areas.{area_back as area_again}
 use Rattle.client_wire.specs.Written.{rectangle_head}
 use Rattle.rect_codec.specs.Parts.{parts_head, IsRectangle as IsRectangleIn}
 use Rattle.rect_codec.specs.Written.{Shows}
@@ -31,12 +34,9 @@ content_is width height area colors encodings.CopyRect body shows = absurd shows
 content_is width height area colors encodings.Rre body shows = (shows.content, shows.is)
 content_is width height area colors encodings.Hextile body shows = (shows.tiles, shows.is)
 
-u16_back : (n : ℕ) → 256 * (n / 256) + n % 256 ≡ n
-u16_back n = omega arith
-
 area_back : (a : Area) (number : ℕ) → area_of (rectangle_head a number) ≡ a
 unfolding area_of
-area_back a number = rw (u16_back a.x, u16_back a.y, u16_back a.w, u16_back a.h) refl
+area_back a number = area_again a (u32_bytes number)
 
 number_back : (a : Area) (number : ℕ) → encoding_number (rectangle_head a number) ≡ number
 unfolding encoding_number
@@ -54,8 +54,7 @@ is_rectangle width height area colors e body inside shows = record {
   header_length = refl;
   area_is = sym (area_back area (number_of e));
   encoding_is = sym (number_back area (number_of e));
-  within_width = inside.columns;
-  within_height = inside.rows;
+  within = inside;
   content_is = content_is width height area colors e body shows;
   start_is = refl;
   end_is = refl;

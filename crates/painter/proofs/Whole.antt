@@ -7,7 +7,8 @@ use Rattle.terms.specs.declared.area.Area.{Area}
 use Rattle.terms.specs.declared.screen_size.ScreenSize.{ScreenSize}
 use Rattle.rect_data.specs.declared.encoding.Encoding.{Encoding}
 use Rattle.rect_data.specs.declared.encoding.Encoding.TheVariants.{Raw, Hextile}
-use Rattle.rect_codec.specs.Picture.{is_in, picture_of, painted_data}
+use Rattle.terms.specs.Area.{is_in}
+use Rattle.rect_codec.specs.Picture.{picture_of, painted_data}
 use Rattle.rfb_wire.specs.declared.message.Rectangle.{Rectangle}
 use Rattle.rfb_wire.specs.Host.{Host}
 use Rattle.painter.specs.Framebuffer.{Framebuffer, color_at, SameSize, Has, IsSame}

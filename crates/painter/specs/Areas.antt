@@ -2,7 +2,7 @@
 use Rattle.std.specs.Prelude.{◌≡◌, ℕ, ◌+◌, ◌*◌, ◌<◌, ◌≤◌, List, if◌then◌else◌}
 use Rattle.pixel_format.specs.Canvas.{Picture}
 use Rattle.terms.specs.declared.area.Area.{Area}
-use Rattle.rect_codec.specs.Picture.{is_in}
+use Rattle.terms.specs.Area.{is_in}
 use Rattle.painter.specs.declared.pixel.Pixel.{Pixel}
 use Rattle.painter.specs.Pixels.{color_in}
 

@@ -1,7 +1,7 @@
 -- Updates of a screen, as they are written.
 use Rattle.std.specs.Prelude.{List, map}
 use Rattle.pixel_format.specs.Format.{Format}
-use Rattle.rect_data.specs.Data.{LiesWithin}
+use Rattle.terms.specs.Area.{LiesWithin}
 use Rattle.rect_codec.specs.declared.parts.Part.{Part}
 use Rattle.rect_codec.specs.declared.parts.Part.TheVariants as parts
 use Rattle.painter.specs.declared.update.ScreenPart.{ScreenPart}

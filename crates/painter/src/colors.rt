@@ -3,6 +3,7 @@
 ghost use Rattle.std.specs.Prelude.{◌≡◌, ◌+◌, ◌*◌, ◌<◌, ◌≤◌, ℕ, length};
 ghost use Rattle.pixel_format.specs.Pixel.{IsScreenColor};
 ghost use Rattle.pixel_format.specs.Canvas.{nth};
+ghost use Rattle.painter.specs.Areas.{LiesIn};
 ghost use Rattle.painter.specs.Pixels.{color_in, pixel_color_at};
 
 use crate::pixel::Pixel;
@@ -23,8 +24,7 @@ fn read_row(pixels: &[Pixel], colors: &mut [Color])
 
 /// The colours of the pixels of an area, row by row.
 pub(crate) fn read_area(pixels: &[Pixel], width: u16, area: Area, colors: &mut [Color])
-    requires columns { area.x + area.w ≤ width }
-    requires rows { (area.y + area.h) * width ≤ length pixels.now }
+    requires area { LiesIn width (length pixels.now) area }
     requires size { length colors.old ≡ area.h * area.w }
     ensures value { (x y : ℕ) → x < area.w → y < area.h → nth colors.new (y * area.w + x)
         ≡ color_in pixels.now width (area.x + x) (area.y + y) }

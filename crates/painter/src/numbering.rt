@@ -6,6 +6,7 @@ ghost use Rattle.pixel_format.specs.Format.{host_format};
 ghost use Rattle.pixel_format.specs.Number.{number_color, IsNumber};
 ghost use Rattle.pixel_format.specs.Pixel.{AreSmall};
 ghost use Rattle.terms.specs.Appending.{Appends};
+ghost use Rattle.painter.specs.Areas.{LiesIn};
 ghost use Rattle.painter.specs.Sent.{seen_colors, seen_area};
 ghost use Rattle.painter.specs.Numbered.{AreNumbersOf, HasNumber};
 
@@ -105,8 +106,7 @@ pub(crate) fn number_area(
     area: Area,
     out: &mut Vec<u32>,
 ) -> Result<(), NoMemory>
-    requires columns { area.x + area.w ≤ width }
-    requires rows { (area.y + area.h) * width ≤ length pixels.now }
+    requires { LiesIn width (length pixels.now) area }
     ensures { OnOk result (Appends (AreNumbersOf format.now (seen_area format.now pixels.now width area area.h)) out.old.items out.new.items) }
 {
     out.reserve(usize::from(area.h) * usize::from(area.w))?;

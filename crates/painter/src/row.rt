@@ -2,6 +2,7 @@
 
 ghost use Rattle.std.specs.Prelude.{◌≡◌, ◌<◌, ◌≤◌, ◌+◌, ◌*◌, ℕ, length, take, drop};
 ghost use Rattle.pixel_format.specs.Pixel.{host_color, IsScreenColor};
+ghost use Rattle.painter.specs.Areas.{LiesIn};
 ghost use Rattle.painter.specs.Pixels.{color_of, pixel_color_at, pixel_at};
 
 use crate::pixel::Pixel;
@@ -18,8 +19,7 @@ pub(crate) const TILE: usize = 16;
 /// The pixels of a row of an area, counted from its top, among pixels that are kept by rows.
 #[inline(always)]
 pub(crate) fn area_row(pixels: &[Pixel], width: u16, area: Area, row: usize) -> &[Pixel]
-    requires columns { area.x + area.w ≤ width }
-    requires rows { (area.y + area.h) * width ≤ length pixels.now }
+    requires area { LiesIn width (length pixels.now) area }
     requires row { row < area.h }
     ensures { result.now ≡ take area.w (drop ((area.y + row) * width + area.x) pixels.now) }
 {

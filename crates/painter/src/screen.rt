@@ -1,6 +1,6 @@
 //! Screens.
 
-ghost use Rattle.std.specs.Prelude.{◌≡◌, ◌↔◌, ◌<◌, ◌≤◌, ◌+◌, ℕ, ◌++◌, ◌∷◌, [], IsTrue, IfOk, OnOk, OnErr, List, length, slice_index_or};
+ghost use Rattle.std.specs.Prelude.{◌≡◌, ◌↔◌, ◌<◌, ℕ, ◌++◌, ◌∷◌, [], IsTrue, IfOk, OnOk, OnErr, List, length, slice_index_or};
 ghost use Rattle.rfb_wire.specs.Host.{Host};
 ghost use Rattle.pixel_format.specs.Pixel.{IsScreenColor};
 ghost use Rattle.painter.specs.Framebuffer.{Framebuffer, color_at, SameSize, Has, AreColorsOf, AppendsColors, IsSame, Shows};
@@ -13,6 +13,7 @@ ghost use Rattle.rect_codec.specs.Written.{ArePixels};
 ghost use Rattle.terms.specs.Appending.{Appends};
 ghost use Rattle.painter.specs.Sent.{area_colors, sent_colors};
 ghost use Rattle.painter.specs.Numbered.{AreNumbersOf};
+ghost use Rattle.terms.specs.Area.{LiesWithin};
 ghost use Rattle.terms.specs.declared.area.Area.{Area};
 
 use crate::colors::read_area;
@@ -83,8 +84,7 @@ impl Screen {
     /// Appends the colours of the pixels of an area, by rows from the top and each from the left.
     /// Running out of memory leaves `out` as it was.
     pub fn area(&self, area: Area, out: &mut Vec<Color>) -> Result<(), NoMemory>
-        requires columns { area.x + area.w ≤ self.now.width }
-        requires rows { area.y + area.h ≤ self.now.height }
+        requires within { LiesWithin self.now.width self.now.height area }
         ensures ok { OnOk result (AppendsColors self.now area out.old.items out.new.items) }
         ensures err { OnErr result (out.new.items ≡ out.old.items) }
     {
@@ -97,7 +97,7 @@ impl Screen {
 
     /// Which colours `area_colors` are: those of the pixels of an area, by rows. (It does nothing.)
     pub fn known_colors(&self)
-        ensures { (area : Area) → area.x + area.w ≤ self.now.width → area.y + area.h ≤ self.now.height
+        ensures { (area : Area) → LiesWithin self.now.width self.now.height area
             → AreColorsOf self.now area (area_colors self.now area) }
     {
         let _ = &self.size;
@@ -112,8 +112,7 @@ impl Screen {
         area: Area,
         out: &mut Vec<u8>,
     ) -> Result<(), NoMemory>
-        requires columns { area.x + area.w ≤ self.now.width }
-        requires rows { area.y + area.h ≤ self.now.height }
+        requires within { LiesWithin self.now.width self.now.height area }
         ensures ok { OnOk result (Appends (ArePixels format.now (sent_colors format.now self.now area)) out.old.items out.new.items) }
         ensures err { OnErr result (out.new.items ≡ out.old.items) }
     {
@@ -129,8 +128,7 @@ impl Screen {
         format: &PixelFormat,
         area: Area,
     ) -> Result<Vec<u32>, NoMemory>
-        requires columns { area.x + area.w ≤ self.now.width }
-        requires rows { area.y + area.h ≤ self.now.height }
+        requires within { LiesWithin self.now.width self.now.height area }
         ensures { IfOk result (λ numbers. AreNumbersOf format.now (sent_colors format.now self.now area) numbers.items) }
     {
         let mut numbers = Vec::new(alloc);
@@ -168,8 +166,7 @@ impl Screen {
     // Paints a rectangle of this area from its data.
     fn paint_data(&mut self, encoding: Encoding, area: Area, bytes: &[u8])
         requires content { AreData host_format self.old.width self.old.height encoding area bytes.now }
-        requires columns { area.x + area.w ≤ self.old.width }
-        requires rows { area.y + area.h ≤ self.old.height }
+        requires within { LiesWithin self.old.width self.old.height area }
         ensures size { SameSize self.old self.new }
         ensures painted { Has self.new (painted_data host_format encoding area bytes.now (color_at self.old)) }
     {
@@ -180,8 +177,8 @@ impl Screen {
             Encoding::CopyRect => {
                 copy_area(&mut self.pixels, width, source_at(area, bytes), area);
             }
-            Encoding::Rre => rre::paint(&host, area.x, area.y, area.w, area.h, bytes, self),
-            Encoding::Hextile => hextile::paint(&host, area.x, area.y, area.w, area.h, bytes, self),
+            Encoding::Rre => rre::paint(&host, area, bytes, self),
+            Encoding::Hextile => hextile::paint(&host, area, bytes, self),
         }
     }
 
@@ -228,17 +225,12 @@ impl Canvas for Screen {
     ghost picture = { color_at };
 
     #[inline(always)]
-    fn fill(&mut self, x: u16, y: u16, w: u16, h: u16, color: Color) {
-        fill_area(
-            &mut self.pixels,
-            self.size.width,
-            Area { x, y, w, h },
-            pixel_of_color(color),
-        );
+    fn fill(&mut self, area: Area, color: Color) {
+        let width = self.size.width;
+        fill_area(&mut self.pixels, width, area, pixel_of_color(color));
     }
 
-    fn host_pixels(&mut self, x: u16, y: u16, w: u16, h: u16, bytes: &[u8]) {
-        let area = Area { x, y, w, h };
+    fn host_pixels(&mut self, area: Area, bytes: &[u8]) {
         paint_raw(&mut self.pixels, self.size.width, area, bytes);
     }
 }

@@ -8,6 +8,7 @@ ghost use Rattle.pixel_format.specs.Pixel.{AreSmall, IsWithin};
 ghost use Rattle.terms.specs.Appending.{Appends, Grows};
 ghost use Rattle.rect_codec.specs.Picture.{pixel_at as wire_pixel};
 ghost use Rattle.rect_codec.specs.Written.{IsPixelOf, ArePixels};
+ghost use Rattle.painter.specs.Areas.{LiesIn};
 ghost use Rattle.painter.specs.Sent.{seen_colors, seen_area};
 
 use crate::pixel::Pixel;
@@ -138,8 +139,7 @@ pub(crate) fn append_area(
     area: Area,
     out: &mut Vec<u8>,
 ) -> Result<(), NoMemory>
-    requires columns { area.x + area.w ≤ width }
-    requires rows { (area.y + area.h) * width ≤ length pixels.now }
+    requires { LiesIn width (length pixels.now) area }
     ensures ok { OnOk result (Appends (ArePixels format.now (seen_area format.now pixels.now width area area.h)) out.old.items out.new.items) }
     ensures grows { Grows out.old.items out.new.items }
 {

@@ -1,7 +1,8 @@
 //! Updates of a screen, as a viewer is sent them.
 
-ghost use Rattle.std.specs.Prelude.{◌≡◌, ◌+◌, ◌<◌, ◌≤◌, ◌^◌, All, OnOk, OnErr, length};
+ghost use Rattle.std.specs.Prelude.{◌≡◌, ◌<◌, ◌^◌, All, OnOk, OnErr, length};
 ghost use Rattle.terms.specs.Appending.{Appends};
+ghost use Rattle.terms.specs.Area.{LiesWithin};
 ghost use Rattle.rect_codec.specs.Parts.{IsRectangleFor, IsPart, AreParts};
 ghost use Rattle.painter.specs.Sent.{sent_colors};
 ghost use Rattle.painter.specs.SentUpdate.{part_of, parts_of, CanBeSent};
@@ -34,7 +35,7 @@ pub enum ScreenPart {
 impl Screen {
     // Appends a rectangle of the pixels of an area: in this encoding if it is shorter so than in
     // Raw, and else in Raw.
-    fn append_slots(
+    fn append_region(
         &self,
         alloc: Global,
         format: &PixelFormat,
@@ -42,8 +43,7 @@ impl Screen {
         encoding: Encoding,
         out: &mut Vec<u8>,
     ) -> Result<(), NoMemory>
-        requires columns { area.x + area.w ≤ self.now.width }
-        requires rows { area.y + area.h ≤ self.now.height }
+        requires within { LiesWithin self.now.width self.now.height area }
         ensures ok { OnOk result (Appends (IsRectangleFor format.now area (sent_colors format.now self.now area) encoding) out.old.items out.new.items) }
         ensures err { OnErr result (out.new.items ≡ out.old.items) }
     {
@@ -79,7 +79,7 @@ impl Screen {
                 source_y,
             } => append_copy(area, source_x, source_y, out),
             ScreenPart::Region { area, encoding } => {
-                self.append_slots(alloc, format, area, encoding, out)
+                self.append_region(alloc, format, area, encoding, out)
             }
         }
     }

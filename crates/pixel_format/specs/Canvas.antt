@@ -1,5 +1,6 @@
 -- Pictures, and the areas of which they are painted.
-use Rattle.std.specs.Prelude.{◌≡◌, ℕ, ◌+◌, ◌-◌, ◌*◌, ◌<◌, ◌&&◌, nat_le, nat_lt, Bool, List, take, drop, slice_index_or, if◌then◌else◌}
+use Rattle.std.specs.Prelude.{◌≡◌, ℕ, ◌+◌, ◌-◌, ◌*◌, ◌<◌, Bool, List, take, drop, slice_index_or, if◌then◌else◌}
+use Rattle.terms.specs.Area.{is_in}
 use Rattle.pixel_format.specs.declared.Color.{Color}
 use Rattle.pixel_format.specs.Format.{Format, pixel_bytes}
 use Rattle.pixel_format.specs.Pixel.{pixel_color}
@@ -11,7 +12,7 @@ Picture = ℕ → ℕ → Color
 
 -- the pixel (column, row) lies in the area of w by h whose upper left corner is (x, y)
 abbrev pub covers : ℕ → ℕ → ℕ → ℕ → ℕ → ℕ → Bool
-covers x y w h column row = (nat_le x column && nat_lt column (x + w)) && (nat_le y row && nat_lt row (y + h))
+covers x y w h = is_in (record { x = x; y = y; w = w; h = h })
 
 -- a picture with one colour in that area, and as it was elsewhere
 abbrev pub filled : ℕ → ℕ → ℕ → ℕ → Color → Picture → Picture

@@ -4,8 +4,7 @@ use Rattle.std.specs.Prelude.{◌||◌, ◌&&◌, Some}
 use Rattle.std.proofs.lemmas.Bool.{cases_lt, cases_order, and_parts, ltb-true, lt-ltb}
 use Rattle.std.proofs.Math.Nat.{mul-le-mul_left}
 use Rattle.terms.specs.declared.area.Area.{Area}
-use Rattle.terms.specs.Area.{is_in, HasPixels, IsSmallest}
-use Rattle.rect_data.specs.Data.{LiesWithin}
+use Rattle.terms.specs.Area.{is_in, HasPixels, IsSmallest, LiesWithin}
 use Rattle.terms.proofs.Areas.{in_is, same_test, or_left, or_right, or_parts, both_true, same_smallest}
 use Rattle.pixel_sets.specs.Bits.{is_set, is_between, IsFirst}
 use Rattle.pixel_sets.specs.declared.pixels.TilePart.{TilePart}

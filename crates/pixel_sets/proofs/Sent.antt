@@ -6,9 +6,8 @@ use Rattle.std.proofs.lemmas.Bool.{and_parts, cases_order}
 use Rattle.std.proofs.lemmas.List.{take_more}
 use Rattle.std.proofs.Math.ListN.{length-append}
 use Rattle.terms.specs.declared.area.Area.{Area}
-use Rattle.terms.specs.Area.{is_in, IsSmallest}
+use Rattle.terms.specs.Area.{is_in, IsSmallest, LiesWithin}
 use Rattle.terms.proofs.Areas.{in_is, is_in_true, or_left, or_right, both_true}
-use Rattle.rect_data.specs.Data.{LiesWithin}
 use Rattle.pixel_sets.specs.declared.pixels.TilePart.{TilePart}
 use Rattle.pixel_sets.specs.Pixels.{PixelSet, holds, tile_of, is_in_some, IsFirstTile, HasNoTile, AreFirstTiles, IsAlone, AreSent}
 

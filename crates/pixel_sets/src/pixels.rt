@@ -1,8 +1,7 @@
 //! Sets of pixels of a screen.
 
 ghost use Rattle.std.specs.Prelude.{◌≡◌, ◌↔◌, ◌+◌, ◌*◌, ◌<◌, ◌||◌, ◌&&◌, not, ℕ, true, All, length, IfOk, IsTrue, MatchOption, if◌then◌else◌};
-ghost use Rattle.terms.specs.Area.{is_in, IsSmallest, IsSmallestOf};
-ghost use Rattle.rect_data.specs.Data.{LiesWithin};
+ghost use Rattle.terms.specs.Area.{is_in, IsSmallest, IsSmallestOf, LiesWithin};
 
 use crate::bits::{are_full, first};
 use crate::tiles::{SIDE, fill_area, smallest_in, tile_area, tile_at, tiles_of};

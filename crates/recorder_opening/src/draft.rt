@@ -1,19 +1,15 @@
-//! The file in which a recording is made before it has its name.
+//! The file in which a recording is made before it has its name: what it is called, and what may be
+//! replaced there.
 
 ghost use Rattle.std.specs.Prelude.{◌≡◌, [], List, IfOk, true};
 ghost use Rattle.recording_bytes.specs.Recording.{Block, Head, Recording};
 
 use disk::MemoryDisk;
-use file_disk::create_exclusively;
 use gated_journal::{Journal, OpenFault, one_reading};
 use recording_bytes::{LONGEST_NAME, u16_of};
+use recording_name::Leftover;
 use std::alloc::{AllocError, Global};
-use std::fs::{File, Metadata};
-use std::io::Read;
-use std::os::unix::fs::MetadataExt;
-use std::rt::Files;
-use std::{fs, io};
-use thiserror::Error;
+use std::io;
 
 /// What a draft's name has after that of its recording.
 const ENDING: &str = ".new";
@@ -89,85 +85,23 @@ pub fn is_left_by_creation(alloc: Global, bytes: Vec<u8>) -> Result<bool, OpenFa
     }
 }
 
-// Whether an open file is the one at a path, and no link to it.
-fn is_at<R: Files<File = File>>(rt: &R, file: &Metadata, path: &str) -> bool {
-    match fs::symlink_metadata(rt, path) {
-        Ok(found) => { found.is_file() && found.dev() == file.dev() && found.ino() == file.ino() }
-        Err(_) => false,
-    }
+/// What a creation that was cut off leaves under a draft's name.
+#[derive(Drop)]
+pub struct CutOff {
+    pub alloc: Global,
 }
 
-/// Why there is no draft.
-#[derive(Debug, Drop, Error)]
-pub enum DraftFault {
-    /// Something else lies at the draft's path, and stays as it is.
-    #[error("something else lies at its path")]
-    InTheWay,
-    /// A recording came to the recording's path meanwhile, or the draft is another recorder's.
-    #[error("another recorder has it")]
-    Taken,
-    /// The system's word.
-    #[error("{0}")]
-    System(#[from] io::Error),
-}
+impl Leftover for CutOff {
+    ghost may_go = { λ bytes. (h : Head) (blocks : List Block) → Recording bytes h blocks → blocks ≡ [] };
 
-// The bytes of a file, if they are few enough to be left by a creation.
-fn left_bytes(alloc: Global, mut file: File, length: u64) -> Result<Vec<u8>, DraftFault> {
-    if length > LONGEST_LEFT as u64 {
-        return Err(DraftFault::InTheWay);
+    fn longest(&self) -> u64 {
+        LONGEST_LEFT as u64
     }
-    let mut bytes = Vec::new(alloc);
-    file.read_to_end(&mut bytes)?;
-    Ok(bytes)
-}
 
-// Removes what a creation that was cut off left at this path. What is anything else stays; so does
-// what another recorder is at. A pipe or a device isn't opened.
-fn remove_left<R: Files<File = File> + AllocGlobal>(rt: &R, draft: &str) -> Result<(), DraftFault> {
-    if !fs::symlink_metadata(rt, draft)?.is_file() {
-        return Err(DraftFault::InTheWay);
-    }
-    let file = File::open(rt, draft)?;
-    if file.try_lock().is_err() {
-        return Err(DraftFault::Taken);
-    }
-    let metadata = file.metadata()?;
-    if !is_at(rt, &metadata, draft) {
-        return Err(DraftFault::Taken);
-    }
-    // The lock is held until the file has gone.
-    let bytes = left_bytes(rt.alloc(), file.try_clone()?, metadata.len())?;
-    match is_left_by_creation(rt.alloc(), bytes) {
-        Ok(true) => Ok(fs::remove_file(rt, draft)?),
-        Ok(false) => Err(DraftFault::InTheWay),
-        Err(_) => Err(DraftFault::System(io::ErrorKind::OutOfMemory.into())),
-    }
-}
-
-/// A new file at a draft's path, locked, without bytes and for its owner alone. What a creation that
-/// was cut off left there is removed before, and nothing else.
-pub fn open_draft<R: Files<File = File> + AllocGlobal>(
-    rt: &R,
-    draft: &str,
-    path: &str,
-) -> Result<File, DraftFault> {
-    let created = match create_exclusively(rt, draft) {
-        Err(error) if error.kind() == io::ErrorKind::AlreadyExists => {
-            remove_left(rt, draft)?;
-            create_exclusively(rt, draft)
+    fn is_left(&self, bytes: Vec<u8>) -> io::Result<bool> {
+        match is_left_by_creation(self.alloc, bytes) {
+            Ok(is_left) => Ok(is_left),
+            Err(_) => Err(io::ErrorKind::OutOfMemory.into()),
         }
-        created => created,
-    };
-    let file = created?;
-    if file.try_lock().is_err() {
-        return Err(DraftFault::Taken);
-    }
-    // Who came here after another recorder finds its recording at the path.
-    match fs::metadata(rt, path) {
-        Ok(metadata) if metadata.len() > 0 => {
-            fs::remove_file(rt, draft)?;
-            Err(DraftFault::Taken)
-        }
-        _ => Ok(file),
     }
 }

@@ -4,6 +4,7 @@
 mod beginning;
 mod draft;
 mod opening;
+mod os_folder;
 mod reading;
 mod recording;
 

@@ -4,7 +4,7 @@ use crate::beginning::beginning_of;
 use crate::reading::Reading;
 use crate::recording::{Found, Identity};
 use broadcast::Desk;
-use connections::{Beginning, ConnectFault, Host, Stopwatch};
+use connections::{Beginning, ConnectFault, Host, HostOnClock, Stopwatch};
 use disk::Disk;
 use file_disk::{FileDisk, LastError, Written};
 use flusher_core::Book;
@@ -37,7 +37,7 @@ pub struct Opening<'a, R> {
 /// A host, if there is one, and a second handle of its stream.
 #[derive(Drop)]
 pub struct Source {
-    pub host: Option<(Box<Host>, Stopwatch)>,
+    pub host: Option<HostOnClock>,
     pub stream: Option<TcpStream>,
 }
 
@@ -168,14 +168,14 @@ impl<
         };
         let address = self.plan.host.unwrap_or("");
         let stream = self.given(
-            host.stream(),
+            host.socket(),
             "share the socket of host",
             address,
             Refusal::Net,
         )?;
         let stopwatch = Stopwatch::start(self.rt, base)?;
         Ok(Source {
-            host: Some((host, stopwatch)),
+            host: Some(HostOnClock { host, stopwatch }),
             stream: Some(stream),
         })
     }

@@ -1,13 +1,17 @@
 //! The recording's file: opened if it has bytes, or made whole.
 
-use crate::draft::{DraftFault, draft_path, open_draft};
+ghost use Rattle.std.specs.Prelude.{◌≢◌, OnOk};
+
+use crate::draft::{CutOff, draft_path};
 use crate::opening::Opening;
+use crate::os_folder::OsFolder;
 use block_walk::{hidden_after, read_header};
-use file_disk::{FileDisk, LastError, Written, sync_name};
+use file_disk::{FileDisk, LastError, Written};
 use flusher_core::Book;
 use gated_journal::{CreateFault, Header};
 use key_index::IndexFault;
 use pixel_format::Format;
+use recording_name::{DraftFault, PublishFault, make_draft, publish, settle};
 use refusals::Refusal;
 use std::alloc::Global;
 use std::fs::{File, Metadata, OpenOptions};
@@ -160,13 +164,14 @@ impl<'a, R: AllocGlobal + Clock + Eprint + Files<File = File> + Wait> Opening<'a
         Some((self.last_error.share().ok()?, self.written.share().ok()?))
     }
 
-    // Brings the name of a recording that was found onto the device: whoever made it may have been
+    // Brings a recording that was found onto the device, and its name: whoever made it may have been
     // cut off before. Who only reads may not be allowed to, and needn't if nothing is written.
-    fn settle_name(&self, is_written: bool) -> Result<(), Refusal> {
+    fn settle(&self, file: &File, is_written: bool) -> Result<(), Refusal> {
         let path = self.plan.file;
-        match sync_name(self.rt, path) {
+        match settle(&mut OsFolder::of(self.rt, path), file, path) {
+            Ok(_by_name_or_link) => Ok(()),
             Err(error) if !is_written && is_for_writers(&error) => Ok(()),
-            synced => self.given(synced, "sync the folder of", path, Refusal::File),
+            Err(error) => self.given(Err(error), "sync the folder of", path, Refusal::File),
         }
     }
 
@@ -256,7 +261,7 @@ impl<'a, R: AllocGlobal + Clock + Eprint + Files<File = File> + Wait> Opening<'a
         let found = match self.open_file(is_written)? {
             Some((file, metadata)) if is_written && metadata.len() == 0 => Found::Empty(file),
             Some((file, metadata)) => {
-                self.settle_name(is_written)?;
+                self.settle(&file, is_written)?;
                 return Ok(Found::Recording(Unread {
                     header: self.header_of(&file, metadata.len())?,
                     file,
@@ -274,15 +279,23 @@ impl<'a, R: AllocGlobal + Clock + Eprint + Files<File = File> + Wait> Opening<'a
     }
 
     // Gives a whole recording its name, on the device.
-    fn publish(&self, draft: &str) -> Result<(), Refusal> {
-        let path = self.plan.file;
-        let renamed = fs::rename(self.rt, draft, path);
-        if renamed.is_err() {
-            let _removed = fs::remove_file(self.rt, draft);
-        }
-        self.given(renamed, "rename to", path, Refusal::File)?;
-        let synced = sync_name(self.rt, path);
-        self.given(synced, "sync the folder of", path, Refusal::File)
+    fn publish(
+        &self,
+        folder: &mut OsFolder<'_, R>,
+        file: &File,
+        draft: &str,
+        path: &str,
+    ) -> Result<(), Refusal>
+        requires { draft.now ≢ path.now }
+    {
+        let (error, operation) = match publish(folder, file, draft, path) {
+            Ok(()) => return Ok(()),
+            Err(PublishFault::NotNamed(error)) => (error, "rename to"),
+            Err(PublishFault::DraftLeft(error)) => (error, "rename to"),
+            Err(PublishFault::NotSettled(error)) => (error, "sync the folder of"),
+        };
+        self.telling.tell_failure(self.rt, operation, path, &error);
+        Err(Refusal::File)
     }
 
     // A new recording on the disk of a file, which is removed if that fails.
@@ -317,14 +330,20 @@ impl<'a, R: AllocGlobal + Clock + Eprint + Files<File = File> + Wait> Opening<'a
         }
     }
 
-    // The file in which the recording is made, and which one it is.
-    fn make_draft(&self, draft: &str) -> Result<(File, Identity), Refusal> {
-        let opened = open_draft(self.rt, draft, self.plan.file).and_then(|file| {
-            let metadata = file.metadata()?;
-            Ok((file, Identity::of(&metadata)))
-        });
-        match opened {
-            Ok(made) => Ok(made),
+    // The file in which the recording is made.
+    fn make_draft(
+        &self,
+        folder: &mut OsFolder<'_, R>,
+        draft: &str,
+        path: &str,
+    ) -> Result<File, Refusal>
+        ensures { OnOk result (draft.now ≢ path.now) }
+    {
+        let leftover = CutOff {
+            alloc: self.rt.alloc(),
+        };
+        match make_draft(folder, draft, path, &leftover) {
+            Ok(file) => Ok(file),
             Err(fault) => {
                 self.tell_draft(fault, draft);
                 Err(Refusal::File)
@@ -338,11 +357,15 @@ impl<'a, R: AllocGlobal + Clock + Eprint + Files<File = File> + Wait> Opening<'a
     pub fn create(&self, header: Header) -> Result<(Box<Book<FileDisk>>, Identity), Refusal> {
         let no_memory = Refusal::Create(CreateFault::NoMemory);
         let (last_error, written) = self.notes().ok_or(no_memory)?;
-        let draft = draft_path(self.rt.alloc(), self.plan.file).map_err(|_| no_memory)?;
-        let (file, identity) = self.make_draft(&draft)?;
-        let disk = FileDisk::new(file).noting(last_error, written);
-        let book = self.make_book(header, disk, &draft)?;
-        self.publish(&draft)?;
-        Ok((book, identity))
+        let path = self.plan.file;
+        let named = draft_path(self.rt.alloc(), path).map_err(|_| no_memory)?;
+        let draft = named.as_str();
+        let mut folder = OsFolder::of(self.rt, path);
+        let file = self.make_draft(&mut folder, draft, path)?;
+        let metadata = self.given(file.metadata(), "make", draft, Refusal::File)?;
+        let disk = FileDisk::new(self.again(&file)?).noting(last_error, written);
+        let book = self.make_book(header, disk, draft)?;
+        self.publish(&mut folder, &file, draft, path)?;
+        Ok((book, Identity::of(&metadata)))
     }
 }

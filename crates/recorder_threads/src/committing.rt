@@ -1,7 +1,8 @@
 //! What the flusher works for.
 
+use book_workers::ReceiptSink;
 use connections::Room;
-use shared_book::{Mark, Receipt, ReceiptSink};
+use shared_book::{Mark, Receipt};
 use std::sync::Wait;
 use std::time::{Clock, Instant};
 use telling::Event;
@@ -45,6 +46,12 @@ impl<'a, M: Mark, R: Clock + Wait> Committing<'a, M, R> {
 }
 
 impl<'a, M: Mark, R: Clock + Wait> ReceiptSink<Receipt<M>> for Committing<'a, M, R> {
+    ghost is_modelled = { ⊥ };
+
+    ghost committed = { λ c. 0 };
+
+    ghost slice_of = { λ r. r };
+
     fn writing(&mut self) {
         self.room.device.begin(self.rt);
     }

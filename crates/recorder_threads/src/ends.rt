@@ -3,10 +3,10 @@
 ghost use Rattle.std.specs.Prelude.{◌≡◌, ℕ, None, Some, IfErr, OnOk, OnErr, true, false};
 ghost use Rattle.host_session.specs.declared.fault.HostFault.{HostFault};
 
+use book_workers::FlusherEnd;
 use flusher_core::HostRefusal;
+use host_stream::HostEnd;
 use refusals::Refusal;
-use shared_book::FlusherEnd;
-use telling::HostEnd;
 
 /// How each part of a recorder ended.
 #[derive(Clone, Copy, Debug, PartialEq, Eq)]

@@ -10,8 +10,10 @@ mod entrance;
 mod no_turnstile;
 mod refusing;
 mod service;
+mod work;
 
 pub use accepting::accept_until_rung;
 pub use comer::Comer;
 pub use refusing::refuse;
 pub use service::{Outcome, Service, run_threads};
+pub use work::Work;

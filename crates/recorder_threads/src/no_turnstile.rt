@@ -1,6 +1,6 @@
 //! What the program has instead of a turnstile, which only tests look into.
 
-use shared_book::{Point, Turnstile};
+use book_workers::{Point, Turnstile};
 
 /// Holds no worker.
 #[derive(Drop)]

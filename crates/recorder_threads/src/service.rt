@@ -5,12 +5,15 @@ use crate::committing::Committing;
 use crate::ends::{Ends, first_refusal};
 use crate::no_turnstile::NoTurnstile;
 use crate::refusing::refuse;
-use connections::{Host, Messages, Room, Stopwatch};
+use crate::work::Work;
+use book_workers::{FlusherEnd, run_flusher, run_host};
+use connections::{HostOnClock, Messages, Room};
 use disk::Disk;
 use flusher_core::HostRefusal;
+use host_stream::HostEnd;
 use reception::Stop;
 use refusals::{Refusal, Stopped};
-use shared_book::{FlusherEnd, Mark, Shared, run_flusher, run_host};
+use shared_book::{FlusherPen, HostPen, Mark, Shared};
 use sockets::{Woken, wait_for_stop};
 use std::io::Write;
 use std::net::{Shutdown, TcpListener, TcpStream};
@@ -18,7 +21,7 @@ use std::sync::{Mutex, Wait};
 use std::thread::{JoinHandle, Scope, Threads};
 use std::time::{Clock, Duration};
 use std::{io, thread};
-use telling::{Event, HostEnd, Silence};
+use telling::{Event, Silence};
 
 /// What the threads of a recorder share.
 #[derive(Drop)]
@@ -62,10 +65,11 @@ impl Outcome {
 
 impl<'a, D: Disk, M: Mark, R: Clock + Wait> Service<'a, D, M, R> {
     // Hands in the host's messages until they end, and tells how its stream ended.
-    fn record(&self, host: Box<Host>, stopwatch: Stopwatch) -> HostEnds {
+    fn record(&self, host: HostOnClock, mut pen: HostPen<M>) -> HostEnds {
         let end = Mutex::new(HostEnd::Closed(0));
-        let messages = Messages::new(self.rt, Box::into_inner(host), stopwatch, self.room, &end);
-        let worker = run_host(self.rt, self.shared, messages, &NoTurnstile);
+        let mut messages = Messages::new(self.rt, host, self.room, &end);
+        let worker = run_host(self.rt, self.shared, &mut pen, &mut messages, &NoTurnstile);
+        drop(messages);
         let end = end.into_inner();
         if !self.room.is_stopped() {
             self.room.telling.tell(self.rt, Event::HostEnded(end));
@@ -89,9 +93,15 @@ impl<'a, D: Disk, M: Mark, R: Clock + Wait> Service<'a, D, M, R> {
     }
 
     // Commits what was accepted, on this thread. A flusher that is refused ends the host, too.
-    fn flush(&self) -> Result<(), FlusherEnd> {
-        let committing = Committing::new(self.rt, self.room);
-        let end = run_flusher(self.rt, self.shared, committing, &NoTurnstile);
+    fn flush(&self, mut pen: FlusherPen<M>) -> Result<(), FlusherEnd> {
+        let mut committing = Committing::new(self.rt, self.room);
+        let end = run_flusher(
+            self.rt,
+            self.shared,
+            &mut pen,
+            &mut committing,
+            &NoTurnstile,
+        );
         self.room.device.end();
         self.room.tell_recorded(self.rt);
         if end.is_err() {
@@ -144,12 +154,12 @@ impl<'a, D: Disk, M: Mark, R: Clock + Wait> Service<'a, D, M, R> {
 
     // Ends what was started, if a thread couldn't be made. What was accepted is committed, so that
     // a host's worker that waits for room has some, and ends.
-    fn give_up(&self) {
+    fn give_up(&self, pen: FlusherPen<M>) {
         self.room.stop(self.rt);
         self.shut(Shutdown::Both);
         self.room.intake.end(self.rt);
         self.shared.end_host(self.rt);
-        let _flushed = self.flush();
+        let _flushed = self.flush(pen);
         self.room.hall.end(self.rt);
         self.room.bell.ring();
     }
@@ -157,8 +167,8 @@ impl<'a, D: Disk, M: Mark, R: Clock + Wait> Service<'a, D, M, R> {
 
 impl<'a, D: Disk, M: Mark, R: Threads + Clock + Wait> Service<'a, D, M, R> {
     // Commits until the host has ended, and waits for its worker: how both ended.
-    fn record_all(&self, host: Option<JoinHandle<HostEnds>>) -> Ends {
-        let flusher = self.flush();
+    fn record_all(&self, host: Option<JoinHandle<HostEnds>>, pen: FlusherPen<M>) -> Ends {
+        let flusher = self.flush(pen);
         let (worker, host) = match host {
             Some(recording) => recording.join(self.rt),
             None => (Ok(()), HostEnd::Closed(0)),
@@ -174,9 +184,9 @@ impl<'a, D: Disk, M: Mark, R: Threads + Clock + Wait> Service<'a, D, M, R> {
 
     // Records until the host has ended, says at once if that is refused, and waits until nobody is
     // left to be served.
-    fn conduct<W: Write>(&self, crew: Crew, err: &mut W) -> Outcome {
+    fn conduct<W: Write>(&self, crew: Crew, pen: FlusherPen<M>, err: &mut W) -> Outcome {
         let Crew { host, viewers } = crew;
-        let ends = self.record_all(host);
+        let ends = self.record_all(host, pen);
         let outcome = self.outcome_of(first_refusal(ends), err);
         self.room.hall.end(self.rt);
         self.tell_missing();
@@ -206,14 +216,13 @@ impl<'a, D: Disk + Send, M: Mark + Send + Sync, R: Threads + Clock + Wait + Sync
     fn start<E>(
         &'a self,
         scope: &'a Scope<'a, E>,
-        host: Option<(Box<Host>, Stopwatch)>,
+        host: Option<HostOnClock>,
+        pen: HostPen<M>,
         comers: Vec<Comer>,
         stop: Stop,
     ) -> Option<Crew> {
         let host = match host {
-            Some((host, stopwatch)) => {
-                Some(scope.spawn(move || self.record(host, stopwatch)).ok()?)
-            }
+            Some(host) => Some(scope.spawn(move || self.record(host, pen)).ok()?),
             None => {
                 self.shared.end_host(self.rt);
                 None
@@ -230,25 +239,25 @@ impl<'a, D: Disk + Send, M: Mark + Send + Sync, R: Threads + Clock + Wait + Sync
     }
 
     // Runs the threads of a recorder within a scope of theirs, until all is done.
-    fn run<E, W: Write>(
-        &'a self,
-        scope: &'a Scope<'a, E>,
-        host: Option<(Box<Host>, Stopwatch)>,
-        comers: Vec<Comer>,
-        stop: Stop,
-        err: &mut W,
-    ) -> Outcome {
-        match self.start(scope, host, comers, stop) {
-            Some(crew) => self.conduct(crew, err),
+    fn run<E, W: Write>(&'a self, scope: &'a Scope<'a, E>, work: Work<M>, err: &mut W) -> Outcome {
+        let Work {
+            host,
+            host_pen,
+            flusher_pen,
+            comers,
+            stop,
+        } = work;
+        match self.start(scope, host, host_pen, comers, stop) {
+            Some(crew) => self.conduct(crew, flusher_pen, err),
             None => {
-                self.give_up();
+                self.give_up(flusher_pen);
                 self.outcome_of(Some(Refusal::Thread), err)
             }
         }
     }
 }
 
-/// Records a host, if there is one, and serves those who came already and viewers, until all have
+/// Records the host, if there is one, and serves those who came already and viewers, until all have
 /// ended: how it ended.
 pub fn run_threads<
     'a,
@@ -256,16 +265,10 @@ pub fn run_threads<
     M: Mark + Send + Sync,
     R: Threads + Clock + Wait + Sync,
     W: Write,
->(
-    service: &'a Service<'a, D, M, R>,
-    host: Option<(Box<Host>, Stopwatch)>,
-    comers: Vec<Comer>,
-    stop: Stop,
-    err: &'a mut W,
-) -> Outcome {
+>(service: &'a Service<'a, D, M, R>, work: Work<M>, err: &'a mut W) -> Outcome {
     thread::scope(
         thread::scope_env(),
         service.rt,
-        |scope| service.run(scope, host, comers, stop, err),
+        |scope| service.run(scope, work, err),
     )
 }

@@ -8,18 +8,20 @@ use Rattle.pixel_format.specs.Format.{Format}
 use Rattle.terms.specs.Reading.{Reading, Got, Extends}
 use Rattle.pixel_format.specs.Canvas.{Picture, rows_of}
 use Rattle.terms.proofs.Readings.{field-whole}
-use Rattle.terms.specs.Number.{u32_at}
+use Rattle.terms.specs.Number.{u32_at, u32_bytes}
 use Rattle.terms.specs.declared.area.Area.{Area}
 use Rattle.terms.specs.declared.wire_fault.WireFault.{WireFault}
 use Rattle.rre.proofs.Content as rre_content
 use Rattle.hextile.proofs.TilesRead as hextile_content
 use Rattle.rect_data.specs.declared.encoding.Encoding.{Encoding}
 use Rattle.rect_data.specs.declared.encoding.Encoding.TheVariants as encodings
-use Rattle.rect_data.specs.Data.{LiesWithin, number_of}
+use Rattle.rect_data.specs.Data.{number_of}
+use Rattle.terms.specs.Area.{is_in, LiesWithin}
 use Rattle.rect_data.specs.Grammar.{encoding_of, is_inside, data_at}
 use Rattle.rect_data.proofs.Local.{data_local}
 use Rattle.rect_data.proofs.Steps.{pixels_whole}
-use Rattle.rect_codec.specs.Picture.{is_in, raw_picture, rre_shown, hextile_shown, picture_of, painted_data}
+use Rattle.rect_codec.specs.Picture.{raw_picture, rre_shown, hextile_shown, picture_of, painted_data}
+use Rattle.terms.proofs.Areas.{area_back as area_again}
 use Rattle.client_wire.specs.Written.{rectangle_head}
 use Rattle.rect_codec.specs.Parts.{parts_head, IsRectangle}
 use Rattle.rect_codec.specs.Written.{Shows}
@@ -84,7 +86,7 @@ pub u16_back : (n : ℕ) → 256 * (n / 256) + n % 256 ≡ n
 u16_back n = omega arith
 
 area_back : (a : Area) (number : ℕ) → area_of (rectangle_head a number) ≡ a
-area_back a number = rw (u16_back a.x, u16_back a.y, u16_back a.w, u16_back a.h) refl
+area_back a number = area_again a (u32_bytes number)
 
 number_back : (a : Area) (number : ℕ) → u32_at (rectangle_head a number) 8 ≡ number
 number_back a number = omega arith

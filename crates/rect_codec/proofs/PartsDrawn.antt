@@ -14,7 +14,8 @@ use Rattle.terms.specs.declared.wire_fault.WireFault.{WireFault}
 use Rattle.client_wire.specs.Written.{rectangle_head}
 use Rattle.rect_data.specs.declared.encoding.Encoding.{Encoding}
 use Rattle.rect_data.specs.declared.encoding.Encoding.TheVariants as encodings
-use Rattle.rect_data.specs.Data.{LiesWithin, number_of}
+use Rattle.rect_data.specs.Data.{number_of}
+use Rattle.terms.specs.Area.{LiesWithin}
 use Rattle.rect_data.specs.Grammar.{is_inside, source_of, data_at}
 use Rattle.rect_data.proofs.Steps.{source_inside}
 use Rattle.rect_codec.specs.declared.parts.Part.{Part}

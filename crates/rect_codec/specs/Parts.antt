@@ -12,10 +12,10 @@ use Rattle.terms.specs.declared.area.Area.{Area}
 use Rattle.client_wire.specs.Written.{rectangle_head}
 use Rattle.rect_data.specs.declared.encoding.Encoding.{Encoding}
 use Rattle.rect_data.specs.declared.encoding.Encoding.TheVariants as encodings
-use Rattle.rect_data.specs.Data.{LiesWithin, number_of}
+use Rattle.rect_data.specs.Data.{number_of}
+use Rattle.terms.specs.Area.{is_in, LiesWithin}
 use Rattle.rect_codec.specs.declared.parts.Part.{Part}
 use Rattle.rect_codec.specs.declared.parts.Part.TheVariants as parts
-use Rattle.rect_codec.specs.Picture.{is_in}
 use Rattle.rect_codec.specs.Update.{Drawn, update_at, painted, HasColors}
 use Rattle.rect_codec.specs.Written.{Shows}
 

@@ -1,8 +1,9 @@
 -- What the data of a rectangle show (RFC 6143, section 7.7), in any pixel format.
-use Rattle.std.specs.Prelude.{ℕ, ◌+◌, ◌-◌, ◌*◌, Bool, List, take, drop, if◌then◌else◌}
+use Rattle.std.specs.Prelude.{ℕ, ◌+◌, ◌-◌, ◌*◌, List, take, drop, if◌then◌else◌}
 use Rattle.pixel_format.specs.Format.{Format, pixel_bytes}
 use Rattle.terms.specs.Reading.{Reading, Got, More, Bad}
-use Rattle.pixel_format.specs.Canvas.{Picture, covers, pixel_rows}
+use Rattle.pixel_format.specs.Canvas.{Picture, pixel_rows}
+use Rattle.terms.specs.Area.{is_in}
 use Rattle.terms.specs.declared.area.Area.{Area}
 use Rattle.rre.specs.Grammar as rre
 use Rattle.rre.specs.Picture as rre_picture
@@ -11,10 +12,6 @@ use Rattle.hextile.specs.Picture as hextile_picture
 use Rattle.rect_data.specs.declared.encoding.Encoding.{Encoding}
 use Rattle.rect_data.specs.declared.encoding.Encoding.TheVariants as encodings
 use Rattle.rect_data.specs.Grammar.{source_of}
-
--- the pixel lies in the area
-abbrev pub is_in : Area → ℕ → ℕ → Bool
-is_in area x y = covers area.x area.y area.w area.h x y
 
 -- the pixel of this number, of pixels one after the other
 abbrev pub pixel_at : Format → List ℕ → ℕ → List ℕ

@@ -11,7 +11,8 @@ use Rattle.terms.specs.declared.wire_fault.WireFault.TheVariants as faults
 use Rattle.terms.specs.Number.{signed}
 use Rattle.rect_data.specs.declared.encoding.Encoding.{Encoding}
 use Rattle.rect_data.specs.Grammar.{encoding_of, is_inside, data_at}
-use Rattle.rect_codec.specs.Picture.{is_in, painted_data}
+use Rattle.terms.specs.Area.{area_at, is_in}
+use Rattle.rect_codec.specs.Picture.{painted_data}
 
 -- ---- reading
 
@@ -23,7 +24,7 @@ pub record Drawn : Type 0 where
 
 -- the area that the header of a rectangle names: x, y, width and height (section 7.6.1)
 abbrev pub area_of : List ℕ → Area
-area_of f = record { x = u16_at f 0; y = u16_at f 2; w = u16_at f 4; h = u16_at f 6 }
+area_of f = area_at f 0
 
 -- the rectangle whose data the bytes have in front of the rest
 abbrev pub drawn_of : Area → Encoding → List ℕ → List ℕ → Drawn

@@ -4,7 +4,7 @@ ghost use Rattle.std.specs.Prelude.{ℕ, ◌<◌, ◌^◌, All, List, length};
 ghost use Rattle.pixel_format.specs.declared.Color.{Color};
 ghost use Rattle.pixel_format.specs.Format.{Format};
 ghost use Rattle.terms.specs.declared.area.Area.{Area};
-ghost use Rattle.rect_data.specs.Data.{LiesWithin};
+ghost use Rattle.terms.specs.Area.{LiesWithin};
 ghost use Rattle.rect_data.specs.declared.encoding.Encoding.{Encoding};
 ghost use Rattle.rect_codec.specs.declared.parts.Part.{Part};
 ghost use Rattle.rect_codec.specs.Parts.{IsUpdateFor, AreParts, PartLiesWithin, DrawsParts};

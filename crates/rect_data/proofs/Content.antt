@@ -17,7 +17,8 @@ use Rattle.hextile.proofs.TilesRead as hextile_content
 use Rattle.rect_data.specs.declared.encoding.Encoding.{Encoding}
 use Rattle.rect_data.specs.declared.encoding.Encoding.TheVariants as encodings
 use Rattle.rect_data.specs.Grammar.{is_inside, source_of, raw_at, copy_at, judged_as, data_at, measured, encoding_of}
-use Rattle.rect_data.specs.Data.{LiesWithin, IsSource, AreData, number_of}
+use Rattle.rect_data.specs.Data.{IsSource, AreData, number_of}
+use Rattle.terms.specs.Area.{LiesWithin}
 
 -- ---- areas
 

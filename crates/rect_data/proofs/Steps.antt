@@ -11,6 +11,8 @@ use Rattle.rre.specs.declared.measuring.Measuring.{Measuring as RreMeasuring}
 use Rattle.hextile.specs.declared.measuring.Measuring.{Measuring as HextileMeasuring}
 use Rattle.pixel_format.specs.Format.{Format, pixel_bytes}
 use Rattle.terms.specs.Reading.{Reading, Got, More, Bad}
+use Rattle.terms.specs.Measuring as measuring
+use Rattle.terms.specs.Measuring.{judged}
 use Rattle.terms.proofs.Readings.{field-whole, field-short}
 use Rattle.terms.specs.declared.area.Area.{Area}
 use Rattle.terms.specs.declared.wire_fault.WireFault.{WireFault}
@@ -23,7 +25,7 @@ use Rattle.hextile.specs.Measuring as hextile_measuring
 use Rattle.hextile.proofs.Steps as hextile_steps
 use Rattle.rect_data.specs.declared.judging.Judging.{Judging}
 use Rattle.rect_data.specs.declared.judging.Judging.TheVariants as stages
-use Rattle.rect_data.specs.Grammar.{is_inside, source_of, raw_at, copy_at, judged_as}
+use Rattle.rect_data.specs.Grammar.{is_inside, source_of, raw_at, copy_at, judged_as, measured, length_as}
 use Rattle.rect_data.specs.Judging.{wants_of, resume}
 
 pub pixels_whole : (f : Format) (area : Area) (pixels more : List ℕ) → length pixels ≡ pixel_bytes f * (area.w * area.h) → raw_at f area (pixels ++ more) ≡ Got tt more
@@ -41,15 +43,16 @@ unfolding copy_at
 source_outside width height area source more whole outside = rw (field-whole {E = WireFault} 4 source more whole, outside) refl
 
 -- whether data are whole is the same whatever they say
-pub judged_rre : (fault : WireFault) (r : Reading rre.Content rre.Fault) → judged_as fault (rre_measuring.judged r) ≡ judged_as fault r
-judged_rre fault (Got content rest) = refl
-judged_rre fault More = refl
-judged_rre fault (Bad e) = refl
+pub judged_again : {A E : Type 0} (fault : WireFault) (r : Reading A E) → judged_as fault (judged r) ≡ judged_as fault r
+judged_again fault (Got content rest) = refl
+judged_again fault More = refl
+judged_again fault (Bad e) = refl
 
-pub judged_hextile : (fault : WireFault) (r : Reading (List hextile.Tile) hextile.Fault) → judged_as fault (hextile_measuring.judged r) ≡ judged_as fault r
-judged_hextile fault (Got content rest) = refl
-judged_hextile fault More = refl
-judged_hextile fault (Bad e) = refl
+-- and so is the length of what is whole
+pub length_judged : {A E : Type 0} (fault : WireFault) (size : ℕ) (r : Reading A E) → length_as fault (measuring.measured size r) ≡ measured size (judged_as fault r)
+length_judged fault size (Got content rest) = refl
+length_judged fault size More = refl
+length_judged fault size (Bad e) = refl
 
 -- a field that isn't whole
 pub field_waits : (f : Format) (width height : ℕ) (stage : Judging) (bytes : List ℕ) → length bytes < wants_of f stage → resume f width height stage bytes ≡ More

@@ -1,8 +1,9 @@
 -- What the data of a rectangle are (RFC 6143, section 7.7): a relation between the pixel format,
 -- the size of the screen, an encoding, the rectangle's area, and bytes.
-use Rattle.std.specs.Prelude.{◌≡◌, ℕ, ◌+◌, ◌*◌, ◌≤◌, List, length}
+use Rattle.std.specs.Prelude.{◌≡◌, ℕ, ◌*◌, List, length}
 use Rattle.pixel_format.specs.Format.{Format, pixel_bytes}
 use Rattle.terms.specs.declared.area.Area.{Area}
+use Rattle.terms.specs.Area.{LiesWithin}
 use Rattle.rre.specs.Data as rre
 use Rattle.hextile.specs.Data as hextile
 use Rattle.rect_data.specs.declared.encoding.Encoding.{Encoding}
@@ -15,11 +16,6 @@ number_of encodings.Raw = 0
 number_of encodings.CopyRect = 1
 number_of encodings.Rre = 2
 number_of encodings.Hextile = 5
-
--- the area lies within a screen of this size
-pub record LiesWithin (width height : ℕ) (a : Area) : Type 0 where
-  pub columns : a.x + a.w ≤ width
-  pub rows : a.y + a.h ≤ height
 
 -- x and y, of two bytes each, of an area as large as the rectangle and within the screen (section
 -- 7.7.2)

@@ -5,6 +5,8 @@ use Rattle.pixel_format.specs.Format.{Format, pixel_bytes}
 use Rattle.terms.specs.Reading.{Reading, Got, More, Bad, ◌>>=◌, field, guard}
 use Rattle.terms.specs.Number.{u16_at}
 use Rattle.terms.specs.declared.area.Area.{Area}
+use Rattle.terms.specs.declared.measuring.NoLength.{NoLength}
+use Rattle.terms.specs.declared.measuring.NoLength.TheVariants as answers
 use Rattle.terms.specs.declared.wire_fault.WireFault.{WireFault}
 use Rattle.terms.specs.declared.wire_fault.WireFault.TheVariants as faults
 use Rattle.rre.specs.Grammar as rre
@@ -57,3 +59,9 @@ abbrev pub measured : ℕ → Reading Unit WireFault → Result (Option ℕ) Wir
 measured size (Got x rest) = Ok (Some (size - length rest))
 measured size More = Ok None
 measured size (Bad fault) = Err fault
+
+-- what a codec says of the length of its data, with the fault by which they are refused here
+abbrev pub length_as : WireFault → Result ℕ NoLength → Result (Option ℕ) WireFault
+length_as fault (Ok n) = Ok (Some n)
+length_as fault (Err answers.NeedMore) = Ok None
+length_as fault (Err answers.Bad) = Err fault

@@ -1,15 +1,13 @@
 //! The length of data that are there as a whole.
 
 ghost use Rattle.std.specs.Prelude.{◌≡◌, ℕ, ◌≤◌, List, length, take, Ok, IfOk, IfSome};
-ghost use Rattle.rect_data.specs.Grammar.{raw_at, copy_at, judged_as, data_at, measured};
-ghost use Rattle.rre.specs.Grammar as rre;
-ghost use Rattle.hextile.specs.Grammar as hextile;
+ghost use Rattle.rect_data.specs.Grammar.{raw_at, copy_at, data_at, measured, length_as};
 ghost use Rattle.rect_data.specs.Data.{AreData};
 
 use crate::encoding::Encoding;
 use crate::fields::{lies_inside, source_at};
 use pixel_format::PixelFormat;
-use terms::{Area, ScreenSize, WireFault};
+use terms::{Area, NoLength, ScreenSize, WireFault};
 
 // The length of Raw data.
 fn measure_raw(format: &PixelFormat, area: Area, bytes: &[u8]) -> Option<usize>
@@ -35,29 +33,14 @@ fn measure_copy(size: ScreenSize, area: Area, bytes: &[u8]) -> Result<Option<usi
     Ok(Some(4))
 }
 
-// The length of RRE data.
-fn measure_rre(format: &PixelFormat, area: Area, bytes: &[u8]) -> Result<Option<usize>, WireFault>
-    ensures { result ≡ measured (length bytes.now) (judged_as WireFault.BadRre (rre.data_at format.now area.w area.h bytes.now)) }
+// What a codec says of the length of its data, with the fault by which they are refused here.
+fn refused_by(fault: WireFault, length: Result<usize, NoLength>) -> Result<Option<usize>, WireFault>
+    ensures { result ≡ length_as fault length }
 {
-    match rre::measure(format, area.w, area.h, bytes) {
+    match length {
         Ok(length) => Ok(Some(length)),
-        Err(rre::Measure::NeedMore) => Ok(None),
-        Err(rre::Measure::Bad) => Err(WireFault::BadRre),
-    }
-}
-
-// The length of Hextile data.
-fn measure_hextile(
-    format: &PixelFormat,
-    area: Area,
-    bytes: &[u8],
-) -> Result<Option<usize>, WireFault>
-    ensures { result ≡ measured (length bytes.now) (judged_as WireFault.BadHextile (hextile.data_at format.now area.w area.h bytes.now)) }
-{
-    match hextile::measure(format, area.w, area.h, bytes) {
-        Ok(length) => Ok(Some(length)),
-        Err(hextile::Measure::NeedMore) => Ok(None),
-        Err(hextile::Measure::Bad) => Err(WireFault::BadHextile),
+        Err(NoLength::NeedMore) => Ok(None),
+        Err(NoLength::Bad) => Err(fault),
     }
 }
 
@@ -77,7 +60,13 @@ pub fn measure(
     match encoding {
         Encoding::Raw => Ok(measure_raw(format, area, bytes)),
         Encoding::CopyRect => measure_copy(size, area, bytes),
-        Encoding::Rre => measure_rre(format, area, bytes),
-        Encoding::Hextile => measure_hextile(format, area, bytes),
+        Encoding::Rre => {
+            let length = rre::measure(format, area.w, area.h, bytes);
+            refused_by(WireFault::BadRre, length)
+        }
+        Encoding::Hextile => {
+            let length = hextile::measure(format, area.w, area.h, bytes);
+            refused_by(WireFault::BadHextile, length)
+        }
     }
 }

@@ -2,6 +2,9 @@
 use Rattle.std.specs.Prelude.{◌≡◌, ◌≤◌, ◌⊎◌, ℕ, List, codes}
 use Rattle.refusals.specs.declared.area.Area.{Area}
 use Rattle.refusals.specs.declared.area.Area.TheVariants as area
+use Rattle.refusals.specs.declared.refusal.Refusal.{Refusal}
+use Rattle.refusals.specs.declared.refusal.Refusal.TheVariants as refusal
+use Rattle.key_index.specs.declared.faults.IndexFault.TheVariants as index
 
 -- the word that names an area in a refusal's line
 abbrev pub word_of : Area → List ℕ
@@ -36,3 +39,22 @@ IsNumberOf area.Book number = (1 ≤ number) × (number ≤ 4)
 IsNumberOf area.File number = (1 ≤ number) × (number ≤ 2)
 IsNumberOf area.Net number = number ≡ 1
 IsNumberOf area.Thread number = number ≡ 1
+
+-- the part that refuses
+abbrev pub area_of : Refusal → Area
+area_of refusal.File = area.File
+area_of refusal.Hidden = area.File
+area_of (refusal.Recording (index.Journal fault)) = area.Journal
+area_of (refusal.Recording fault) = area.Index
+area_of (refusal.Create fault) = area.Journal
+area_of refusal.Device = area.Journal
+area_of (refusal.Screen fault) = area.Replay
+area_of (refusal.Digest fault) = area.Digest
+area_of (refusal.Export fault) = area.Export
+area_of (refusal.Migrate fault) = area.Migrate
+area_of (refusal.Salvage fault) = area.Salvage
+area_of (refusal.Fbs fault) = area.Fbs
+area_of (refusal.Host fault) = area.Host
+area_of (refusal.Book why) = area.Book
+area_of refusal.Net = area.Net
+area_of refusal.Thread = area.Thread

@@ -1,6 +1,7 @@
 //! Why a command is refused.
 
-ghost use Rattle.refusals.specs.Areas.{IsNumberOf};
+ghost use Rattle.std.specs.Prelude.{◌≡◌};
+ghost use Rattle.refusals.specs.Areas.{IsNumberOf, area_of};
 
 use crate::area::Area;
 use crate::digest_fault::DigestFault;
@@ -70,7 +71,8 @@ pub enum Refusal {
 // A name without a detail.
 fn plain(area: Area, number: u64) -> Name
     requires { IsNumberOf area number }
-    ensures { IsNumberOf result.area result.number }
+    ensures area { result.area ≡ area }
+    ensures known { IsNumberOf result.area result.number }
 {
     Name {
         area,
@@ -81,7 +83,8 @@ fn plain(area: Area, number: u64) -> Name
 
 // The name of a fault of the file.
 fn name_of_opening(fault: OpenFault) -> Name
-    ensures { IsNumberOf result.area result.number }
+    ensures area { result.area ≡ Area.Journal }
+    ensures known { IsNumberOf result.area result.number }
 {
     let detail = match fault {
         OpenFault::Damaged(block) | OpenFault::BadDigest(block) => Some(Detail::Block(block)),
@@ -96,7 +99,8 @@ fn name_of_opening(fault: OpenFault) -> Name
 
 // The name of a fault of what an opening reads.
 fn name_of_index(fault: IndexFault) -> Name
-    ensures { IsNumberOf result.area result.number }
+    ensures area { result.area ≡ area_of (Refusal.Recording fault) }
+    ensures known { IsNumberOf result.area result.number }
 {
     let detail = match fault {
         IndexFault::Journal(fault) => return name_of_opening(fault),
@@ -115,7 +119,8 @@ fn name_of_index(fault: IndexFault) -> Name
 
 // The name of a fault of an FBS file.
 fn name_of_fbs(fault: FbsFault) -> Name
-    ensures { IsNumberOf result.area result.number }
+    ensures area { result.area ≡ Area.Fbs }
+    ensures known { IsNumberOf result.area result.number }
 {
     let detail = match fault {
         FbsFault::Message(fault) => Some(Detail::Wire(fault.number())),
@@ -131,7 +136,8 @@ fn name_of_fbs(fault: FbsFault) -> Name
 impl Refusal {
     /// Its name. There is a text for each name ([`explanation`](crate::explanation)).
     pub fn name(self) -> Name
-        ensures { IsNumberOf result.area result.number }
+        ensures area { result.area ≡ area_of self }
+        ensures known { IsNumberOf result.area result.number }
     {
         match self {
             Refusal::File => plain(Area::File, 1),

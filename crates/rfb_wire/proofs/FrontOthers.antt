@@ -1,14 +1,14 @@
 -- What the grammar says of messages that are no update, whose first fields are known.
-use Rattle.std.proofs.Common.{◌≡◌, ℕ, ◌+◌, ◌*◌, ◌-◌, ◌≤◌, Bool, true, false, List, [], ◌∷◌, ◌++◌, length, take, drop, slice_index, nat_eq, refl, sym, ap, ◌∙◌, inl, inr, arith, append_assoc, length-append, Option, Some, None, Ok}
+use Rattle.std.proofs.Common.{◌≡◌, ℕ, ◌+◌, ◌*◌, ◌-◌, ◌≤◌, Bool, true, false, List, [], ◌∷◌, ◌++◌, length, take, drop, slice_index, nat_eq, refl, sym, ap, ◌∙◌, inl, inr, arith, ◌<◌, append_assoc, length-append}
 use Rattle.std.specs.Prelude.{nat_lt, nat_le}
 use Rattle.std.proofs.lemmas.Bool.{lt-ltb, le-ltb, leb-true, leb-false}
 use Rattle.terms.specs.Reading.{Got, More, field}
 use Rattle.terms.specs.declared.wire_fault.WireFault.{WireFault}
 use Rattle.rfb_wire.specs.Grammar.{message_at, other_at, Recorded, ReadOver, color_map_at, text_at, text_data_at, read_over, text_limit}
-use Rattle.rfb_wire.specs.Plain.{kind_of, Says}
-use Rattle.std.specs.Prelude.{MatchOption, if◌then◌else◌}
-use Rattle.std.proofs.lemmas.List.{drop_at, take_at}
-use Rattle.terms.proofs.Readings.{bind_got, field_got, true_or_false, field_front, one_number}
+use Rattle.rfb_wire.specs.Plain.{kind_of}
+use Rattle.std.specs.Prelude.{if◌then◌else◌}
+use Rattle.std.proofs.lemmas.List.{drop_at, take_at, get_or-take}
+use Rattle.terms.proofs.Readings.{bind_got, field_got, field-whole, true_or_false, field_front, one_number}
 use Rattle.terms.specs.Number.{u16_at, u32_at}
 use Rattle.rfb_wire.proofs.Others.{other_read, other_of_bell, other_of_text, text_again}
 use Rattle.rfb_wire.proofs.Messages.{other_is_read}
@@ -49,12 +49,6 @@ text_whole count true bytes head body text rest e is whole short =
 text_whole count false bytes head body text rest e is whole long =
     let large : nat_lt text_limit count ≡ true = lt-ltb text_limit count (leb-false count text_limit long) in
     rw (e, is, large, whole) refl
-
--- a text, if there is one
-pub says_text : {X : Type 0} (rest : X → List ℕ) (o : Option (Bool × X)) (bytes : List ℕ)
-    → MatchOption o (text_at bytes ≡ More) (λ x. text_at bytes ≡ Got (kind_of x.0) (rest x.1)) → Says (λ x. kind_of x.0) (λ x. rest x.1) (Ok o) (text_at bytes)
-says_text rest (Some x) bytes e = e
-says_text rest None bytes e = e
 
 over_front : (n : ℕ) (bytes rest : List ℕ) → read_over n bytes ≡ Got ReadOver rest → (front : List ℕ) × (bytes ≡ front ++ rest)
 unfolding read_over
@@ -156,3 +150,21 @@ pub other_taken : (bytes whole following : List ℕ) → bytes ≡ whole ++ foll
 other_taken bytes whole following is =
     let n : length bytes - length following ≡ length whole = rw (is, length-append) (omega arith) in
     ap (λ k. take k bytes) n ∙ ap (take (length whole)) is ∙ take_at whole following (length whole) refl
+
+-- the type of bytes, and what follows it
+pub type_front : (bytes : List ℕ) → 0 < length bytes → field {E = WireFault} 1 bytes ≡ Got (slice_index bytes 0 ∷ []) (drop 1 bytes)
+type_front [] some = absurd (omega arith)
+type_front (b ∷ bytes) some = field-whole {E = WireFault} 1 (b ∷ []) bytes refl
+
+-- the same of bytes whose first field is known
+pub record HasType (number : ℕ) (bytes rest : List ℕ) : Type 0 where
+  pub number_is : slice_index bytes 0 ≡ number
+  pub rest_is : drop 1 bytes ≡ rest
+
+pub has_type : (number : ℕ) (bytes first rest : List ℕ) → field {E = WireFault} 1 bytes ≡ Got first rest → slice_index first 0 ≡ number → HasType number bytes rest
+has_type number bytes first rest e is =
+    let f = field_got 1 bytes first rest e in
+    record {
+      number_is = sym (get_or-take 1 bytes 0 0 (omega arith)) ∙ ap (λ z. slice_index z 0) (sym f.is) ∙ is;
+      rest_is = sym f.rest_is;
+    }

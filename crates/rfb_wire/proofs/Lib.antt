@@ -1,3 +1,4 @@
+pub mod MessageTypes
 pub mod Resume
 pub mod Local
 pub mod Turns

@@ -82,8 +82,7 @@ rectangle_read width height at bytes r rest e =
       header_length = f.1;
       area_is = refl;
       encoding_is = d.number_is;
-      within_width = within.columns;
-      within_height = within.rows;
+      within = within;
       content_is = c.content_is;
       start_is = refl;
       end_is = refl;
@@ -215,7 +214,7 @@ rectangle_again width height at r first more is =
     let content : AreData host_format width height r.encoding area is.content = subst (λ (a : Area). AreData host_format width height r.encoding a is.content) is.area_is is.content_is in
     let number : encoding_of (encoding_number is.header) ≡ Some r.encoding = ap encoding_of (sym is.encoding_is) ∙ number_again r.encoding in
     let inside : is_inside width height area ≡ true =
-    subst (λ (a : Area). is_inside width height a ≡ true) is.area_is (within_inside width height r.area (record { columns = is.within_width; rows = is.within_height })) in
+    subst (λ (a : Area). is_inside width height a ≡ true) is.area_is (within_inside width height r.area is.within) in
     let end : at + 12 + length is.content ≡ r.end = sym (is.end_is ∙ ap (λ z. z + length is.content) is.start_is) in
     let same = same_rectangle r area r.encoding (at + 12) (at + 12 + length is.content) (sym is.area_is) refl (sym is.start_is) end in
     let read = content_again width height r.encoding area (at + 12) is.content more content ∙ ap (λ (z : Rectangle). Got z more) same in

@@ -33,8 +33,7 @@ rectangle_placed m front first rest at r bytes_are front_is is =
     ap length parts ∙ length-append (front ++ is.header) (is.content ++ rest) ∙ ap (λ z. length (front ++ is.header) + z) (length-append is.content rest) in
     let content = between m.bytes (front ++ is.header) is.content rest r.start r.end parts start is.end_is in
     record {
-      within_width = is.within_width;
-      within_height = is.within_height;
+      within = is.within;
       ordered = omega (arith, is.end_is);
       in_bytes = omega (arith, is.end_is, start, all);
       content = subst (AreData host_format m.width m.height r.encoding r.area) (sym content) is.content_is;

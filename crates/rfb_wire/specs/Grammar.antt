@@ -6,6 +6,7 @@ use Rattle.pixel_format.specs.Format.{host_format}
 use Rattle.pixel_format.specs.Limits.{limits}
 use Rattle.pixel_format.specs.declared.kind.Format.{Format}
 use Rattle.terms.specs.Reading.{Reading, Got, Bad, ◌>>=◌, field, guard, within}
+use Rattle.terms.specs.Area.{area_at}
 use Rattle.terms.specs.Number.{u16_at, u32_at}
 use Rattle.terms.specs.declared.area.Area.{Area}
 use Rattle.rfb_wire.specs.declared.message.Rectangle.{Rectangle}
@@ -18,7 +19,7 @@ use Rattle.terms.specs.declared.wire_fault.WireFault.TheVariants as faults
 -- The header of a rectangle is 12 bytes: x, y, width, height, and the encoding of its pixels
 -- (section 7.6.1).
 unfoldable pub area_of : List ℕ → Area
-area_of f = record { x = u16_at f 0; y = u16_at f 2; w = u16_at f 4; h = u16_at f 6 }
+area_of f = area_at f 0
 
 unfoldable pub encoding_number : List ℕ → ℕ
 encoding_number f = u32_at f 8

@@ -1,7 +1,8 @@
 -- One recorded message of a host.
-use Rattle.std.specs.Prelude.{◌≡◌, ℕ, ◌+◌, ◌≤◌, Bool, false, nat_eq, List, [], ◌∷◌, length, slice_range}
+use Rattle.std.specs.Prelude.{◌≡◌, ℕ, ◌≤◌, Bool, false, nat_eq, List, [], ◌∷◌, length, slice_range}
 use Rattle.pixel_format.specs.Format.{host_format}
 use Rattle.pixel_format.specs.declared.kind.Format.{Format}
+use Rattle.terms.specs.Area.{LiesWithin}
 use Rattle.terms.specs.Reading.{Got}
 use Rattle.rfb_wire.specs.declared.message.Rectangle.{Rectangle}
 use Rattle.rect_data.specs.Data.{AreData}
@@ -32,8 +33,7 @@ IsRecorded m = message_at (message_limit m.format) m.width m.height m.bytes ≡ 
 
 -- A rectangle lies within the screen, and its data, in the host format, within the message.
 pub record IsPlaced (m : Host) (r : Rectangle) : Type 0 where
-  pub within_width : r.area.x + r.area.w ≤ m.width
-  pub within_height : r.area.y + r.area.h ≤ m.height
+  pub within : LiesWithin m.width m.height r.area
   pub ordered : r.start ≤ r.end
   pub in_bytes : r.end ≤ length m.bytes
   pub content : AreData host_format m.width m.height r.encoding r.area (slice_range m.bytes r.start r.end)

@@ -1,5 +1,6 @@
 pub use Rattle.terms.specs.Reading
 pub mod Fault
+pub mod MessageType
 pub mod Grammar
 pub mod Header
 pub mod Message

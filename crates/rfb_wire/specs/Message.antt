@@ -2,6 +2,7 @@
 -- size of a screen, the message's bytes, and the offsets of its rectangles in them.
 use Rattle.std.specs.Prelude.{◌≡◌, ℕ, ◌+◌, ◌*◌, ◌≤◌, List, [], ◌∷◌, ◌++◌, length, max, ◌⊎◌}
 use Rattle.pixel_format.specs.Format.{host_format}
+use Rattle.terms.specs.Area.{LiesWithin}
 use Rattle.terms.specs.Number.{u32_at}
 use Rattle.rfb_wire.specs.declared.message.Rectangle.{Rectangle}
 use Rattle.rect_data.specs.Data.{number_of, AreData}
@@ -16,8 +17,7 @@ pub record IsRectangle (width height at : ℕ) (r : Rectangle) (bytes : List ℕ
   pub header_length : length header ≡ 12
   pub area_is : r.area ≡ area_of header
   pub encoding_is : number_of r.encoding ≡ encoding_number header
-  pub within_width : r.area.x + r.area.w ≤ width
-  pub within_height : r.area.y + r.area.h ≤ height
+  pub within : LiesWithin width height r.area
   pub content_is : AreData host_format width height r.encoding r.area content
   pub start_is : r.start ≡ at + 12
   pub end_is : r.end ≡ r.start + length content

@@ -1,11 +1,14 @@
 //! Laws of messages. Each is the contract of a function that does nothing.
 
-ghost use Rattle.std.specs.Prelude.{◌≡◌, ◌↔◌, ℕ, List, [], ◌++◌};
+ghost use Rattle.std.specs.Prelude.{◌≡◌, ◌↔◌, ◌+◌, ◌*◌, ◌≤◌, IsTrue, ℕ, List, [], ◌∷◌, ◌++◌, length};
 ghost use Rattle.terms.specs.Reading.{Got, More, Bad};
 ghost use Rattle.rfb_wire.specs.declared.message.Rectangle.{Rectangle};
 ghost use Rattle.terms.specs.declared.wire_fault.WireFault.{WireFault};
 ghost use Rattle.rfb_wire.specs.Grammar.{message_at, Message, Recorded};
 ghost use Rattle.rfb_wire.specs.Message.{IsMessage};
+ghost use Rattle.rfb_wire.specs.Written.{raw_update_bytes, raw_rectangle};
+ghost use Rattle.rect_data.specs.Grammar.{is_inside};
+ghost use Rattle.terms.specs.declared.area.Area.{Area};
 ghost use Rattle.client_wire.specs.Stream.{Part, Reads, BeginsNone};
 
 /// What the grammar reads of all the bytes is a recorded message, and each recorded message is what
@@ -46,4 +49,14 @@ pub fn one_reading_of_a_stream()
         → Reads (message_at limit width height) stream messages rest → BeginsNone (message_at limit width height) rest
         → Reads (message_at limit width height) stream others other → BeginsNone (message_at limit width height) other
         → (messages ≡ others) × (rest ≡ other) }
+{}
+
+/// An update of one Raw rectangle that is written is read as a recorded message with that
+/// rectangle, if the area lies within the screen and has four bytes for each pixel.
+pub fn written_update_is_read()
+    ensures { (limit width height : ℕ) → (area : Area) → (pixels : List ℕ)
+        → IsTrue (is_inside width height area) → length pixels ≡ 4 * (area.w * area.h)
+        → 16 + length pixels ≤ limit
+        → message_at limit width height (raw_update_bytes area pixels)
+        ≡ Got (Recorded (raw_rectangle area ∷ [])) [] }
 {}

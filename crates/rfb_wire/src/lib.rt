@@ -4,28 +4,24 @@
 mod fault;
 mod laws;
 mod message;
+mod message_type;
 mod partial_message;
 mod plain;
 mod reader;
 mod step;
-mod write;
 
 pub use client_wire::{
-    ClientMessage, ClientReader, Encodings, read_client_message, write_client_cut_text,
-    write_key_event, write_pointer_event, write_request, write_set_encodings,
-    write_set_pixel_format,
+    ClientMessage, ClientMessageType, ClientReader, Encodings, read_client_message, write_request,
+    write_set_encodings, write_set_pixel_format,
 };
 pub use fault::BytesFault;
 pub use laws::{
     a_rest_begins_none, grammar_reads_messages, no_message_begins_another, one_reading_of_a_stream,
-    one_reading_of_bytes,
+    one_reading_of_bytes, written_update_is_read,
 };
 pub use message::{HostMessage, Rectangle};
+pub use message_type::HostMessageType;
 pub use plain::{Front, read_message};
 pub use reader::ServerReader;
 pub use rect_data::Encoding;
 pub use terms::{Area, WireFault};
-pub use write::{
-    write_bell, write_color_map, write_cut_text, write_raw_update, written_bell_is_read,
-    written_color_map_is_read, written_text_is_read, written_update_is_read,
-};

@@ -3,6 +3,7 @@
 ghost use Rattle.std.specs.Prelude.{◌≡◌, ◌↔◌, ◌≤◌, All, IsTrue, IfOk, length};
 
 use crate::fault::BytesFault;
+use crate::message_type::HostMessageType;
 use crate::reader::ServerReader;
 use pixel_format::{Format, RecordedScreen};
 use rect_data::Encoding;
@@ -144,7 +145,7 @@ impl HostMessage {
             ↔ IsUpdate self.now.width self.now.height self.now.bytes self.now.rectangles }
     {
         match self.bytes.as_slice() {
-            [kind, ..] => *kind == 0,
+            [kind, ..] => *kind == HostMessageType::FramebufferUpdate as u8,
             [] => false,
         }
     }

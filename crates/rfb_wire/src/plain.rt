@@ -1,11 +1,12 @@
 //! The grammar of messages as a plain function, which has all the bytes before it.
 
-ghost use Rattle.std.specs.Prelude.{◌≡◌, ◌+◌, ◌*◌, ◌<◌, ◌^◌, slice_index, nat_eq, true, false, length, IfOk, IfSome, MatchOption};
+ghost use Rattle.std.specs.Prelude.{◌≡◌, ◌+◌, ◌*◌, ◌<◌, ◌^◌, slice_index, nat_eq, false, drop, length, IfOk, IfSome, MatchOption};
 ghost use Rattle.terms.specs.Reading.{Got, More};
-ghost use Rattle.rfb_wire.specs.Grammar.{rectangle_at, rectangles_at, update_at, color_map_at, text_at, other_at, message_at, message_limit, Recorded, ReadOver};
+ghost use Rattle.rfb_wire.specs.Grammar.{rectangle_at, rectangles_at, update_at, color_map_at, text_at, other_at, message_at, message_limit, Recorded};
 ghost use Rattle.rfb_wire.specs.Plain.{Says, SaysMessage, kind_of};
 
 use crate::message::{HostMessage, Rectangle};
+use crate::message_type::HostMessageType;
 use crate::partial_message::message_limit;
 use crate::step::{TEXT_LIMIT, judge_header};
 use pixel_format::{PixelFormat, RecordedScreen};
@@ -97,15 +98,15 @@ fn update(
     rectangles(alloc, size, count, body)
 }
 
-// The bytes after a colour map, of which these follow the type.
-fn color_map(bytes: &[u8]) -> Option<&[u8]>
+// That a colour map is not recorded, and the bytes after it, of which these follow the type.
+fn color_map(bytes: &[u8]) -> Option<(bool, &[u8])>
     ensures { MatchOption result (color_map_at bytes.now ≡ More)
-        (λ rest. color_map_at bytes.now ≡ Got ReadOver rest.now) }
+        (λ x. color_map_at bytes.now ≡ Got (kind_of x.0) x.1.now) }
 {
     let (head, colors) = field(5, bytes)?;
     let count = read_u16(head, 3);
     let (_, rest) = field(6 * count as usize, colors)?;
-    Some(rest)
+    Some((false, rest))
 }
 
 // Whether a cut text is recorded, and the bytes after it, of which these follow the type.
@@ -117,27 +118,6 @@ fn text(bytes: &[u8]) -> Option<(bool, &[u8])>
     let count = read_u32(head, 3);
     let (_, rest) = field(count as usize, body)?;
     Some((count <= TEXT_LIMIT, rest))
-}
-
-// Whether a message that is no update is recorded, and the bytes after it, of which these follow
-// its type.
-fn other(kind: u8, bytes: &[u8]) -> Result<Option<(bool, &[u8])>, WireFault>
-    requires { nat_eq kind 0 ≡ false }
-    ensures { Says (λ x. kind_of x.0) (λ x. x.1.now) result (other_at kind bytes.now) }
-{
-    if kind == 1 {
-        let Some(rest) = color_map(bytes) else {
-            return Ok(None);
-        };
-        return Ok(Some((false, rest)));
-    }
-    if kind == 2 {
-        return Ok(Some((true, bytes)));
-    }
-    if kind == 3 {
-        return Ok(text(bytes));
-    }
-    Err(WireFault::UnknownType)
 }
 
 // The update that the bytes begin with, whose type is read.
@@ -164,6 +144,33 @@ fn update_message(
     Ok(Some(Front::Recorded(message)))
 }
 
+// The message that the bytes begin with, whose type is read and which is no update: whether it is
+// recorded, and the bytes after it, or `None` if they are too few for it.
+fn other_message(
+    alloc: Global,
+    screen: RecordedScreen,
+    bytes: &[u8],
+    other: Option<(bool, &[u8])>,
+) -> Result<Option<Front>, WireFault>
+    requires some { 0 < length bytes.now }
+    requires kind { nat_eq (slice_index bytes.now 0) 0 ≡ false }
+    requires is { MatchOption other (other_at (slice_index bytes.now 0) (drop 1 bytes.now) ≡ More)
+        (λ x. other_at (slice_index bytes.now 0) (drop 1 bytes.now) ≡ Got (kind_of x.0) x.1.now) }
+    ensures { SaysMessage screen.format screen.size.width screen.size.height bytes.now result
+        (message_at (message_limit screen.format) screen.size.width screen.size.height bytes.now) }
+{
+    let Some((recorded, following)) = other else {
+        return Ok(None);
+    };
+    let length = bytes.len() - following.len();
+    if !recorded {
+        return Ok(Some(Front::ReadOver(length)));
+    }
+    let whole = Vec::from_slice(alloc, &bytes[..length])?;
+    let message = HostMessage::from_parts(screen, whole, Vec::new(alloc));
+    Ok(Some(Front::Recorded(message)))
+}
+
 /// The message that the bytes begin with, for this screen; `None` if they are too few for it, and
 /// the fault that they begin with. It reads the bytes from their front, while a `ServerReader`
 /// takes them in pieces.
@@ -175,20 +182,18 @@ pub fn read_message(
     ensures { SaysMessage screen.format screen.size.width screen.size.height bytes.now result
         (message_at (message_limit screen.format) screen.size.width screen.size.height bytes.now) }
 {
-    let Some((kind, rest)) = field(1, bytes) else {
+    let Some((first, rest)) = field(1, bytes) else {
         return Ok(None);
     };
-    if kind[0] == 0 {
-        return update_message(alloc, screen, bytes);
-    }
-    let Some((recorded, following)) = other(kind[0], rest)? else {
-        return Ok(None);
+    let Some(kind) = HostMessageType::from_number(first[0]) else {
+        return Err(WireFault::UnknownType);
     };
-    let length = bytes.len() - following.len();
-    if !recorded {
-        return Ok(Some(Front::ReadOver(length)));
+    match kind {
+        HostMessageType::FramebufferUpdate => update_message(alloc, screen, bytes),
+        HostMessageType::SetColorMapEntries => {
+            other_message(alloc, screen, bytes, color_map(rest))
+        }
+        HostMessageType::Bell => other_message(alloc, screen, bytes, Some((true, rest))),
+        HostMessageType::ServerCutText => other_message(alloc, screen, bytes, text(rest)),
     }
-    let whole = Vec::from_slice(alloc, &bytes[..length])?;
-    let message = HostMessage::from_parts(screen, whole, Vec::new(alloc));
-    Ok(Some(Front::Recorded(message)))
 }

@@ -12,6 +12,7 @@ ghost use Rattle.rfb_wire.specs.Header.{Names, IsRefusedBy};
 ghost use Rattle.rfb_wire.specs.PartialMessage.{wants_of, start_of, NextBegins, IsOfUpdate, IsOfKind, NextIsOfKind, resume, go_on, step_on, others_at, after_data};
 
 use crate::message::Rectangle;
+use crate::message_type::HostMessageType;
 use crate::partial_message::{AfterField, Begun, Next, Stage};
 use pixel_format::PixelFormat;
 use rect_data::{Encoding, Judging, lies_inside};
@@ -19,21 +20,6 @@ use terms::{Area, ScreenSize, WireFault, read_u16, read_u32};
 
 /// The greatest number of bytes of a text that is recorded.
 pub const TEXT_LIMIT: u32 = 65_536;
-
-// The area that the header of a rectangle names: x, y, width and height, the higher byte of each
-// first (RFC 6143, section 7.6.1).
-#[tactic(auto, unfolding(crate::specs::Grammar::area_of))]
-fn area_at(header: &[u8]) -> Area
-    requires { length header.now ≡ 12 }
-    ensures { result ≡ area_of header.now }
-{
-    Area {
-        x: read_u16(header, 0),
-        y: read_u16(header, 2),
-        w: read_u16(header, 4),
-        h: read_u16(header, 6),
-    }
-}
 
 // The number of the encoding that the header of a rectangle names, as four unsigned bytes.
 #[tactic(auto, unfolding(crate::specs::Grammar::encoding_number))]
@@ -51,7 +37,7 @@ pub fn judge_header(size: ScreenSize, header: &[u8]) -> Result<(Area, Encoding),
     ensures ok { IfOk result (λ x. Names size.width size.height header.now x.0 x.1) }
     ensures faults { IfErr result (IsRefusedBy size.width size.height header.now) }
 {
-    let area = area_at(header);
+    let area = Area::read(header, 0);
     if !lies_inside(area, size) {
         return Err(WireFault::OutsideScreen);
     }
@@ -88,16 +74,14 @@ fn next_of_type(number: u8) -> Result<Next, WireFault>
     ensures faults { IfErr result (λ f. (width height : ℕ) → (field more : List ℕ) → length field ≡ 1 → slice_index field 0 ≡ number
         → resume width height Stage.Type (field ++ more) ≡ Bad f) }
 {
-    if number == 0 {
-        Ok(Next::Field(Stage::UpdateHead))
-    } else if number == 1 {
-        Ok(Next::Field(Stage::ColorMapHead))
-    } else if number == 2 {
-        Ok(Next::End)
-    } else if number == 3 {
-        Ok(Next::Field(Stage::TextHead))
-    } else {
-        Err(WireFault::UnknownType)
+    let Some(kind) = HostMessageType::from_number(number) else {
+        return Err(WireFault::UnknownType);
+    };
+    match kind {
+        HostMessageType::FramebufferUpdate => Ok(Next::Field(Stage::UpdateHead)),
+        HostMessageType::SetColorMapEntries => Ok(Next::Field(Stage::ColorMapHead)),
+        HostMessageType::Bell => Ok(Next::End),
+        HostMessageType::ServerCutText => Ok(Next::Field(Stage::TextHead)),
     }
 }
 

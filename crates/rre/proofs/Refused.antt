@@ -9,10 +9,10 @@ use Rattle.terms.proofs.Measured.{measured_bad}
 use Rattle.terms.proofs.Listed.{StopsIn, stops_here, stops_after}
 use Rattle.terms.specs.Number.{u32_at}
 use Rattle.rre.specs.declared.data.Subrectangle.{Subrectangle}
-use Rattle.rre.specs.declared.fault.Measure.TheVariants as answers
+use Rattle.terms.specs.declared.measuring.NoLength.TheVariants as answers
 use Rattle.rre.specs.Grammar.{Fault, Outside, head_bytes, subrectangle_bytes, subrectangle_of, is_inside, subrectangle_at, subrectangles_at, data_at}
 use Rattle.rre.specs.Data.{LiesWithin, AreBytesOf, AreSubrectangles, IsRefused}
-use Rattle.rre.specs.Measuring.{measured}
+use Rattle.terms.specs.Measuring.{measured}
 use Rattle.rre.proofs.Content.{bytes_of_field, inside_is, subrectangle_read, head_is}
 
 -- ---- subrectangles
@@ -95,5 +95,5 @@ one_fault Outside = refl
 
 pub measured_is_refused : (f : Format) (w h : ℕ) (bytes : List ℕ) → measured (length bytes) (data_at f w h bytes) ≡ Err answers.Bad → IsRefused f w h bytes
 measured_is_refused f w h bytes e =
-    let bad = measured_bad answers.NeedMore answers.Bad (length bytes) (data_at f w h bytes) (λ same. absurd (cc)) e in
+    let bad = measured_bad (length bytes) (data_at f w h bytes) e in
     refused_read f w h bytes (bad.1 ∙ ap (λ z. Bad z) (one_fault bad.0))

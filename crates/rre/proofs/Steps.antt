@@ -11,8 +11,8 @@ use Rattle.rre.specs.declared.data.Subrectangle.{Subrectangle}
 use Rattle.rre.specs.declared.measuring.Measuring.{Measuring}
 use Rattle.rre.specs.declared.measuring.Measuring.TheVariants as stages
 use Rattle.rre.specs.Grammar.{Fault, Outside, head_bytes, subrectangle_bytes, subrectangle_of, is_inside, subrectangle_at, subrectangles_at, data_at}
-use Rattle.rre.specs.declared.fault.Measure.TheVariants as answers
-use Rattle.rre.specs.Measuring.{wants_of, judged, resume, go_on, measured}
+use Rattle.rre.specs.Measuring.{wants_of, resume, go_on}
+use Rattle.terms.specs.Measuring.{judged, measured}
 
 -- what is made of a value plays no part in how its bytes are judged
 judged_of : {A B : Type 0} (g : A → B) (r : Reading A Fault) → judged (r >>= λ x after. Got (g x) after) ≡ judged r
@@ -54,12 +54,6 @@ pub field_waits : (f : Format) (w h : ℕ) (stage : Measuring) (bytes : List ℕ
 unfolding resume data_at subrectangles_at subrectangle_at
 field_waits f w h stages.Head bytes short = rw (field-short {E = Fault} (head_bytes f) bytes short) refl
 field_waits f w h (stages.Subrectangle others) bytes short = rw (field-short {E = Fault} (subrectangle_bytes f) bytes short) refl
-
--- the length of what is whole is that of what is judged whole
-pub measured_judged : {A : Type 0} (size : ℕ) (r : Reading A Fault) → measured size (judged r) ≡ measured size r
-measured_judged size (Got x rest) = refl
-measured_judged size More = refl
-measured_judged size (Bad fault) = refl
 
 -- the first of the subrectangles that are left, and bytes in front of it that are judged
 pub parts_inside : (f : Format) (w h count left : ℕ) (front part : List ℕ)
@@ -103,32 +97,21 @@ wants_some f stages.Head = omega arith
 wants_some f (stages.Subrectangle more) = omega arith
 
 -- what is judged of the bytes' front is judged of the bytes
-all_is : (f : Format) (w h n : ℕ) (bytes : List ℕ) (next : Option Measuring)
+pub all_is : (f : Format) (w h n : ℕ) (bytes : List ℕ) (next : Option Measuring)
     → ((more : List ℕ) → resume f w h stages.Head (take n bytes ++ more) ≡ go_on f w h next more)
     → judged (data_at f w h bytes) ≡ go_on f w h next (drop n bytes)
 unfolding resume
 all_is f w h n bytes next goes = ap (λ z. judged (data_at f w h z)) (sym (take-append-drop n bytes)) ∙ goes (drop n bytes)
 
-pub all_whole : (f : Format) (w h n : ℕ) (bytes : List ℕ) → n ≤ length bytes
-    → ((more : List ℕ) → resume f w h stages.Head (take n bytes ++ more) ≡ go_on f w h None more)
-    → Ok n ≡ measured (length bytes) (data_at f w h bytes)
-unfolding go_on
-all_whole f w h n bytes within goes =
-    let size : length bytes - length (drop n bytes) ≡ n = rw (length-drop n bytes) (omega (arith, within)) in
-    sym (sym (measured_judged (length bytes) (data_at f w h bytes)) ∙ ap (measured (length bytes)) (all_is f w h n bytes None goes) ∙ ap Ok size)
-
 pub all_waits : (f : Format) (w h n : ℕ) (bytes : List ℕ) (next : Measuring) → length bytes < n + wants_of f next
     → ((more : List ℕ) → resume f w h stages.Head (take n bytes ++ more) ≡ go_on f w h (Some next) more)
-    → Err answers.NeedMore ≡ measured (length bytes) (data_at f w h bytes)
+    → judged (data_at f w h bytes) ≡ More
 unfolding go_on
 all_waits f w h n bytes next few goes =
     let short : length (drop n bytes) < wants_of f next = rw (length-drop n bytes) (omega (arith, few, wants_some f next)) in
-    sym (sym (measured_judged (length bytes) (data_at f w h bytes))
-    ∙ ap (measured (length bytes)) (all_is f w h n bytes (Some next) goes ∙ field_waits f w h next (drop n bytes) short))
+    all_is f w h n bytes (Some next) goes ∙ field_waits f w h next (drop n bytes) short
 
 pub all_refused : (f : Format) (w h : ℕ) (bytes : List ℕ) → ((more : List ℕ) → resume f w h stages.Head (bytes ++ more) ≡ Bad Outside)
-    → Err answers.Bad ≡ measured (length bytes) (data_at f w h bytes)
+    → judged (data_at f w h bytes) ≡ Bad Outside
 unfolding resume
-all_refused f w h bytes refused =
-    sym (sym (measured_judged (length bytes) (data_at f w h bytes))
-    ∙ ap (measured (length bytes)) (ap (λ z. judged (data_at f w h z)) (sym (append-nil bytes)) ∙ refused []))
+all_refused f w h bytes refused = ap (λ z. judged (data_at f w h z)) (sym (append-nil bytes)) ∙ refused []

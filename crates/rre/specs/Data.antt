@@ -3,14 +3,19 @@
 use Rattle.std.specs.Prelude.{◌≡◌, ℕ, ◌+◌, ◌<◌, ◌≤◌, List, [], ◌∷◌, ◌++◌, length}
 use Rattle.pixel_format.specs.Format.{Format, pixel_bytes}
 use Rattle.pixel_format.specs.Pixel.{pixel_color}
+use Rattle.terms.specs.Area as areas
+use Rattle.terms.specs.declared.area.Area.{Area}
 use Rattle.terms.specs.Number.{u16_at, u32_at}
 use Rattle.rre.specs.declared.data.Subrectangle.{Subrectangle}
 use Rattle.rre.specs.Grammar.{Content}
 
+-- the area of a subrectangle
+abbrev pub area_of : Subrectangle → Area
+area_of s = record { x = s.x; y = s.y; w = s.w; h = s.h }
+
 -- the subrectangle lies within a rectangle of w by h
-pub record LiesWithin (w h : ℕ) (s : Subrectangle) : Type 0 where
-  pub columns : s.x + s.w ≤ w
-  pub rows : s.y + s.h ≤ h
+abbrev pub LiesWithin : ℕ → ℕ → Subrectangle → Type 0
+LiesWithin w h s = areas.LiesWithin w h (area_of s)
 
 -- bytes of a subrectangle: a pixel, and then x, y, width and height of two bytes each
 pub record AreBytesOf (f : Format) (s : Subrectangle) (bytes : List ℕ) : Type 0 where

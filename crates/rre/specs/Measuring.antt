@@ -1,9 +1,8 @@
 -- What is left of data that are judged field by field.
 use Rattle.std.specs.Prelude.{ℕ, suc, List, Option, Some, None, Result}
 use Rattle.pixel_format.specs.Format.{Format}
-use Rattle.terms.specs.Reading.{Reading, Got, ◌>>=◌, measured_as}
-use Rattle.rre.specs.declared.fault.Measure.{Measure}
-use Rattle.rre.specs.declared.fault.Measure.TheVariants as answers
+use Rattle.terms.specs.Reading.{Reading, Got, ◌>>=◌}
+use Rattle.terms.specs.Measuring.{judged}
 use Rattle.rre.specs.declared.measuring.Measuring.{Measuring}
 use Rattle.rre.specs.declared.measuring.Measuring.TheVariants as stages
 use Rattle.rre.specs.Grammar.{Fault, head_bytes, subrectangle_bytes, subrectangles_at, data_at}
@@ -12,10 +11,6 @@ use Rattle.rre.specs.Grammar.{Fault, head_bytes, subrectangle_bytes, subrectangl
 abbrev pub wants_of : Format → Measuring → ℕ
 wants_of f stages.Head = head_bytes f
 wants_of f (stages.Subrectangle more) = subrectangle_bytes f
-
--- whether data are whole, faulty or too short, whatever they say
-abbrev pub judged : {A : Type 0} → Reading A Fault → Reading Unit Fault
-judged r = r >>= λ content rest. Got tt rest
 
 -- what the bytes from the next field on are, up to the data's end
 unfoldable pub resume : Format → ℕ → ℕ → Measuring → List ℕ → Reading Unit Fault
@@ -26,7 +21,3 @@ resume f w h (stages.Subrectangle more) bytes = judged (subrectangles_at f w h (
 unfoldable pub go_on : Format → ℕ → ℕ → Option Measuring → List ℕ → Reading Unit Fault
 go_on f w h None bytes = Got tt bytes
 go_on f w h (Some stage) bytes = resume f w h stage bytes
-
--- what a reading of so many bytes is to one who measures: the length of what is whole
-abbrev pub measured : {A : Type 0} → ℕ → Reading A Fault → Result ℕ Measure
-measured size r = measured_as answers.NeedMore answers.Bad size r

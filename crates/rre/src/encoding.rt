@@ -10,7 +10,7 @@ use crate::append::append_data;
 use crate::cover::{Ground, background, cover};
 use pixel_format::{Color, PixelFormat, Pixels};
 use std::alloc::Global;
-use terms::{NoMemory, whole_or_none};
+use terms::{NoMemory, keep_below, whole_or_none};
 
 const BLACK: Color = Color { r: 0, g: 0, b: 0 };
 
@@ -114,9 +114,5 @@ pub fn encode_numbers_below(
     if !whole {
         return Ok(false);
     }
-    if bytes.len() - before < limit {
-        return Ok(true);
-    }
-    bytes.truncate(before);
-    Ok(false)
+    Ok(keep_below(limit, before, bytes))
 }

@@ -6,14 +6,13 @@ mod append;
 mod cover;
 mod data;
 mod encoding;
-mod fault;
 mod laws;
 mod measuring;
 mod painting;
 
 pub use data::Subrectangle;
 pub use encoding::{encode, encode_numbers_below};
-pub use fault::Measure;
 pub use laws::{grammar_reads_data, no_data_begin_others, one_reading_of_data};
 pub use measuring::{Measuring, measure};
 pub use painting::paint;
+pub use terms::NoLength;

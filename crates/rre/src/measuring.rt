@@ -6,8 +6,8 @@ ghost use Rattle.pixel_format.specs.Format.{Format};
 ghost use Rattle.rre.specs.Grammar.{Outside, subrectangle_bytes, subrectangles_at, data_at};
 
 use crate::data::{is_part_inside, read_count};
-use crate::fault::Measure;
 use pixel_format::PixelFormat;
+use terms::{NoLength, whole_length};
 
 /// Which field of a rectangle's data comes next: what stands for the part that is judged. Data that
 /// come in pieces are judged by [`run`](Measuring::run), from `Head` on, and no byte twice: bytes
@@ -21,7 +21,8 @@ pub enum Measuring {
 }
 
 ghost use Rattle.rre.specs.Data.{AreData, IsRefused};
-ghost use Rattle.rre.specs.Measuring.{go_on, resume, wants_of, judged, measured};
+ghost use Rattle.rre.specs.Measuring.{go_on, resume, wants_of};
+ghost use Rattle.terms.specs.Measuring.{judged, measured};
 
 // The field of the next of so many subrectangles.
 fn next_of(count: u64) -> Option<Measuring>
@@ -48,7 +49,7 @@ fn judge_parts(
     h: u16,
     count: u64,
     bytes: &[u8],
-) -> Result<(usize, Option<Measuring>), Measure>
+) -> Result<(usize, Option<Measuring>), NoLength>
     requires { count ≤ 2 ^ 32 }
     ensures taken { IfOk result (λ x. x.0 ≤ length bytes.now) }
     ensures first { IfOk result (λ x. 0 < count → subrectangle_bytes format.now ≤ length bytes.now → subrectangle_bytes format.now ≤ x.0) }
@@ -57,7 +58,7 @@ fn judge_parts(
     ensures waits { IfOk result (λ x. IfSome x.1 (λ next. length bytes.now < x.0 + wants_of format.now next)) }
     ensures refused { IfErr result (λ _. (more : List ℕ)
         → judged (subrectangles_at format.now w h count (bytes.now ++ more)) ≡ Bad Outside) }
-    ensures only { IfErr result (λ fault. fault ≡ Measure.Bad) }
+    ensures only { IfErr result (λ fault. fault ≡ NoLength.Bad) }
 {
     let size = format.bytes() + 8;
     let mut left = count;
@@ -65,7 +66,7 @@ fn judge_parts(
     while left > 0 && rest.len() >= size {
         let (part, following) = rest.split_at(size);
         if !is_part_inside(format, part, w, h) {
-            return Err(Measure::Bad);
+            return Err(NoLength::Bad);
         }
         left -= 1;
         rest = following;
@@ -88,14 +89,14 @@ impl Measuring {
 
     /// Judges the whole fields that the bytes begin with, in a rectangle of w by h. Answers how
     /// many bytes they have, and the field after them, which isn't whole in the bytes, `None` if
-    /// the data end; and `Measure::Bad` if one of them is a subrectangle that leaves the rectangle.
+    /// the data end; and `NoLength::Bad` if one of them is a subrectangle that leaves the rectangle.
     pub fn run(
         self,
         format: &PixelFormat,
         w: u16,
         h: u16,
         bytes: &[u8],
-    ) -> Result<(usize, Option<Measuring>), Measure>
+    ) -> Result<(usize, Option<Measuring>), NoLength>
         ensures taken { IfOk result (λ x. x.0 ≤ length bytes.now) }
         ensures first { IfOk result (λ x. wants_of format.now self ≤ length bytes.now → wants_of format.now self ≤ x.0) }
         ensures goes { IfOk result (λ x. (more : List ℕ)
@@ -103,7 +104,7 @@ impl Measuring {
         ensures waits { IfOk result (λ x. IfSome x.1 (λ next. length bytes.now < x.0 + wants_of format.now next)) }
         ensures refused { IfErr result (λ _. (more : List ℕ)
             → resume format.now w h self (bytes.now ++ more) ≡ Bad Outside) }
-        ensures only { IfErr result (λ fault. fault ≡ Measure.Bad) }
+        ensures only { IfErr result (λ fault. fault ≡ NoLength.Bad) }
     {
         match self {
             Measuring::Head => {
@@ -121,24 +122,22 @@ impl Measuring {
 }
 
 // The same as `measure`, in the words of the grammar.
-fn measure_by_fields(format: &PixelFormat, w: u16, h: u16, bytes: &[u8]) -> Result<usize, Measure>
+fn measure_by_fields(format: &PixelFormat, w: u16, h: u16, bytes: &[u8]) -> Result<usize, NoLength>
     ensures { result ≡ measured (length bytes.now) (data_at format.now w h bytes.now) }
 {
-    match Measuring::Head.run(format, w, h, bytes)? {
-        (taken, None) => Ok(taken),
-        (_, Some(_)) => Err(Measure::NeedMore),
-    }
+    let (taken, following) = Measuring::Head.run(format, w, h, bytes)?;
+    whole_length(taken, following)
 }
 
 /// The length of the data of a rectangle of w by h that begin the bytes (RFC 6143, section 7.7.3).
-/// `Measure::Bad` comes at the last byte of the first subrectangle that leaves the rectangle, and
-/// `Measure::NeedMore` for all other bytes that no data begin. It takes no memory.
-pub fn measure(format: &PixelFormat, w: u16, h: u16, bytes: &[u8]) -> Result<usize, Measure>
+/// `NoLength::Bad` comes at the last byte of the first subrectangle that leaves the rectangle, and
+/// `NoLength::NeedMore` for all other bytes that no data begin. It takes no memory.
+pub fn measure(format: &PixelFormat, w: u16, h: u16, bytes: &[u8]) -> Result<usize, NoLength>
     ensures value { result ≡ measured (length bytes.now) (data_at format.now w h bytes.now) }
     ensures ok { IfOk result (λ n. (n ≤ length bytes.now) × AreData format.now w h (take n bytes.now)) }
     ensures whole { (front more : List ℕ) → bytes.now ≡ front ++ more → AreData format.now w h front
         → result ≡ Ok (length front) }
-    ensures bad { (result ≡ Err Measure.Bad) ↔ IsRefused format.now w h bytes.now }
+    ensures bad { (result ≡ Err NoLength.Bad) ↔ IsRefused format.now w h bytes.now }
 {
     measure_by_fields(format, w, h, bytes)
 }

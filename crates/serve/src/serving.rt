@@ -8,10 +8,10 @@ use connections::{Device, Hall, Room};
 use file_disk::{LastError, Written};
 use libc::STDERR_FILENO;
 use recorder_opening::{Begun, Opened, Opening, Reading, Source};
-use recorder_threads::{Comer, Service, refuse, run_threads};
+use recorder_threads::{Comer, Service, Work, refuse, run_threads};
 use refusals::{Refusal, Stopped};
 use serve_plan::{Origin, Plan};
-use shared_book::{Mark, Shared, Token};
+use shared_book::{Mark, Shared, Sharing, Token};
 use sockets::Bell;
 use std::fmt::Display;
 use std::fs::File;
@@ -85,7 +85,18 @@ fn serve_opened<M: Mark + Send + Sync, R: Threads + Clock + Wait + Sync + AllocG
         source: Source { host, stream },
         ..
     } = Box::into_inner(opened);
-    let shared = Shared::<_, M>::new(rt, token, desk);
+    let Sharing {
+        shared,
+        host: host_pen,
+        flusher: flusher_pen,
+    } = Shared::<_, M>::new(rt, token, desk);
+    let work = Work {
+        host,
+        host_pen,
+        flusher_pen,
+        comers,
+        stop: plan.stop,
+    };
     let service = Service {
         rt,
         shared: &shared,
@@ -93,7 +104,7 @@ fn serve_opened<M: Mark + Send + Sync, R: Threads + Clock + Wait + Sync + AllocG
         listener: &listener,
         stream: &stream,
     };
-    let outcome = run_threads(&service, host, comers, plan.stop, err);
+    let outcome = run_threads(&service, work, err);
     drop(service);
     outcome.result(shared.finish().committed())
 }

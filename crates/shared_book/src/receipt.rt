@@ -2,9 +2,15 @@
 
 ghost use Rattle.std.specs.Prelude.{◌≡◌, ◌+◌, ◌<◌, ◌≤◌, ◌^◌, length, take, drop};
 
-use book_tokens::{Front, Mark, NumberProof};
+use book_tokens::{Accepting, Committing, Front, Mark, NumberProof, Pen};
 use replay::Slice;
 use std::marker::Model;
+
+/// The one right to hand in a host's messages. Contracts see how many were accepted in all.
+pub type HostPen<M> = Pen<M, Accepting>;
+
+/// The one right to commit messages. Contracts see how many were committed in all.
+pub type FlusherPen<M> = Pen<M, Committing>;
 
 /// A slice that `gate`, `next` or `newest` answered, of [`Shared`](crate::Shared). It is made by
 /// these alone, and its type keeps that it stands in the recording that threads share, from then on.

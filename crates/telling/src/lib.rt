@@ -11,4 +11,4 @@ mod words;
 pub use queue::{Item, Queue};
 pub use silence::{Answering, Silence};
 pub use telling::{Telling, Told};
-pub use words::{Event, HostEnd};
+pub use words::Event;

@@ -1,9 +1,9 @@
 -- What is appended one after the other.
-use Rattle.std.proofs.Common.{◌≡◌, ℕ, ◌+◌, ◌<◌, List, [], ◌∷◌, ◌++◌, length, take, get_or, sym, ap, subst, ◌∙◌, refl, append_assoc}
+use Rattle.std.proofs.Common.{◌≡◌, ℕ, ◌+◌, ◌<◌, Bool, true, false, Ok, List, [], ◌∷◌, ◌++◌, length, take, get_or, sym, ap, subst, ◌∙◌, refl, append_assoc}
 use Rattle.std.specs.List.{flat_map}
-use Rattle.std.proofs.lemmas.List.{append-nil, take_more}
+use Rattle.std.proofs.lemmas.List.{append-nil, take_at, take_more}
 use Rattle.std.proofs.lemmas.Grind.{flat_map-append}
-use Rattle.terms.specs.Appending.{Appends, Grows, AreEach}
+use Rattle.terms.specs.Appending.{Appends, AppendsIf, Grows, AreEach}
 
 -- nothing
 pub grows_none : (old : List ℕ) → Grows old old
@@ -40,3 +40,12 @@ mapped_more g all k d old between new lt before last =
     let more : flat_map g (take (k + 1) all) ≡ flat_map g (take k all) ++ g (get_or all k d) =
     ap (flat_map g) (take_more all k d lt) ∙ flat_map-append g (take k all) (get_or all k d ∷ []) ∙ ap (λ z. flat_map g (take k all) ++ z) one in
     joined old (flat_map g (take k all)) (g (get_or all k d)) between new before last ∙ ap (λ z. old ++ z) (sym more)
+
+-- bytes that are kept, or taken back
+pub kept_or_not : {E : Type 0} (P : List ℕ → Type 0) (old between new : List ℕ) (start : ℕ) (kept : Bool) → start ≡ length old → Appends P old between
+    → (kept ≡ true → new ≡ between) → (kept ≡ false → new ≡ take start between) → AppendsIf {E = E} P old new (Ok kept)
+kept_or_not P old between new start kept at a same back = record {
+  ok = λ is. subst (Appends P old) (sym (same is)) a;
+  unchanged = λ is. back is ∙ ap (take start) a.is ∙ take_at old a.bytes start (sym at);
+  err = tt;
+}

@@ -1,9 +1,16 @@
 -- The pixels of areas.
-use Rattle.std.proofs.Common.{◌≡◌, ℕ, ◌+◌, ◌-◌, ◌<◌, ◌≤◌, inl, inr, Bool, true, false, refl, sym, ◌∙◌, arith}
+use Rattle.std.proofs.Common.{◌≡◌, ℕ, ◌+◌, ◌-◌, ◌*◌, ◌/◌, ◌%◌, List, ◌++◌, ◌<◌, ◌≤◌, inl, inr, Bool, true, false, refl, sym, ◌∙◌, arith}
 use Rattle.std.specs.Prelude.{◌||◌, ◌&&◌, min, max, ◌⊎◌, Option, Some, None}
 use Rattle.std.proofs.lemmas.Bool.{and_parts, ltb-true, leb-true, lt-ltb, le-leb, cases_lt}
 use Rattle.terms.specs.declared.area.Area.{Area}
-use Rattle.terms.specs.Area.{is_in, HasPixels, IsSmallest, IsSmallestOf}
+use Rattle.terms.specs.Area.{area_at, area_bytes, is_in, HasPixels, IsSmallest, IsSmallestOf}
+
+-- an area that is written is read again
+u16_back : (n : ℕ) → 256 * (n / 256) + n % 256 ≡ n
+u16_back n = omega arith
+
+pub area_back : (a : Area) (more : List ℕ) → area_at (area_bytes a ++ more) 0 ≡ a
+area_back a more = rw (u16_back a.x, u16_back a.y, u16_back a.w, u16_back a.h) refl
 
 -- the pixel lies in the area, as a fact
 pub record IsIn (area : Area) (x y : ℕ) : Type 0 where

@@ -1,7 +1,12 @@
 -- Areas: the pixels that one has, and how it stands on the wire (RFC 6143, sections 7.5.3 and
 -- 7.6.1).
-use Rattle.std.specs.Prelude.{◌≡◌, ℕ, ◌+◌, ◌-◌, ◌/◌, ◌%◌, ◌<◌, ◌^◌, nat_le, nat_lt, Bool, true, ◌&&◌, List, [], ◌∷◌, Option, Some, None}
+use Rattle.std.specs.Prelude.{◌≡◌, ℕ, ◌+◌, ◌-◌, ◌/◌, ◌%◌, ◌<◌, ◌≤◌, ◌^◌, nat_le, nat_lt, Bool, true, ◌&&◌, List, [], ◌∷◌, Option, Some, None}
+use Rattle.terms.specs.Number.{u16_at}
 use Rattle.terms.specs.declared.area.Area.{Area}
+
+-- the area whose four numbers a field has, from its byte i on
+abbrev pub area_at : List ℕ → ℕ → Area
+area_at f i = record { x = u16_at f i; y = u16_at f (i + 2); w = u16_at f (i + 4); h = u16_at f (i + 6) }
 
 -- x, y, width and height
 abbrev pub area_bytes : Area → List ℕ
@@ -10,6 +15,11 @@ area_bytes a = a.x / 256 ∷ a.x % 256 ∷ a.y / 256 ∷ a.y % 256 ∷ a.w / 256
 -- the pixel of this column and row lies in the area
 abbrev pub is_in : Area → ℕ → ℕ → Bool
 is_in area x y = (nat_le area.x x && nat_lt x (area.x + area.w)) && (nat_le area.y y && nat_lt y (area.y + area.h))
+
+-- all of the area lies within a width and a height, those of a screen say
+pub record LiesWithin (width height : ℕ) (area : Area) : Type 0 where
+  pub columns : area.x + area.w ≤ width
+  pub rows : area.y + area.h ≤ height
 
 -- an area of some pixels, all of whose ends have a number of 16 bits
 pub record HasPixels (area : Area) : Type 0 where

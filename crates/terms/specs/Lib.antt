@@ -1,4 +1,5 @@
 pub mod Reading
+pub mod Measuring
 pub mod Talk
 pub mod Number
 pub mod Decimal

@@ -1,6 +1,6 @@
 -- Reading a list of bytes from its front, field by field. The bytes begin with a whole thing, or
 -- with a fault, or are too few for either.
-use Rattle.std.specs.Prelude.{◌≡◌, ℕ, ◌-◌, Bool, List, length, take, drop, ◌++◌, nat_lt, Result, Ok, Err, if◌then◌else◌}
+use Rattle.std.specs.Prelude.{◌≡◌, ℕ, ◌-◌, Bool, List, length, take, drop, ◌++◌, nat_lt, if◌then◌else◌}
 
 pub data Reading (A E : Type 0) : Type 0 where
   -- a value, and the bytes after it
@@ -43,10 +43,3 @@ Extends (Bad e) more longer = longer ≡ Bad e
 
 abbrev pub IsLocal : {A E : Type 0} → (List ℕ → Reading A E) → Type 0
 IsLocal read = (bytes more : List ℕ) → Extends (read bytes) more (read (bytes ++ more))
-
--- what a reading of so many bytes is to one who measures: the length of what is whole, or one of two
--- answers, for too few bytes and for faulty ones
-abbrev pub measured_as : {A E M : Type 0} → M → M → ℕ → Reading A E → Result ℕ M
-measured_as few faulty size (Got x rest) = Ok (size - length rest)
-measured_as few faulty size More = Err few
-measured_as few faulty size (Bad e) = Err faulty

@@ -1,6 +1,6 @@
 //! What is appended whole or not at all.
 
-ghost use Rattle.std.specs.Prelude.{◌≡◌, ◌+◌, ◌++◌, ◌≤◌, OnOk, OnErr, length, max, take, vec_capacity};
+ghost use Rattle.std.specs.Prelude.{◌≡◌, ◌+◌, ◌++◌, ◌<◌, ◌≤◌, IsTrue, false, OnOk, OnErr, length, max, take, vec_capacity};
 ghost use Rattle.terms.specs.Appending.{room_for};
 
 use crate::NoMemory;
@@ -21,6 +21,22 @@ pub fn whole_or_none(
         bytes.truncate(start);
     }
     appended
+}
+
+/// Takes back what was appended after the first so many bytes, unless it has fewer bytes than the
+/// limit. Answers whether it is kept.
+pub fn keep_below(limit: usize, start: usize, bytes: &mut Vec<u8>) -> bool
+    requires { start ≤ length bytes.old.items }
+    ensures kept { IsTrue result → bytes.new.items ≡ bytes.old.items }
+    ensures below { IsTrue result → length bytes.new.items < start + limit }
+    ensures long { result ≡ false → start + limit ≤ length bytes.old.items }
+    ensures taken_back { result ≡ false → bytes.new.items ≡ take start bytes.old.items }
+{
+    let short = bytes.len() - start < limit;
+    if !short {
+        bytes.truncate(start);
+    }
+    short
 }
 
 /// Appends bytes that came. If they need more room, it takes room for no more than twice as many

@@ -1,9 +1,9 @@
 //! A part of a screen.
 
-ghost use Rattle.std.specs.Prelude.{◌≡◌, ◌+◌, ◌<◌, ◌≤◌, ◌&&◌, ◌||◌, nat_lt, min, max, MatchOption};
-ghost use Rattle.terms.specs.Area.{area_bytes, is_in, HasPixels, HasJustOf, IsSmallest};
+ghost use Rattle.std.specs.Prelude.{◌≡◌, ◌+◌, ◌<◌, ◌≤◌, ◌&&◌, ◌||◌, nat_lt, min, max, length, MatchOption};
+ghost use Rattle.terms.specs.Area.{area_at, area_bytes, is_in, HasPixels, HasJustOf, IsSmallest};
 
-use crate::number::two_bytes;
+use crate::number::{read_u16, two_bytes};
 use crate::screen_size::ScreenSize;
 
 /// A rectangle of pixels: its upper left corner, its width and its height.
@@ -59,6 +59,20 @@ impl Area {
             length: self.h,
         };
         (columns, rows)
+    }
+
+    /// The area whose numbers are in eight bytes of a field, from this offset on: x, y, width and
+    /// height, the higher byte of each first.
+    pub fn read(field: &[u8], at: usize) -> Area
+        requires { at + 8 ≤ length field.now }
+        ensures { result ≡ area_at field.now at }
+    {
+        Area {
+            x: read_u16(field, at),
+            y: read_u16(field, at + 2),
+            w: read_u16(field, at + 4),
+            h: read_u16(field, at + 6),
+        }
     }
 
     /// Its numbers as they stand on the wire: two bytes each, the higher one first.

@@ -1,5 +1,5 @@
 //! What the crates above mean by one word: an area of a screen, a screen's size, a field of bytes,
-//! what is wrong with a peer's bytes, running out of memory, a number in text; and, for contracts,
+//! the length of data, what is wrong with a peer's bytes, running out of memory, a number in text; and, for contracts,
 //! readings, conversations and numbers.
 #![tactic(auto)]
 
@@ -8,15 +8,17 @@ mod area;
 mod decimal;
 mod format_fault;
 mod front;
+mod measuring;
 mod number;
 mod screen_size;
 mod wire_fault;
 
-pub use appending::{append_come, whole_or_none};
+pub use appending::{append_come, keep_below, whole_or_none};
 pub use area::Area;
 pub use decimal::decimal_number;
 pub use format_fault::FormatFault;
 pub use front::field;
+pub use measuring::{NoLength, whole_length};
 pub use number::{four_bytes, read_u16, read_u32, two_bytes};
 pub use screen_size::ScreenSize;
 pub use wire_fault::WireFault;

@@ -10,9 +10,8 @@ use Rattle.pixel_format.specs.Canvas.{Picture}
 use Rattle.terms.specs.Appending.{Appends}
 use Rattle.terms.specs.Reading.{Got}
 use Rattle.terms.specs.declared.area.Area.{Area}
-use Rattle.terms.specs.Area.{is_in}
+use Rattle.terms.specs.Area.{is_in, LiesWithin}
 use Rattle.terms.proofs.Areas.{in_is, is_in_true, or_left, or_right, or_parts}
-use Rattle.rect_data.specs.Data.{LiesWithin}
 use Rattle.rect_codec.specs.declared.parts.Part.{Part}
 use Rattle.rect_codec.specs.Parts.{AreParts, PartLiesWithin, DrawsParts}
 use Rattle.rect_codec.specs.Update.{Drawn, update_at, all_painted}

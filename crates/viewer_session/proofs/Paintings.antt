@@ -10,10 +10,10 @@ use Rattle.pixel_format.specs.Format.{Format, host_format}
 use Rattle.pixel_format.specs.Pixel.{converted}
 use Rattle.pixel_format.specs.Canvas.{Picture}
 use Rattle.terms.specs.declared.area.Area.{Area}
-use Rattle.terms.specs.Area.{is_in}
+use Rattle.terms.specs.Area.{is_in, LiesWithin}
 use Rattle.terms.proofs.Areas.{in_is, is_in_true, or_left, or_right}
 use Rattle.rect_data.specs.declared.encoding.Encoding.{Encoding}
-use Rattle.rect_data.specs.Data.{AreData, IsSource, LiesWithin}
+use Rattle.rect_data.specs.Data.{AreData, IsSource}
 use Rattle.rfb_wire.specs.declared.message.Rectangle.{Rectangle}
 use Rattle.rfb_wire.specs.Host.{Host, IsPlaced}
 use Rattle.rfb_wire.proofs.Placed.{recorded_placed}
@@ -85,8 +85,8 @@ own_kept m r old new (Some c) s can =
     let wide : m.width ≡ new.screen.width = s.wide ∙ sym s.is.size.width in
     let high : m.height ≡ new.screen.height = s.high ∙ sym s.is.size.height in
     let from = source_within m r c s.placed can.is in
-    let columns = s.placed.within_width in
-    let rows = s.placed.within_height in
+    let columns = s.placed.within.columns in
+    let rows = s.placed.within.rows in
     let a = can.is.across in
     let d = can.is.down in
     record {
@@ -169,8 +169,8 @@ own_sees m r old new (Some c) seen s converts can = λ x y across down.
     let from = source_within m r c s.placed can.is in
     let from_columns = from.columns in
     let from_rows = from.rows in
-    let columns = s.placed.within_width in
-    let rows = s.placed.within_height in
+    let columns = s.placed.within.columns in
+    let rows = s.placed.within.rows in
     let in_width : c.area.x + c.area.w ≤ m.width = subst (λ (t : Area). t.x + t.w ≤ m.width) (sym can.is.area) columns in
     let in_height : c.area.y + c.area.h ≤ m.height = subst (λ (t : Area). t.y + t.h ≤ m.height) (sym can.is.area) rows in
     let there : is_in (source c) (c.source_x + x) (c.source_y + y) ≡ true =

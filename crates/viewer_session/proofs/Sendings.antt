@@ -9,9 +9,8 @@ use Rattle.pixel_format.specs.Format.{Format}
 use Rattle.pixel_format.specs.Pixel.{converted}
 use Rattle.pixel_format.specs.Canvas.{Picture}
 use Rattle.terms.specs.declared.area.Area.{Area}
-use Rattle.terms.specs.Area.{is_in}
+use Rattle.terms.specs.Area.{is_in, LiesWithin}
 use Rattle.terms.proofs.Areas.{in_is}
-use Rattle.rect_data.specs.Data.{LiesWithin}
 use Rattle.rect_data.specs.declared.encoding.Encoding.{Encoding}
 use Rattle.rect_codec.specs.declared.parts.Part.{Part}
 use Rattle.rect_codec.specs.declared.parts.Part.TheVariants as parts

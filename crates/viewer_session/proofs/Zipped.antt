@@ -11,7 +11,7 @@ use Rattle.pixel_format.specs.Pixel.{converted, converted_channel, IsScreenColor
 use Rattle.pixel_format.specs.Canvas.{black}
 use Rattle.terms.specs.Appending.{Appends}
 use Rattle.terms.specs.declared.area.Area.{Area}
-use Rattle.rect_data.specs.Data.{LiesWithin}
+use Rattle.terms.specs.Area.{LiesWithin}
 use Rattle.rect_data.specs.declared.encoding.Encoding.{Encoding}
 use Rattle.painter.specs.Framebuffer.{Framebuffer, AreColorsOf}
 use Rattle.painter.specs.Sent.{area_colors, sent_colors}
@@ -58,12 +58,12 @@ sent_converted f screen area are =
 
 -- the parts of areas say what the screen shows there
 pub parts_are : (f : Format) (asked : Encoding) (screen : Framebuffer) (areas : List Area)
-    → ((area : Area) → area.x + area.w ≤ screen.width → area.y + area.h ≤ screen.height → AreColorsOf screen area (area_colors screen area))
+    → ((area : Area) → LiesWithin screen.width screen.height area → AreColorsOf screen area (area_colors screen area))
     → All (LiesWithin screen.width screen.height) areas → AllZip (IsScreenPart f asked screen) areas (parts_of f screen (map (pixels_of asked) areas))
 parts_are f asked screen [] known within = tt
 parts_are f asked screen (a ∷ areas) known within =
     let here = All-head (LiesWithin screen.width screen.height) a areas within in (
-      (refl, refl, sent_converted f screen a (known a here.columns here.rows)),
+      (refl, refl, sent_converted f screen a (known a here)),
       parts_are f asked screen areas known (All-tail (LiesWithin screen.width screen.height) a areas within),
     )
 

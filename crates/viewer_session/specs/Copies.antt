@@ -1,11 +1,10 @@
 -- A copy that a viewer can be sent instead of colours (RFC 6143, section 7.7.2).
 use Rattle.std.specs.Prelude.{◌≡◌, ℕ, ◌+◌, ◌<◌, nat_le, Bool, false, ◌&&◌, Option, Some, None, if◌then◌else◌}
 use Rattle.terms.specs.declared.area.Area.{Area}
-use Rattle.terms.specs.Area.{is_in}
+use Rattle.terms.specs.Area.{is_in, LiesWithin}
 use Rattle.pixel_format.specs.Format.{Format}
 use Rattle.pixel_format.specs.Pixel.{converted}
 use Rattle.pixel_format.specs.Canvas.{Picture}
-use Rattle.rect_data.specs.Data.{LiesWithin}
 use Rattle.painter.specs.Framebuffer.{Framebuffer, color_at}
 use Rattle.viewer_session.specs.declared.copies.KeptCopy.{KeptCopy}
 

@@ -223,7 +223,7 @@ pub record IsReencoded (old new : View) (numbers : List ℤ) : Type 0 where
 abbrev pub IsTaken : View → View → ClientMessage → Type 0
 IsTaken old new (messages.SetPixelFormat f) = IsReformatted old new f
 IsTaken old new (messages.SetEncodings numbers) = IsReencoded old new numbers
-IsTaken old new (messages.Request incremental x y w h) = IsAsked old new incremental (record { x = x; y = y; w = w; h = h })
+IsTaken old new (messages.Request incremental area) = IsAsked old new incremental area
 IsTaken old new (messages.Input kind) = new ≡ old
 
 -- what messages change, one after another

@@ -2,7 +2,7 @@
 
 ghost use Rattle.std.specs.Prelude.{◌≡◌, ◌||◌, ◌&&◌, not, pos, IfSome, None, length};
 ghost use Rattle.std.specs.List.{list_any};
-ghost use Rattle.rect_data.specs.Data.{LiesWithin};
+ghost use Rattle.terms.specs.Area.{LiesWithin};
 ghost use Rattle.rect_data.specs.Grammar.{source_of};
 ghost use Rattle.pixel_sets.specs.Pixels.{holds, AreJust, SameSize};
 ghost use Rattle.viewer_session.specs.Copies.{source, is_copied, lies_in};

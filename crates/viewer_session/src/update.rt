@@ -2,7 +2,7 @@
 
 ghost use Rattle.std.specs.Prelude.{◌≡◌, ◌+◌, ◌<◌, ◌^◌, All, length, IfOk, OnOk, OnErr};
 ghost use Rattle.terms.specs.Appending.{Appends};
-ghost use Rattle.rect_data.specs.Data.{LiesWithin};
+ghost use Rattle.terms.specs.Area.{LiesWithin};
 ghost use Rattle.viewer_session.specs.Encoded.{IsUpdateOf};
 ghost use Rattle.viewer_session.specs.Parts.{screen_parts};
 

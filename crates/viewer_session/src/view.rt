@@ -4,8 +4,7 @@ ghost use Rattle.std.specs.Prelude.{◌≡◌, ◌+◌, ◌<◌, ◌||◌, ℕ, 
 ghost use Rattle.pixel_format.specs.Canvas.{Picture};
 ghost use Rattle.pixel_format.specs.Format.{host_format};
 ghost use Rattle.terms.specs.Appending.{Appends};
-ghost use Rattle.terms.specs.Area.{is_in, IsSmallest};
-ghost use Rattle.rect_data.specs.Data.{LiesWithin};
+ghost use Rattle.terms.specs.Area.{is_in, IsSmallest, LiesWithin};
 ghost use Rattle.painter.specs.Framebuffer.{SameSize as SameScreenSize};
 ghost use Rattle.gated_journal.specs.Recording.{Head};
 ghost use Rattle.keyed_entries.specs.declared.entry.Stamped.{Stamped};
@@ -109,7 +108,7 @@ impl View {
     {
         if let Some(start) = &slice.start {
             self.screen.set(start);
-            self.stale.insert_all(); // whatever the viewer shows is of another place
+            self.stale.insert_all(); // whatever the viewer shows is from another position
             self.started = true;
             self.copy = None; // nor can it be copied from there
         }
@@ -216,7 +215,7 @@ impl View {
                 self.stale.remove_all(&areas);
                 self.pending = None;
                 self.asked_whole = false;
-                self.copy = None; // what is copied may be among the places that were sent
+                self.copy = None; // what is copied may be among the pixels that were sent
                 Ok(())
             }
             Ok(None) => Ok(()),
@@ -268,13 +267,7 @@ impl View {
                 self.takes_copies = encodings.as_slice().contains(&COPY_RECT);
                 self.copy = None;
             }
-            ClientMessage::Request {
-                incremental,
-                x,
-                y,
-                w,
-                h,
-            } => self.ask(incremental, Area { x, y, w, h }),
+            ClientMessage::Request { incremental, area } => self.ask(incremental, area),
             ClientMessage::Input(_) => {}
         }
     }

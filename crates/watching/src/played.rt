@@ -1,26 +1,26 @@
 //! A recording that is shown in its own time.
 
-use crate::live::LIMIT;
 use crate::viewing::Viewing;
 use crate::watching::Guide;
+use book_workers::ViewerWish;
 use playing::{Program, Timetable};
-use replay::Slice;
-use shared_book::{Mark, ViewerWish};
+use shared_book::Mark;
+use showing::{Next, Playback};
 use sockets::Connection;
 use std::sync::Wait;
-use std::time::{Clock, Duration, Instant};
+use std::time::{Clock, Instant};
 
-/// For how many milliseconds the last screen stands before the playing begins again.
-const LAST_SCREEN: u64 = 1000;
-
-/// Shows a recording in its own time: each message once its time has come. It sleeps between them.
-/// At the end the viewer sees the last screen, or the playing begins again.
+/// Shows a recording in its own time, as [`Playback::decide`] says: each message once its time has
+/// come. At the end the viewer sees the last screen, or the playing begins again.
 #[derive(Drop)]
 pub struct Played {
     program: Program,
     timetable: Timetable,
-    /// When the playing began; none until it has.
+    /// Whether the playing has begun, and when; none if the clock couldn't be read.
+    has_begun: bool,
     begun: Option<Instant>,
+    /// Whether the last screen has stood for its time.
+    has_stood: bool,
 }
 
 impl Played {
@@ -29,89 +29,65 @@ impl Played {
         Played {
             program,
             timetable: program.timetable(),
+            has_begun: false,
             begun: None,
+            has_stood: false,
         }
     }
 
-    // How much of so many milliseconds of playing is left; `None` if they have passed, or the clock
-    // can't be read.
-    fn left_of<R: Clock>(&self, rt: &R, milliseconds: u64) -> Option<Duration> {
+    // For how many milliseconds it was played; none if the clock can't be read.
+    fn played<R: Clock>(&self, rt: &R) -> Option<u64> {
         let played = self.begun?.elapsed(rt).ok()?;
-        let left = Duration::from_millis(milliseconds).checked_sub(played)?;
-        Some(left).filter(|left| !left.is_zero())
+        u64::try_from(played.as_millis()).ok()
     }
-
-    // Waits until a message of this time is due, or the playing is cut off.
-    fn wait_until_due<M: Mark, C: Connection, R: Clock + Wait>(
-        &mut self,
-        viewing: &Viewing<'_, M, C, R>,
-        time: u32,
-    ) {
-        let due = self.timetable.due(time);
-        for _ in viewing.rt.forever() {
-            match self.left_of(viewing.rt, due) {
-                Some(left) if !is_cut_off(viewing) => viewing.sleep(left),
-                _ => return,
-            }
-        }
-    }
-
-    // What is wanted at the end: to begin again, if it is to and there is something to be played.
-    fn wish_at_end<M: Mark, C: Connection, R: Clock + Wait>(
-        &mut self,
-        viewing: &Viewing<'_, M, C, R>,
-    ) -> ViewerWish {
-        if !self.program.repeats || viewing.position <= self.program.from {
-            viewing.rest();
-            return ViewerWish::Stop;
-        }
-        viewing.sleep(Duration::from_millis(LAST_SCREEN));
-        self.begun = None;
-        self.timetable = self.program.timetable();
-        ViewerWish::Seek(self.program.from)
-    }
-}
-
-// Whether the playing ends: the viewer has left, or the recorder is closing.
-fn is_cut_off<M: Mark, C: Connection, R: Clock + Wait>(viewing: &Viewing<'_, M, C, R>) -> bool {
-    viewing.viewer.has_left() || viewing.is_closing()
 }
 
 impl<M: Mark, C: Connection, R: Clock + Wait> Guide<M, C, R> for Played {
-    fn wish(&mut self, viewing: &Viewing<'_, M, C, R>) -> ViewerWish {
-        if is_cut_off(viewing) {
-            return ViewerWish::Stop;
-        }
-        if viewing.is_at_end {
-            return self.wish_at_end(viewing);
-        }
-        if viewing.is_fresh {
-            return ViewerWish::Want(0);
-        }
-        if viewing.position < self.program.from {
-            let left = self.program.from - viewing.position;
-            return ViewerWish::Want(u32::try_from(left).map_or(LIMIT, |left| left.min(LIMIT)));
-        }
-        if self.begun.is_none() {
-            self.begun = Instant::now(viewing.rt).ok();
-        }
-        if viewing.position < viewing.room.committed() {
-            ViewerWish::Want(1)
-        } else {
-            ViewerWish::Wait
-        }
+    fn decide(&self, viewing: &Viewing<'_, M, C, R>, due: Option<u64>) -> Next {
+        let playback = Playback {
+            from: self.program.from,
+            repeats: self.program.repeats,
+            position: viewing.position,
+            committed: viewing.room.committed(),
+            is_fresh: viewing.is_fresh,
+            has_begun: self.has_begun,
+            due,
+            played: self.played(viewing.rt),
+            is_at_end: viewing.is_at_end,
+            has_stood: self.has_stood,
+            has_left: viewing.viewer.has_left(),
+            is_closing: viewing.is_closing(),
+        };
+        playback.decide()
     }
 
-    fn is_live(&self, _place: &Viewing<'_, M, C, R>) -> bool {
+    fn is_live(&self, _viewing: &Viewing<'_, M, C, R>) -> bool {
         false
     }
 
-    // The playing begins once all before its first message was handed over.
-    fn hold(&mut self, viewing: &Viewing<'_, M, C, R>, slice: &Slice) {
-        if self.begun.is_some() {
-            for stamped in &slice.messages {
-                self.wait_until_due(viewing, stamped.time);
+    // What comes before the playing is due at once.
+    fn due(&mut self, time: u32) -> Option<u64> {
+        if self.has_begun {
+            Some(self.timetable.due(time))
+        } else {
+            None
+        }
+    }
+
+    fn note(&mut self, rt: &R, done: Next) {
+        match done {
+            Next::Begin => {
+                self.has_begun = true;
+                self.begun = Instant::now(rt).ok();
             }
+            Next::Sleep(_) => self.has_stood = true,
+            Next::Seek(_) => {
+                self.timetable = self.program.timetable();
+                self.has_begun = false;
+                self.begun = None;
+                self.has_stood = false;
+            }
+            _ => {}
         }
     }
 }

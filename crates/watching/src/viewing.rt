@@ -4,9 +4,11 @@ ghost use Rattle.std.specs.Prelude.{◌≡◌, ◌<◌, ◌^◌, ◌+◌, length
 ghost use Rattle.shared_book.specs.Receipts.{IsOfSize};
 
 use crate::failure::{AfterFailure, after_failure};
+use book_workers::ViewerWish;
 use connections::{Room, Viewer};
 use replay::Slice;
 use shared_book::Mark;
+use showing::Next;
 use sockets::Connection;
 use std::sync::Wait;
 use std::time::{Clock, Duration};
@@ -22,6 +24,8 @@ pub struct Viewing<'a, M: Mark, C: Connection, R: Clock + Wait> {
     pub position: u64,
     /// Whether it is handed a screen next, to go on from.
     pub is_fresh: bool,
+    /// Whether it was woken from a wait for more since it was handed something.
+    pub has_waited: bool,
     /// Whether it was handed all that there is, and nothing more comes.
     pub is_at_end: bool,
     /// Whether memory was short, which is told once, since it was handed something.
@@ -39,6 +43,7 @@ impl<'a, M: Mark, C: Connection, R: Clock + Wait> Viewing<'a, M, C, R> {
             room,
             position: 0,
             is_fresh: true,
+            has_waited: false,
             is_at_end: false,
             is_short: false,
             has_failed: false,
@@ -55,16 +60,17 @@ impl<'a, M: Mark, C: Connection, R: Clock + Wait> Viewing<'a, M, C, R> {
         self.is_at_end = false;
     }
 
-    /// Shows the viewer these messages, unless it has left.
-    pub fn show(&mut self, slice: &Slice)
+    /// Shows the viewer these messages, if they are due, and it hasn't left.
+    pub fn show(&mut self, slice: &Slice, are_due: bool)
         requires sized { IsOfSize M.head.width M.head.height slice.now }
         requires room { slice.now.first + length slice.now.messages.items < 2 ^ 64 }
         ensures position { self.new.position ≡ self.old.position }
         ensures fresh { self.new.is_fresh ≡ self.old.is_fresh }
     {
+        self.has_waited = false;
         self.is_short = false;
         self.has_failed = false;
-        if !self.viewer.has_left() {
+        if are_due && !self.viewer.has_left() {
             self.viewer.show(self.rt, slice);
         }
     }
@@ -91,9 +97,38 @@ impl<'a, M: Mark, C: Connection, R: Clock + Wait> Viewing<'a, M, C, R> {
         next == AfterFailure::Newest
     }
 
-    /// At the end of the recording: stays until the viewer was shown the rest, or leaves; if there
-    /// is no host, first until the recorder is closing.
-    pub fn rest(&self) {
+    /// Does what comes next, if that is to wait: it returns once that is over. Else this is what is
+    /// wished for.
+    pub fn carry_out(&self, next: Next) -> Option<ViewerWish> {
+        match next {
+            Next::Want(limit) => Some(ViewerWish::Want(limit)),
+            Next::Wait => Some(ViewerWish::Wait),
+            Next::Newest => Some(ViewerWish::Newest),
+            Next::Seek(count) => Some(ViewerWish::Seek(count)),
+            Next::Stop => Some(ViewerWish::Stop),
+            Next::Rest => {
+                self.rest();
+                Some(ViewerWish::Stop)
+            }
+            Next::WaitUntilAsked => {
+                self.wait_until_asked();
+                None
+            }
+            Next::HoldBack => {
+                self.hold_back();
+                None
+            }
+            Next::Sleep(time) => {
+                self.sleep(Duration::from_millis(time));
+                None
+            }
+            Next::Begin | Next::Show => None,
+        }
+    }
+
+    // At the end of the recording: stays until the viewer was shown the rest, or leaves; if there is
+    // no host, first until the recorder is closing.
+    fn rest(&self) {
         let viewer = self.viewer;
         if self.room.is_alone {
             self.room
@@ -103,24 +138,22 @@ impl<'a, M: Mark, C: Connection, R: Clock + Wait> Viewing<'a, M, C, R> {
         viewer.wait_until_shown(self.rt);
     }
 
-    /// Waits until the viewer was shown what it has and asks for more; until it has left, or the
-    /// recorder is closing, too.
-    pub fn wait_until_asked(&self) {
+    // Waits until the viewer was shown what it has; until it has left, or the recorder is closing,
+    // too.
+    fn wait_until_asked(&self) {
         self.viewer.wait_until_asked(self.rt, || self.is_closing());
     }
 
-    /// Whether the viewer is sent the whole screen next, whatever comes. Then it waits until the
-    /// viewer asks for it, as [`wait_until_asked`](Place::wait_until_asked) does.
-    pub fn waits_for_whole_screen(&self) -> bool {
-        let is_held_back = self.viewer.hold_back(self.rt);
-        if is_held_back {
+    // Holds the viewer back until it stands further on, and waits until it asks, unless it was sent
+    // the whole screen meanwhile.
+    fn hold_back(&self) {
+        if self.viewer.hold_back(self.rt) {
             self.wait_until_asked();
         }
-        is_held_back
     }
 
-    /// Sleeps, but no longer than until the viewer has left, or the recorder is closing.
-    pub fn sleep(&self, time: Duration) {
+    // Sleeps, but no longer than until the viewer has left, or the recorder is closing.
+    fn sleep(&self, time: Duration) {
         let viewer = self.viewer;
         self.room.hall.wait_for(self.rt, time, || viewer.has_left());
     }

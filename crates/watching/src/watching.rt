@@ -1,23 +1,29 @@
 //! A viewer's worker's sink, whatever decides what is shown when.
 
 use crate::viewing::Viewing;
+use book_workers::{ViewerSink, ViewerWish};
 use connections::{Room, Viewer};
 use replay::Slice;
-use shared_book::{Ending, Mark, Receipt, ViewerSink, ViewerWish};
+use shared_book::{Ending, Mark, Receipt};
+use showing::Next;
 use sockets::Connection;
 use std::sync::Wait;
 use std::time::Clock;
 
-/// Decides what a viewer is shown next, and when.
+/// Decides what is done for a viewer next, and keeps what that depends on.
 pub trait Guide<M: Mark, C: Connection, R: Clock + Wait>: Drop {
-    /// What is wanted for the viewer at this position. It may wait before.
-    fn wish(&mut self, viewing: &Viewing<'_, M, C, R>) -> ViewerWish;
+    /// What is done next for the viewer as it stands now, which has a message in hand that is due
+    /// then, if there is one.
+    fn decide(&self, viewing: &Viewing<'_, M, C, R>, due: Option<u64>) -> Next;
 
     /// Whether the viewer is shown what is newest, and not each message.
     fn is_live(&self, viewing: &Viewing<'_, M, C, R>) -> bool;
 
-    /// Returns once these messages, which were handed to the viewer's worker, may be shown.
-    fn hold(&mut self, viewing: &Viewing<'_, M, C, R>, slice: &Slice);
+    /// When the next message is due, of this time; none if that is at once.
+    fn due(&mut self, time: u32) -> Option<u64>;
+
+    /// Takes note of what was done.
+    fn note(&mut self, rt: &R, done: Next);
 }
 
 /// Shows a viewer the recording as its guide decides.
@@ -40,6 +46,56 @@ impl<'a, M: Mark, C: Connection, R: Clock + Wait, G: Guide<M, C, R>> Watching<'a
             guide,
         }
     }
+}
+
+// What is wished for once all is done that comes before.
+fn next_wish<M: Mark, C: Connection, R: Clock + Wait, G: Guide<M, C, R>>(
+    viewing: &Viewing<'_, M, C, R>,
+    guide: &mut G,
+) -> ViewerWish {
+    for _ in viewing.rt.forever() {
+        let next = guide.decide(viewing, None);
+        let wish = viewing.carry_out(next);
+        guide.note(viewing.rt, next);
+        if let Some(wish) = wish {
+            return wish;
+        }
+    }
+    unreachable!()
+}
+
+// Waits until a message in hand is due: whether it is to be shown then.
+fn wait_for_one<M: Mark, C: Connection, R: Clock + Wait, G: Guide<M, C, R>>(
+    viewing: &Viewing<'_, M, C, R>,
+    guide: &G,
+    due: u64,
+) -> bool {
+    for _ in viewing.rt.forever() {
+        let next = guide.decide(viewing, Some(due));
+        if next == Next::Show {
+            return true;
+        }
+        if viewing.carry_out(next).is_some() {
+            return false;
+        }
+    }
+    unreachable!()
+}
+
+// Waits until each of these messages is due: whether they are to be shown then.
+fn wait_until_due<M: Mark, C: Connection, R: Clock + Wait, G: Guide<M, C, R>>(
+    viewing: &Viewing<'_, M, C, R>,
+    guide: &mut G,
+    slice: &Slice,
+) -> bool {
+    for stamped in &slice.messages {
+        if let Some(due) = guide.due(stamped.time)
+            && !wait_for_one(viewing, &*guide, due)
+        {
+            return false;
+        }
+    }
+    true
 }
 
 impl<'a, M: Mark, C: Connection, R: Clock + Wait, G: Guide<M, C, R>> ViewerSink<
@@ -67,7 +123,8 @@ impl<'a, M: Mark, C: Connection, R: Clock + Wait, G: Guide<M, C, R>> ViewerSink<
     }
 
     fn wish(&mut self) -> ViewerWish {
-        let wish = self.guide.wish(&self.viewing);
+        let wish = next_wish(&self.viewing, &mut self.guide);
+        self.viewing.has_waited = self.viewing.has_waited || wish == ViewerWish::Wait;
         if let ViewerWish::Seek(count) = wish {
             self.viewing.go_to(count);
         }
@@ -76,10 +133,10 @@ impl<'a, M: Mark, C: Connection, R: Clock + Wait, G: Guide<M, C, R>> ViewerSink<
 
     fn slice(&mut self, receipt: Receipt<M>) {
         let slice = receipt.slice();
-        self.guide.hold(&self.viewing, slice);
+        let are_due = wait_until_due(&self.viewing, &mut self.guide, slice);
         self.viewing.position = slice.end();
         self.viewing.is_fresh = false;
-        self.viewing.show(slice);
+        self.viewing.show(slice, are_due);
     }
 
     fn end(&mut self, _ending: Ending<M>) {

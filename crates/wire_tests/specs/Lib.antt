@@ -1,1 +1,2 @@
 pub mod TestCanvases
+pub mod Written

@@ -4,6 +4,7 @@ ghost use Rattle.std.specs.Prelude.{◌≤◌};
 
 use crate::test_canvas::TestCanvas;
 use pixel_format::{Color, PixelFormat};
+use terms::{Area, NoLength};
 
 const WHITE: Color = Color {
     r: 255,
@@ -18,31 +19,6 @@ pub enum Kind {
     Hextile,
 }
 
-/// Why bytes begin with no data of a rectangle.
-#[derive(Clone, Copy, Debug, PartialEq, Eq)]
-pub enum Short {
-    NeedMore,
-    Bad,
-}
-
-impl From<rre::Measure> for Short {
-    fn from(fault: rre::Measure) -> Short {
-        match fault {
-            rre::Measure::NeedMore => Short::NeedMore,
-            rre::Measure::Bad => Short::Bad,
-        }
-    }
-}
-
-impl From<hextile::Measure> for Short {
-    fn from(fault: hextile::Measure) -> Short {
-        match fault {
-            hextile::Measure::NeedMore => Short::NeedMore,
-            hextile::Measure::Bad => Short::Bad,
-        }
-    }
-}
-
 impl Kind {
     /// How many bytes the data of a rectangle have that the bytes begin with.
     pub fn measure(
@@ -51,10 +27,10 @@ impl Kind {
         w: u16,
         h: u16,
         bytes: &[u8],
-    ) -> Result<usize, Short> {
+    ) -> Result<usize, NoLength> {
         match self {
-            Kind::Rre => Ok(rre::measure(format, w, h, bytes)?),
-            Kind::Hextile => Ok(hextile::measure(format, w, h, bytes)?),
+            Kind::Rre => rre::measure(format, w, h, bytes),
+            Kind::Hextile => hextile::measure(format, w, h, bytes),
         }
     }
 
@@ -65,19 +41,20 @@ impl Kind {
         w: u16,
         h: u16,
         bytes: &[u8],
-    ) -> Result<TestCanvas, Short>
+    ) -> Result<TestCanvas, NoLength>
         requires columns { w ≤ 320 }
         requires rows { h ≤ 120 }
     {
+        let area = Area { x: 0, y: 0, w, h };
         let mut canvas = TestCanvas::new(WHITE);
         match self {
             Kind::Rre => {
                 let length = rre::measure(format, w, h, bytes)?;
-                rre::paint(format, 0, 0, w, h, &bytes[..length], &mut canvas);
+                rre::paint(format, area, &bytes[..length], &mut canvas);
             }
             Kind::Hextile => {
                 let length = hextile::measure(format, w, h, bytes)?;
-                hextile::paint(format, 0, 0, w, h, &bytes[..length], &mut canvas);
+                hextile::paint(format, area, &bytes[..length], &mut canvas);
             }
         }
         Ok(canvas)

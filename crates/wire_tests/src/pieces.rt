@@ -1,7 +1,8 @@
 //! Hextile data that are judged field by field.
 
-use hextile::{Measure, Measuring};
+use hextile::Measuring;
 use pixel_format::PixelFormat;
+use terms::NoLength;
 
 /// How many bytes the fields of the data have that the bytes begin with, or why they have no length,
 /// as [`hextile::measure`] should say it.
@@ -10,7 +11,7 @@ pub fn hextile_in_pieces(
     w: u16,
     h: u16,
     bytes: &[u8],
-) -> Result<usize, Measure> {
+) -> Result<usize, NoLength> {
     let mut rest = bytes;
     let mut next = Measuring::start(w, h);
     for _ in 0..=bytes.len() {
@@ -19,11 +20,11 @@ pub fn hextile_in_pieces(
         };
         let wants = stage.wants(format);
         if rest.len() < wants {
-            return Err(Measure::NeedMore);
+            return Err(NoLength::NeedMore);
         }
         let (taken, following) = stage.run(format, &rest[..wants])?;
         rest = &rest[taken..];
         next = following;
     }
-    Err(Measure::NeedMore)
+    Err(NoLength::NeedMore)
 }

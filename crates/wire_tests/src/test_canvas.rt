@@ -1,11 +1,12 @@
 //! A canvas to paint on: the plainest, for tests and for rectangles that hosts sent.
 
-ghost use Rattle.std.specs.Prelude.{◌≡◌, ℕ, ◌/◌, ◌%◌, length, ◌<◌, ◌≤◌, ◌+◌, ◌*◌, slice_index_or, if◌then◌else◌};
-ghost use Rattle.pixel_format.specs.Canvas.{covers};
+ghost use Rattle.std.specs.Prelude.{◌≡◌, ℕ, ◌/◌, ◌%◌, length, ◌<◌, slice_index_or, if◌then◌else◌};
+ghost use Rattle.terms.specs.Area.{is_in, LiesWithin};
 ghost use Rattle.wire_tests.specs.TestCanvases.{color_at};
 
 use pixel_format::{Canvas, Color};
 use std::marker::Model;
+use terms::Area;
 
 /// How many columns a sheet has.
 pub const WIDTH: u16 = 320;
@@ -38,31 +39,29 @@ impl Canvas for TestCanvas {
 
     ghost picture = { color_at };
 
-    fn fill(&mut self, x: u16, y: u16, w: u16, h: u16, color: Color) {
-        fill_slots(&mut self.colors, x, y, w, h, color);
+    fn fill(&mut self, area: Area, color: Color) {
+        fill_area(&mut self.colors, area, color);
     }
 }
 
 // Gives the pixels of an area one colour: all pixels of its rows are looked at.
-fn fill_slots(colors: &mut [Color], x: u16, y: u16, w: u16, h: u16, color: Color)
+fn fill_area(colors: &mut [Color], area: Area, color: Color)
     requires size { length colors.old ≡ 38400 }
-    requires columns { x + w ≤ 320 }
-    requires rows { y + h ≤ 120 }
+    requires within { LiesWithin 320 120 area }
     ensures { (i : ℕ) → i < 38400 → slice_index_or colors.new i (record { r = 0; g = 0; b = 0 })
-        ≡ (if covers x y w h (i % 320) (i / 320) then color else slice_index_or colors.old i (record { r = 0; g = 0; b = 0 })) }
+        ≡ (if is_in area (i % 320) (i / 320) then color else slice_index_or colors.old i (record { r = 0; g = 0; b = 0 })) }
 {
-    for k in 320 * y..320 * (y + h) {
-        let here = covered(x, y, w, h, k % 320, k / 320);
+    for k in 320 * area.y..320 * (area.y + area.h) {
+        let here = is_inside(area, k % 320, k / 320);
         colors[k as usize] = chosen(here, color, colors[k as usize]);
     }
 }
 
-fn covered(x: u16, y: u16, w: u16, h: u16, column: u16, row: u16) -> bool
-    requires columns { x + w ≤ 320 }
-    requires rows { y + h ≤ 120 }
-    ensures { result ≡ covers x y w h column row }
+fn is_inside(area: Area, x: u16, y: u16) -> bool
+    requires { LiesWithin 320 120 area }
+    ensures { result ≡ is_in area x y }
 {
-    x <= column && column < x + w && y <= row && row < y + h
+    area.x <= x && x < area.x + area.w && area.y <= y && y < area.y + area.h
 }
 
 fn chosen(here: bool, color: Color, before: Color) -> Color

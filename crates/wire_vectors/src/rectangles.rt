@@ -5,8 +5,8 @@ use crate::formats;
 use crate::picture::{Pixels, write_rows};
 use pixel_format::{Color, PixelFormat};
 use rect_data::{Encoding, Judging, measure};
-use terms::{Area, NoMemory, ScreenSize, WireFault};
-use wire_tests::{HEIGHT, Kind, Short, TestCanvas, WIDTH, hextile_in_pieces};
+use terms::{Area, NoLength, NoMemory, ScreenSize, WireFault};
+use wire_tests::{HEIGHT, Kind, TestCanvas, WIDTH, hextile_in_pieces};
 
 impl Pixels for TestCanvas {
     fn color_at(&self, x: u16, y: u16) -> Option<Color> {
@@ -46,13 +46,13 @@ impl Drawn<'_> {
         for count in 0..=bytes.len() {
             let data = bytes.get(..count).unwrap_or(bytes);
             let answer = self.kind.measure(self.format, w, h, data);
-            let pieces = hextile_in_pieces(self.format, w, h, data).map_err(Short::from);
+            let pieces = hextile_in_pieces(self.format, w, h, data);
             if self.kind == Kind::Hextile && pieces != answer {
                 return Ok(account.tell_at(count, "otherwise in pieces")?);
             }
             match answer {
-                Err(Short::NeedMore) => {}
-                Err(Short::Bad) => return Ok(account.tell_at(count, "bad")?),
+                Err(NoLength::NeedMore) => {}
+                Err(NoLength::Bad) => return Ok(account.tell_at(count, "bad")?),
                 Ok(length) => {
                     account.tell_number_at(count, "whole", length)?;
                     return self.write(account, data);

@@ -1,8 +1,9 @@
 //! Updates as they are written.
 
-ghost use Rattle.std.specs.Prelude.{◌≡◌, ◌*◌, ◌+◌, ◌≤◌, All, IfOk, length};
+ghost use Rattle.std.specs.Prelude.{◌≡◌, ◌*◌, All, IfOk, length};
 ghost use Rattle.pixel_format.specs.Format.{host_format};
 ghost use Rattle.pixel_format.specs.Pixel.{IsWithin};
+ghost use Rattle.terms.specs.Area.{LiesWithin};
 
 use crate::account::{Account, Untold};
 use crate::picture::write_rows;
@@ -16,8 +17,7 @@ use terms::{Area, NoMemory, ScreenSize};
 
 // The colours of an area of a screen, in the host's format.
 fn colors_of(alloc: Global, screen: &Screen, area: Area) -> Result<Vec<Color>, NoMemory>
-    requires columns { area.x + area.w ≤ screen.now.width }
-    requires rows { area.y + area.h ≤ screen.now.height }
+    requires { LiesWithin screen.now.width screen.now.height area }
     ensures size { IfOk result (λ colors. length colors.items ≡ area.h * area.w) }
     ensures within { IfOk result (λ colors. All (IsWithin host_format) colors.items) }
 {

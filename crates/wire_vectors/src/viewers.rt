@@ -4,7 +4,7 @@ use crate::account::Account;
 use crate::readings::{Message, Reader};
 use client_wire::{ClientMessage, ClientReader, read_client_message};
 use std::alloc::Global;
-use terms::{NoMemory, WireFault};
+use terms::{Area, NoMemory, WireFault};
 
 impl Reader<ClientMessage> for ClientReader {
     fn begin(&mut self, alloc: Global) {
@@ -31,19 +31,10 @@ impl Reader<ClientMessage> for ClientReader {
     }
 }
 
-// What an area of a request is, as its four numbers.
-type Numbers = [u16; 4];
-
 // A request: whether it is incremental, and its area.
-fn request_of(message: &ClientMessage) -> Option<(bool, Numbers)> {
+fn request_of(message: &ClientMessage) -> Option<(bool, Area)> {
     match message {
-        ClientMessage::Request {
-            incremental,
-            x,
-            y,
-            w,
-            h,
-        } => Some((*incremental, [*x, *y, *w, *h])),
+        ClientMessage::Request { incremental, area } => Some((*incremental, *area)),
         _ => None,
     }
 }
@@ -74,24 +65,16 @@ impl Message for ClientMessage {
             }
             ClientMessage::Input(kind) => {
                 account.add("input")?;
-                account.add_number(*kind)
+                account.add_number(*kind as u8)
             }
-            ClientMessage::Request {
-                incremental,
-                x,
-                y,
-                w,
-                h,
-            } => describe_request(account, *incremental, [*x, *y, *w, *h]),
+            ClientMessage::Request { incremental, area } => {
+                describe_request(account, *incremental, *area)
+            }
         }
     }
 }
 
-fn describe_request(
-    account: &mut Account,
-    incremental: bool,
-    area: Numbers,
-) -> Result<(), NoMemory> {
+fn describe_request(account: &mut Account, incremental: bool, area: Area) -> Result<(), NoMemory> {
     account.add(if incremental { "changes" } else { "request" })?;
-    account.add_numbers(&area)
+    account.add_numbers(&[area.x, area.y, area.w, area.h])
 }

@@ -47,7 +47,7 @@ fn is_answered(
 
 // What is asked for, and what is answered.
 fn all_is_answered(rt: &HostRuntime, endpoint: SocketAddr) -> Result<(), Fail> {
-    let answers: [(&[u8], &str, &[u8]); 13] = [
+    let answers: [(&[u8], &str, &[u8]); 14] = [
         (
             b"GET / HTTP/1.1\r\nHost: localhost:80\r\n\r\n",
             "200 OK",
@@ -64,26 +64,26 @@ fn all_is_answered(rt: &HostRuntime, endpoint: SocketAddr) -> Result<(), Fail> {
             STYLE.as_bytes(),
         ),
         (b"GET /times HTTP/1.0\r\n\r\n", "200 OK", TIMES.as_bytes()),
-        (b"GET /picture?at=0 HTTP/1.1\r\n\r\n", "200 OK", &RED),
-        (b"GET /picture?message=0 HTTP/1.1\r\n\r\n", "200 OK", &BLACK),
+        (b"GET /picture?at=0 HTTP/1.0\r\n\r\n", "200 OK", &RED),
+        (b"GET /picture?message=0 HTTP/1.0\r\n\r\n", "200 OK", &BLACK),
         (
-            b"GET /picture?message=2 HTTP/1.1\r\n\r\n",
+            b"GET /picture?message=2 HTTP/1.0\r\n\r\n",
             "404 Not Found",
             b"messages\n",
         ),
         (
-            b"GET /picture?at= HTTP/1.1\r\n\r\n",
+            b"GET /picture?at= HTTP/1.0\r\n\r\n",
             "404 Not Found",
             b"thing\n",
         ),
         (
-            b"GET /picture?at=4294967296 HTTP/1.1\r\n\r\n",
+            b"GET /picture?at=4294967296 HTTP/1.0\r\n\r\n",
             "404 Not Found",
             b"thing\n",
         ),
-        (b"GET /../r HTTP/1.1\r\n\r\n", "404 Not Found", b"thing\n"),
+        (b"GET /../r HTTP/1.0\r\n\r\n", "404 Not Found", b"thing\n"),
         (
-            b"POST / HTTP/1.1\r\n\r\n",
+            b"POST / HTTP/1.0\r\n\r\n",
             "405 Method Not Allowed",
             b"answered\n",
         ),
@@ -93,6 +93,7 @@ fn all_is_answered(rt: &HostRuntime, endpoint: SocketAddr) -> Result<(), Fail> {
             b"alone\n",
         ),
         (b"RFB 003.008\n", "400 Bad Request", b"request\n"),
+        (b"GET / HTTP/1.1\r\n\r\n", "400 Bad Request", b"request\n"),
     ];
     for (request, status, body) in answers {
         if !is_answered(rt, endpoint, request, status, body)? {
@@ -111,6 +112,22 @@ fn all_is_answered(rt: &HostRuntime, endpoint: SocketAddr) -> Result<(), Fail> {
         true => Ok(()),
         false => Err("too long".into()),
     }
+}
+
+// More connections than there are at a time, one after another: each is answered.
+fn further_are_answered(rt: &HostRuntime, endpoint: SocketAddr) -> Result<(), Fail> {
+    for _ in 0..17 {
+        if !is_answered(
+            rt,
+            endpoint,
+            b"GET /times HTTP/1.1\r\nHost: localhost\r\n\r\n",
+            "200 OK",
+            TIMES.as_bytes(),
+        )? {
+            return Err("a further one".into());
+        }
+    }
+    Ok(())
 }
 
 // Serves for two seconds: whether that is done, and what is printed.
@@ -155,7 +172,10 @@ fn a_browser_is_answered(rt: HostRuntime) -> Result<(), Fail> {
     let (said, answered) = join(
         rt,
         move || print(rt, "browsed", listener),
-        move || all_is_answered(rt, endpoint),
+        move || {
+            all_is_answered(rt, endpoint)?;
+            further_are_answered(rt, endpoint)
+        },
     );
     answered?;
     let expected = format!(in rt.alloc(); "true browsing http://{endpoint}/\n")?;

@@ -4,6 +4,7 @@ ghost use Rattle.std.specs.Prelude.{◌≡◌, length};
 
 use crate::tests::readers::gives;
 use crate::tests::samples::area;
+use crate::{write_client_cut_text, write_key_event, write_pointer_event};
 use client_wire::*;
 use pixel_format::PixelFormat;
 use std::test::Fail;

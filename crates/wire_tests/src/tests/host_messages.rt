@@ -2,6 +2,7 @@
 
 use crate::tests::readers::gives;
 use crate::tests::samples::{RED_UPDATE as RED, area, size};
+use crate::{write_bell, write_color_map, write_raw_update, write_server_cut_text};
 use pixel_format::Color;
 use rfb_wire::*;
 use std::alloc::Global;
@@ -49,7 +50,7 @@ fn write_all(out: &mut Vec<u8>) -> Result<(), NoMemory> {
         g: 256,
         b: 1,
     };
-    write_cut_text(b"hi", out)?;
+    write_server_cut_text(b"hi", out)?;
     write_bell(out)?;
     write_raw_update(area(1, 258, 1, 1), &[0, 248], out)?;
     write_color_map(258, &[color], out)
@@ -90,7 +91,7 @@ fn writing_while_memory_lasts(rt: HostRuntime) {
         let written = write_color_map(7, &[color], &mut out);
         assert!(rt; out.len() == (if written.is_ok() { before + 12 } else { before }));
         let before = out.len();
-        let written = write_cut_text(b"hello", &mut out);
+        let written = write_server_cut_text(b"hello", &mut out);
         assert!(rt; out.len() == (if written.is_ok() { before + 13 } else { before }));
         let before = out.len();
         let written = write_bell(&mut out);

@@ -42,7 +42,7 @@ impl Marked for ClientMessage {
             ClientMessage::SetPixelFormat(_) => 0,
             ClientMessage::SetEncodings(_) => 2,
             ClientMessage::Request { .. } => 3,
-            ClientMessage::Input(kind) => usize::from(*kind),
+            ClientMessage::Input(kind) => *kind as usize,
         }
     }
 }

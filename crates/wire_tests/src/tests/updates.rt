@@ -4,13 +4,12 @@ ghost use Rattle.std.specs.Prelude.{◌≡◌, IfOk, length, ◌*◌};
 
 use crate::test_canvas::TestCanvas;
 use crate::tests::samples::{EIGHT, GREEN, RED, SIXTEEN, WHITE, area, below, converted};
-use hextile::Measure;
 use pixel_format::{Canvas, Color, PixelFormat};
 use rect_codec::{Part, pick, write_parts, write_update};
 use rect_data::Encoding;
 use std::alloc::Global;
 use std::test::Fail;
-use terms::{Area, NoMemory};
+use terms::{Area, NoLength, NoMemory};
 
 // The colour of the pixel of this number.
 fn pixel_color(format: &PixelFormat, data: &[u8], number: usize) -> Option<Color> {
@@ -24,7 +23,7 @@ fn pixel_color(format: &PixelFormat, data: &[u8], number: usize) -> Option<Color
 
 // What an update paints on a white sheet; refused if it isn't an update of one rectangle on the
 // sheet, or has bytes after it.
-fn painted(format: &PixelFormat, update: &[u8]) -> Result<TestCanvas, Measure> {
+fn painted(format: &PixelFormat, update: &[u8]) -> Result<TestCanvas, NoLength> {
     let [
         0,
         0,
@@ -45,38 +44,45 @@ fn painted(format: &PixelFormat, update: &[u8]) -> Result<TestCanvas, Measure> {
         data @ ..,
     ] = update
     else {
-        return Err(Measure::Bad);
+        return Err(NoLength::Bad);
     };
     let (x, y) = (u16::from(*x), u16::from(*y));
     let (w, h) = (u16::from(*w), u16::from(*h));
     if x + w > 320 || y + h > 120 {
-        return Err(Measure::Bad);
+        return Err(NoLength::Bad);
     }
+    let area = Area { x, y, w, h };
     let mut test_canvas = TestCanvas::new(WHITE);
     let length = match *encoding {
         0 => {
             for k in 0..w * h {
-                let color = pixel_color(format, data, usize::from(k)).ok_or(Measure::NeedMore)?;
-                test_canvas.fill(x + k % w, y + k / w, 1, 1, color);
+                let color = pixel_color(format, data, usize::from(k)).ok_or(NoLength::NeedMore)?;
+                let pixel = Area {
+                    x: x + k % w,
+                    y: y + k / w,
+                    w: 1,
+                    h: 1,
+                };
+                test_canvas.fill(pixel, color);
             }
             usize::from(w * h) * format.bytes()
         }
         2 => {
             let Ok(length) = rre::measure(format, w, h, data) else {
-                return Err(Measure::Bad);
+                return Err(NoLength::Bad);
             };
-            rre::paint(format, x, y, w, h, &data[..length], &mut test_canvas);
+            rre::paint(format, area, &data[..length], &mut test_canvas);
             length
         }
         5 => {
             let length = hextile::measure(format, w, h, data)?;
-            hextile::paint(format, x, y, w, h, &data[..length], &mut test_canvas);
+            hextile::paint(format, area, &data[..length], &mut test_canvas);
             length
         }
-        _ => return Err(Measure::Bad),
+        _ => return Err(NoLength::Bad),
     };
     if length != data.len() {
-        return Err(Measure::Bad);
+        return Err(NoLength::Bad);
     }
     Ok(test_canvas)
 }

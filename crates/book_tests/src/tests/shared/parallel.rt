@@ -6,14 +6,18 @@ ghost use Rattle.book_tests.specs.OnePixel.{IsOfOnePixel};
 
 use super::{UPDATE, confirm, find};
 use crate::{ONE_PLACE, desk_of_one_pixel};
+use book_workers::{
+    FlusherEnd, HostSource, Point, ReceiptSink, Turnstile, ViewerEnd, ViewerSink, ViewerWish,
+    run_flusher, run_host, run_viewer,
+};
 use broadcast::{Desk, NextRefusal, Start};
 use disk::{Disk, FailingDisk, MemoryDisk, Switch};
 use flusher_core::{FlushRefusal, HostRefusal};
 use gated_journal::ReadFault;
+use key_index::Stamped;
 use rfb_wire::HostMessage;
 use shared_book::{
-    Closed, Ending, FlusherEnd, HostSource, Mark, Point, Receipt, ReceiptSink, Shared, Ticket,
-    Token, Turnstile, ViewerEnd, ViewerSink, ViewerWish, run_flusher, run_host, run_viewer,
+    Closed, Ending, FlusherPen, HostPen, Mark, Receipt, Shared, Sharing, Ticket, Token,
 };
 use std::alloc::Global;
 use std::marker::Brand;
@@ -126,6 +130,7 @@ struct Updates<'a, M: Mark, R: Clock> {
 }
 
 impl<'a, M: Mark, R: Clock> HostSource<Ticket<M>> for Updates<'a, M, R> {
+    ghost use Rattle.std.specs.Prelude.{[], false};
     ghost use Rattle.pixel_format.specs.declared.kind.Format.TheVariants.{One};
 
     ghost format = { λ u. One };
@@ -134,7 +139,13 @@ impl<'a, M: Mark, R: Clock> HostSource<Ticket<M>> for Updates<'a, M, R> {
 
     ghost height = { λ u. 1 };
 
-    fn next(&mut self) -> Option<(u32, HostMessage)> {
+    ghost is_modelled = { ⊥ };
+
+    ghost account = { λ u. record { first = 0; given = []; told = []; has_ended = false } };
+
+    ghost ticket_of = { λ t. t };
+
+    fn next(&mut self) -> Option<Stamped> {
         if self.given >= self.count {
             return None;
         }
@@ -144,7 +155,7 @@ impl<'a, M: Mark, R: Clock> HostSource<Ticket<M>> for Updates<'a, M, R> {
         }
         self.given += 1;
         match HostMessage::from_bytes(self.alloc, ONE_PLACE, &UPDATE) {
-            Ok(message) => Some((0, message)),
+            Ok(message) => Some(Stamped { time: 0, message }),
             Err(_) => {
                 self.gates.lacks();
                 None
@@ -167,6 +178,12 @@ struct Kept<'a, M: Mark, R: Clock> {
 }
 
 impl<'a, M: Mark, R: Clock> ReceiptSink<Receipt<M>> for Kept<'a, M, R> {
+    ghost is_modelled = { ⊥ };
+
+    ghost committed = { λ k. 0 };
+
+    ghost slice_of = { λ r. r };
+
     fn receipt(&mut self, receipt: Receipt<M>) {
         if self.receipts.push(receipt).is_err() {
             self.gates.lacks();
@@ -258,19 +275,21 @@ struct Told<M: Mark> {
 }
 
 impl<'a, D: Disk, M: Mark, R: Wait + Clock> Workers<'a, D, M, R> {
-    fn host(&self) -> Vec<Ticket<M>>
+    fn host(&self, pen: &mut HostPen<M>) -> Vec<Ticket<M>>
         requires { IsOfOnePixel M.head }
     {
         let gates = self.gates;
         let mut tickets = Vec::new(self.alloc);
-        let source = Updates {
+        let mut source = Updates {
             alloc: self.alloc,
             gates: &*gates,
             given: 0,
             count: self.count,
             tickets: &mut tickets,
         };
-        match (run_host(self.rt, self.shared, source, gates), gates.order) {
+        let end = run_host(self.rt, self.shared, pen, &mut source, gates);
+        drop(source);
+        match (end, gates.order) {
             (Err(HostRefusal::NoMemory), _) => gates.lacks(),
             (Err(HostRefusal::Broken), Order::FailsAfter(_)) => {
                 gates.failed.fetch_add(4, Ordering::SeqCst);
@@ -281,15 +300,17 @@ impl<'a, D: Disk, M: Mark, R: Wait + Clock> Workers<'a, D, M, R> {
         tickets
     }
 
-    fn flush(&self) -> Vec<Receipt<M>> {
+    fn flush(&self, pen: &mut FlusherPen<M>) -> Vec<Receipt<M>> {
         let gates = self.gates;
         gates.hold_until(Order::Backlogged, &gates.accepted, 1_024);
         let mut receipts = Vec::new(self.alloc);
-        let kept = Kept {
+        let mut kept = Kept {
             gates: &*gates,
             receipts: &mut receipts,
         };
-        match (run_flusher(self.rt, self.shared, kept, gates), gates.order) {
+        let end = run_flusher(self.rt, self.shared, pen, &mut kept, gates);
+        drop(kept);
+        match (end, gates.order) {
             (Err(FlusherEnd::Flush(FlushRefusal::Device)), Order::FailsAfter(_)) => {
                 gates.failed.fetch_add(2, Ordering::SeqCst);
             }
@@ -353,38 +374,42 @@ impl<'a, D: Disk + Send, M: Mark + Send + Sync, R: Threads + Wait + Clock + Sync
     // The host and the flusher, each in a thread of its own if the order allows. If no thread can
     // be made, `join` calls its second closure and then its first: the host comes first, as the
     // flusher waits for its end, and it waits for nobody while there is room.
-    fn record(&self) -> (Vec<Ticket<M>>, Vec<Receipt<M>>)
+    fn record(
+        &self,
+        host: &mut HostPen<M>,
+        flusher: &mut FlusherPen<M>,
+    ) -> (Vec<Ticket<M>>, Vec<Receipt<M>>)
         requires { IsOfOnePixel M.head }
     {
         match self.gates.order {
             Order::Free | Order::Meeting | Order::Backlogged | Order::FailsAfter(_) => {
                 let (committed, tickets) = join(
                     self.rt,
-                    move || self.flush(),
+                    move || self.flush(flusher),
                     move || -> Vec<Ticket<M>>
                         requires { IsOfOnePixel M.head }
-                    { self.host() },
+                    { self.host(host) },
                 );
                 (tickets, committed)
             }
             Order::HostFirst => {
-                let tickets = self.host();
+                let tickets = self.host(host);
                 self.gates.waiting.store(0, Ordering::SeqCst);
                 self.shared.wake(self.rt);
                 let waiting = &self.gates.waiting;
                 self.gates.hold_until(Order::HostFirst, waiting, 1);
-                (tickets, self.flush())
+                (tickets, self.flush(flusher))
             }
             Order::NoFlusher => {
                 self.shared.end_flusher(self.rt);
-                (self.host(), Vec::new(self.alloc))
+                (self.host(host), Vec::new(self.alloc))
             }
         }
     }
 
     // All workers. The viewers wait for the end of both others, and so come last if no thread can
     // be made.
-    fn work(&self) -> Result<Told<M>, NoMemory>
+    fn work(&self, host: &mut HostPen<M>, flusher: &mut FlusherPen<M>) -> Result<Told<M>, NoMemory>
         requires { IsOfOnePixel M.head }
     {
         let (seen, (tickets, committed)) = join(
@@ -394,7 +419,7 @@ impl<'a, D: Disk + Send, M: Mark + Send + Sync, R: Threads + Wait + Clock + Sync
             { self.view_all() },
             move || -> (Vec<Ticket<M>>, Vec<Receipt<M>>)
                 requires { IsOfOnePixel M.head }
-            { self.record() },
+            { self.record(host, flusher) },
         );
         let mut seen = seen?;
         if self.gates.order == Order::NoFlusher {
@@ -474,7 +499,11 @@ fn share<
     requires names { token ≡ M.names }
     requires sized { IsOfOnePixel M.head }
 {
-    let shared = Shared::<D, M>::new(rt, token, desk);
+    let Sharing {
+        shared,
+        mut host,
+        mut flusher,
+    } = Shared::<D, M>::new(rt, token, desk);
     let workers = Workers {
         rt: &*rt,
         alloc,
@@ -483,9 +512,10 @@ fn share<
         count,
         viewers,
     };
-    let told = workers.work();
+    let told = workers.work(&mut host, &mut flusher);
     drop(workers);
     let mut closed = shared.finish();
+    closed.counted(&mut host, &mut flusher);
     match told {
         Ok(mut told) => settle(rt, &mut closed, &mut told, due_in(gates, count)),
         Err(NoMemory) => Ok(()),

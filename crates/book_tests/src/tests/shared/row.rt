@@ -10,7 +10,7 @@ use broadcast::{Desk, Start};
 use disk::{Disk, MemoryDisk};
 use pixel_format::Color;
 use rfb_wire::HostMessage;
-use shared_book::{Mark, Shared, Token};
+use shared_book::{Mark, Shared, Sharing, Token};
 use std::alloc::Global;
 use std::marker::Brand;
 use std::process::Abort;
@@ -31,14 +31,23 @@ struct Begun {
 }
 
 // Records the update; `None` if that is refused.
-fn record<D: Disk, M: Mark, R: Wait>(rt: &R, alloc: Global, shared: &Shared<D, M>) -> Option<()>
+fn record<D: Disk, M: Mark, R: Wait>(
+    rt: &R,
+    alloc: Global,
+    sharing: &mut Sharing<D, M>,
+) -> Option<()>
     requires { IsOfOnePixel M.head }
 {
     let message = HostMessage::from_bytes(alloc, ONE_PLACE, &UPDATE).ok()?;
-    shared.host(rt, 0, message).ok()?;
+    let Sharing {
+        shared,
+        host,
+        flusher,
+    } = sharing;
+    shared.host(rt, host, 0, message).ok()?;
     shared.take(rt).ok()?;
     shared.body(rt).ok()?;
-    shared.gate(rt).ok()?;
+    shared.gate(rt, flusher).ok()?;
     Some(())
 }
 
@@ -75,8 +84,8 @@ fn begin_all<D: Disk + Drop, M: Mark, R: Wait + Abort>(
     requires names { token ≡ M.names }
     requires sized { IsOfOnePixel M.head }
 {
-    let shared = Shared::<D, M>::new(rt, token, desk);
-    assert!(rt; record(rt, alloc, &shared).is_some());
+    let mut sharing = Shared::<D, M>::new(rt, token, desk);
+    assert!(rt; record(rt, alloc, &mut sharing).is_some());
     for (start, position, color, updates) in [
         (Start::Live, 1, RED, 0),
         (Start::At(0), 0, BLACK, 1),
@@ -86,15 +95,15 @@ fn begin_all<D: Disk + Drop, M: Mark, R: Wait + Abort>(
             start: color,
             updates,
         };
-        assert!(rt; begin(rt, &shared, start) == Some(due));
+        assert!(rt; begin(rt, &sharing.shared, start) == Some(due));
     }
-    assert!(rt; record(rt, alloc, &shared).is_some());
+    assert!(rt; record(rt, alloc, &mut sharing).is_some());
     let due = Begun {
         position: 2,
         start: RED,
         updates: 0,
     };
-    assert!(rt; begin(rt, &shared, Start::Live) == Some(due));
+    assert!(rt; begin(rt, &sharing.shared, Start::Live) == Some(due));
 }
 
 #[test]

@@ -12,7 +12,7 @@ use disk::{Disk, FailingDisk, MemoryDisk, Switch};
 use gated_journal::ReadFault;
 use replay::Slice;
 use rfb_wire::HostMessage;
-use shared_book::{Closed, Mark, Receipt, Shared, Ticket, Token};
+use shared_book::{Closed, Mark, Receipt, Shared, Sharing, Ticket, Token};
 use std::alloc::Global;
 use std::marker::Brand;
 use std::process::Abort;
@@ -119,7 +119,7 @@ fn host<D: Disk, M: Mark, R: Wait>(
     rt: &R,
     alloc: Global,
     desk: &mut Desk<D>,
-    shared: &Shared<D, M>,
+    sharing: &mut Sharing<D, M>,
     tickets: &mut Vec<Ticket<M>>,
     bytes: &[u8],
 ) -> Option<bool>
@@ -129,7 +129,8 @@ fn host<D: Disk, M: Mark, R: Wait>(
 {
     let message = HostMessage::from_bytes(alloc, ONE_PLACE, bytes).ok()?;
     let again = HostMessage::from_bytes(alloc, ONE_PLACE, bytes).ok()?;
-    match (desk.host(0, message), shared.host(rt, 0, again)) {
+    let Sharing { shared, host, .. } = sharing;
+    match (desk.host(0, message), shared.host(rt, host, 0, again)) {
         (Ok(number), Ok(ticket)) => {
             let is_same = number == ticket.number();
             tickets.push(ticket).ok()?;
@@ -187,7 +188,7 @@ fn both<D: Disk, M: Mark, R: Wait>(
     rt: &R,
     alloc: Global,
     desk: &mut Desk<D>,
-    shared: &Shared<D, M>,
+    sharing: &mut Sharing<D, M>,
     kept: &mut Kept<M>,
     line: Line,
 ) -> Option<bool>
@@ -195,12 +196,16 @@ fn both<D: Disk, M: Mark, R: Wait>(
     requires sized { IsOfOnePixel M.head }
     ensures head { desk.new.head ≡ desk.old.head }
 {
+    let shared = &sharing.shared;
     match line {
-        Update => host(rt, alloc, desk, shared, &mut kept.tickets, &UPDATE),
-        Bell => host(rt, alloc, desk, shared, &mut kept.tickets, &BELL),
+        Update => host(rt, alloc, desk, sharing, &mut kept.tickets, &UPDATE),
+        Bell => host(rt, alloc, desk, sharing, &mut kept.tickets, &BELL),
         Take => Some(desk.take() == shared.take(rt)),
         Body => Some(desk.body() == shared.body(rt)),
-        Gate => hand_out(&mut kept.receipts, desk.gate(), shared.gate(rt)),
+        Gate => {
+            let twin = shared.gate(rt, &mut sharing.flusher);
+            hand_out(&mut kept.receipts, desk.gate(), twin)
+        }
         Live => join(rt, desk, shared, &mut kept.seats, Start::Live),
         At(n) => join(rt, desk, shared, &mut kept.seats, Start::At(n)),
         Foreign => {
@@ -239,7 +244,7 @@ fn run_lines<D: Disk, M: Mark, R: Wait + Abort>(
     rt: &R,
     alloc: Global,
     desk: &mut Desk<D>,
-    shared: &Shared<D, M>,
+    sharing: &mut Sharing<D, M>,
     kept: &mut Kept<M>,
     lines: &[Line],
 )
@@ -247,7 +252,7 @@ fn run_lines<D: Disk, M: Mark, R: Wait + Abort>(
     requires sized { IsOfOnePixel M.head }
 {
     for line in lines {
-        let are_same = both(rt, alloc, desk, shared, kept, *line);
+        let are_same = both(rt, alloc, desk, sharing, kept, *line);
         assert!(rt; are_same == Some(true));
     }
 }
@@ -278,14 +283,21 @@ fn run_both<D: Disk + Drop, M: Mark, R: Wait + Abort>(
     requires names { token ≡ M.names }
     requires sized { IsOfOnePixel M.head }
 {
-    let shared = Shared::<D, M>::new(rt, token, twin);
+    let mut sharing = Shared::<D, M>::new(rt, token, twin);
     let mut kept = Kept {
         seats: Vec::new(alloc),
         receipts: Vec::new(alloc),
         tickets: Vec::new(alloc),
     };
-    run_lines(rt, alloc, desk, &shared, &mut kept, lines);
-    confirm_all(rt, &mut shared.finish(), &kept)
+    run_lines(rt, alloc, desk, &mut sharing, &mut kept, lines);
+    let Sharing {
+        shared,
+        mut host,
+        mut flusher,
+    } = sharing;
+    let mut closed = shared.finish();
+    closed.counted(&mut host, &mut flusher);
+    confirm_all(rt, &mut closed, &kept)
 }
 
 // A desk whose disk fails once, after so many calls.

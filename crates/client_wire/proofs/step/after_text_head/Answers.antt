@@ -11,4 +11,4 @@ returns-then-length-eq0-clause-goes c = λ more.
 pub returns-clause-goes : goal.returns-clause-goes
 returns-clause-goes c = λ more.
     let count : u32_at c.args.field.now 3 ≡ c.read_u32-length.result = search rules in
-    rw c.new.ensures (text_goes c.args.field.now more c.read_u32-length.result c.requires count)
+    rw c.new-left.ensures (text_goes c.args.field.now more c.read_u32-length.result c.requires count)

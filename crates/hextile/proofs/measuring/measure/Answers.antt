@@ -1,9 +1,8 @@
 use Rattle.std.proofs.Common.{length, sym, ap, ◌∙◌}
 use Rattle.terms.proofs.Measured.{if_measured, whole_is_measured}
-use Rattle.hextile.specs.declared.fault.Measure.TheVariants as answers
 use Rattle.hextile.specs.Grammar.{data_at}
 use Rattle.hextile.specs.Data.{IsData}
-use Rattle.hextile.specs.Measuring.{measured}
+use Rattle.terms.specs.Measuring.{measured}
 use Rattle.hextile.proofs.TilesRead.{data_read, data_again}
 use Rattle.hextile.proofs.Refused.{measured_is_refused, refused_again}
 use Rattle.hextile.proofs.measuring.measure.Goals as goal
@@ -11,7 +10,7 @@ use Rattle.hextile.proofs.measuring.measure.Goals as goal
 pub returns-clause-whole : goal.returns-clause-whole
 returns-clause-whole c = λ front more is known.
     let read = data_at c.args.format.now c.args.w c.args.h in
-    c.measure_by_fields.ensures ∙ whole_is_measured answers.NeedMore answers.Bad read c.args.bytes.now front more known.0 is
+    c.measure_by_fields.ensures ∙ whole_is_measured read c.args.bytes.now front more known.0 is
     (data_again c.args.format.now c.args.w c.args.h front more known.0 known.1)
 
 pub returns-clause-bad : goal.returns-clause-bad
@@ -25,4 +24,4 @@ returns-clause-ok c =
     let f = c.args.format.now in
     let w = c.args.w in
     let h = c.args.h in
-    if_measured answers.NeedMore answers.Bad (data_at f w h) (IsData f w h) (data_read f w h) c.args.bytes.now c.measure_by_fields.result c.measure_by_fields.ensures
+    if_measured (data_at f w h) (IsData f w h) (data_read f w h) c.args.bytes.now c.measure_by_fields.result c.measure_by_fields.ensures

@@ -1,30 +1,41 @@
+use Rattle.std.proofs.Common.{◌≡◌, length, drop, None, Some, refl, sym, ap, ◌∙◌, arith}
 use Rattle.std.proofs.lemmas.Result.{err_from_is_err_and}
+use Rattle.terms.proofs.Measured.{judged_whole, judged_bad, fields_measured}
+use Rattle.hextile.specs.Grammar.{Refused, data_at}
 use Rattle.hextile.specs.Measuring.{go_on}
-use Rattle.hextile.proofs.Steps.{all_whole, all_waits, all_refused, all_none}
+use Rattle.hextile.proofs.Steps.{all_is, all_waits, all_refused}
 use Rattle.hextile.proofs.measuring.measure_by_fields.Goals as goal
 
 pub returns-in_default : goal.returns-in_default
+unfolding go_on
 returns-in_default c =
-    all_none c.args.format.now c.args.w c.args.h c.args.bytes.now (rw c.in_default.is at (c.start.ensures c.args.format.now c.args.bytes.now))
+    let f = c.args.format.now in
+    let bytes = c.args.bytes.now in
+    let starts = rw c.in_default.is at (c.start.ensures f bytes) in
+    judged_whole 0 bytes (data_at f c.args.w c.args.h bytes) (omega arith) (sym starts)
 
 pub returns-in_err-taken : goal.returns-in_err-taken
 unfolding go_on
 returns-in_err-taken c =
     let p = err_from_is_err_and c.from_residual.result c.from_residual.ensures.1 in
-    rw (p.1, p.2, c.in_err-taken.ensures.only)
-    (all_refused c.args.format.now c.args.w c.args.h c.args.bytes.now c.in-Some.first (rw c.in-Some.is at (c.start.ensures c.args.format.now)) c.in_err-taken.ensures.refused)
+    let f = c.args.format.now in
+    let w = c.args.w in
+    let h = c.args.h in
+    let bytes = c.args.bytes.now in
+    rw (p.1, p.2, c.in_err-taken.ensures.only) (judged_bad (length bytes) (data_at f w h bytes) Refused
+    (all_refused f w h bytes c.in-Some.first (rw c.in-Some.is at (c.start.ensures f)) c.in_err-taken.ensures.refused))
 
-pub returns-in_default-None : goal.returns-in_default-None
+pub returns : goal.returns
 unfolding go_on
-returns-in_default-None c =
-    let x = c.in_ok-taken.field-0 in
-    all_whole c.args.format.now c.args.w c.args.h x.0 c.args.bytes.now c.in-Some.first c.in_ok-taken.ensures.taken
-    (rw c.in-Some.is at (c.start.ensures c.args.format.now)) (rw c.in_default-None.is-1 at c.in_ok-taken.ensures.goes)
-
-pub returns-in_default-Some : goal.returns-in_default-Some
-unfolding go_on
-returns-in_default-Some c =
-    let x = c.in_ok-taken.field-0 in
-    all_waits c.args.format.now c.args.w c.args.h x.0 c.args.bytes.now c.in-Some.first c.in_default-Some.field-0-1 c.in_ok-taken.ensures.taken
-    (rw c.in_default-Some.is-1 at c.in_ok-taken.ensures.waits)
-    (rw c.in-Some.is at (c.start.ensures c.args.format.now)) (rw c.in_default-Some.is-1 at c.in_ok-taken.ensures.goes)
+returns c =
+    let f = c.args.format.now in
+    let w = c.args.w in
+    let h = c.args.h in
+    let bytes = c.args.bytes.now in
+    let n = c.in_ok-taken.taken in
+    let first = c.in-Some.first in
+    let run = c.in_ok-taken.ensures in
+    let starts = rw c.in-Some.is at (c.start.ensures f) in
+    fields_measured n c.in_ok-taken.following c.whole_length.result bytes (data_at f w h bytes) c.whole_length.ensures run.taken
+    (λ none. all_is f w h n bytes first None starts (rw none at run.goes))
+    (λ next some. all_waits f w h n bytes first next run.taken (rw some at run.waits) starts (rw some at run.goes))

@@ -1,6 +1,7 @@
 use Rattle.std.proofs.Common.{◌≡◌, ◌-◌, suc, arith, ap, refl}
 use Rattle.hextile.specs.Grammar.{tiles_at}
-use Rattle.hextile.specs.Measuring.{go_on, resume, following, judged}
+use Rattle.hextile.specs.Measuring.{go_on, resume, following}
+use Rattle.terms.specs.Measuring.{judged}
 use Rattle.hextile.proofs.measuring.next_tile.Goals as goal
 
 pub returns-then-tile-eq0 : goal.returns-then-tile-eq0

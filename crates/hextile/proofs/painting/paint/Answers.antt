@@ -11,14 +11,14 @@ loop-number-init g c = record {
   height = refl;
   background = subst g.C.Canvas.holds (black_pixel c.args.format.now) (c.requires.held []);
   foreground = subst g.C.Canvas.holds (black_pixel c.args.format.now) (c.requires.held []);
-  painted = λ tiles is. tiles_begin c.args.format.now c.args.x c.args.y c.args.w c.args.h tiles c.args.bytes.now
+  painted = λ tiles is. tiles_begin c.args.format.now c.args.area.x c.args.area.y c.args.area.w c.args.area.h tiles c.args.bytes.now
       (g.C.Canvas.width c.args.canvas.now) (g.C.Canvas.height c.args.canvas.now) (g.C.Canvas.picture c.args.canvas.now) is;
 }
 
 pub paint_tile-rest-requires-clause-begin : goal.paint_tile-rest-requires-clause-begin
 paint_tile-rest-requires-clause-begin g c =
-    let w = c.args.w in
-    let h = c.args.h in
+    let w = c.args.area.w in
+    let h = c.args.area.h in
     let number = c.loop-number.number in
     let less : number < tile_count w h = omega (arith, c.loop-number-test.true, c.count_tiles-number-end.ensures) in
     let some = some_pixels w h number less in
@@ -28,8 +28,8 @@ paint_tile-rest-requires-clause-begin g c =
 
 pub loop-number-preserved : goal.loop-number-preserved
 loop-number-preserved g c =
-    let w = c.args.w in
-    let h = c.args.h in
+    let w = c.args.area.w in
+    let h = c.args.area.h in
     let number = c.loop-number.number in
     let less : number < tile_count w h = omega (arith, c.loop-number-test.true, c.count_tiles-number-end.ensures) in
     let some = some_pixels w h number less in
@@ -41,7 +41,7 @@ loop-number-preserved g c =
       background = done.background;
       foreground = done.foreground;
       painted = λ tiles is.
-          tiles_go c.args.format.now c.args.x c.args.y w h tiles number c.loop-number.rest.now c.paint_tile-rest.result.now c.loop-number.colors c.paint_tile-rest.new.colors
+          tiles_go c.args.format.now c.args.area.x c.args.area.y w h tiles number c.loop-number.rest.now c.paint_tile-rest.result.now c.loop-number.colors c.paint_tile-rest.new.colors
           (g.C.Canvas.width c.args.canvas.now) (g.C.Canvas.height c.args.canvas.now) (g.C.Canvas.picture c.args.canvas.now) (g.C.Canvas.picture c.loop-number.canvas)
           (g.C.Canvas.picture c.paint_tile-rest.new.canvas) less some.0 (c.loop-number.invariant.painted tiles is)
           (rw (tile.width, tile.height) at done.rest)
@@ -53,9 +53,9 @@ pub returns-clause-painted : goal.returns-clause-painted
 returns-clause-painted g c = λ tiles is.
     let most = c.loop-number.auto.number-end in
     let least = c.loop-number-test.false in
-    let all : c.loop-number.number ≡ tile_count c.args.w c.args.h = omega (arith, most, least, c.count_tiles-number-end.ensures) in
-    tiles_end c.args.format.now c.args.x c.args.y c.args.w c.args.h tiles c.loop-number.rest.now c.loop-number.colors
+    let all : c.loop-number.number ≡ tile_count c.args.area.w c.args.area.h = omega (arith, most, least, c.count_tiles-number-end.ensures) in
+    tiles_end c.args.format.now c.args.area.x c.args.area.y c.args.area.w c.args.area.h tiles c.loop-number.rest.now c.loop-number.colors
     (g.C.Canvas.width c.args.canvas.now) (g.C.Canvas.height c.args.canvas.now) (g.C.Canvas.picture c.args.canvas.now) (g.C.Canvas.picture c.loop-number.canvas)
-    (subst (λ (n : ℕ). TilesProgress c.args.format.now c.args.x c.args.y c.args.w c.args.h tiles n c.loop-number.rest.now c.loop-number.colors
+    (subst (λ (n : ℕ). TilesProgress c.args.format.now c.args.area.x c.args.area.y c.args.area.w c.args.area.h tiles n c.loop-number.rest.now c.loop-number.colors
     (g.C.Canvas.width c.args.canvas.now) (g.C.Canvas.height c.args.canvas.now) (g.C.Canvas.picture c.args.canvas.now) (g.C.Canvas.picture c.loop-number.canvas)) all
     (c.loop-number.invariant.painted tiles is))

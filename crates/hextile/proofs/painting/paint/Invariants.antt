@@ -11,7 +11,7 @@ invariant-loop-number g l = record {
   height : g.C.Canvas.height l.canvas ≡ g.C.Canvas.height l.fn.canvas;
   background : g.C.Canvas.holds l.colors.background;
   foreground : g.C.Canvas.holds l.colors.foreground;
-  painted : (tiles : List Tile) → IsData l.format l.w l.h l.bytes tiles
-      → TilesProgress l.format l.x l.y l.w l.h tiles l.number l.rest l.colors
+  painted : (tiles : List Tile) → IsData l.format l.area.w l.area.h l.bytes tiles
+      → TilesProgress l.format l.area.x l.area.y l.area.w l.area.h tiles l.number l.rest l.colors
       (g.C.Canvas.width l.fn.canvas) (g.C.Canvas.height l.fn.canvas) (g.C.Canvas.picture l.fn.canvas) (g.C.Canvas.picture l.canvas);
 }

@@ -29,8 +29,8 @@ split_at-requires g c =
     (g.C.Canvas.picture c.args.canvas.now) (g.C.Canvas.picture c.loop.canvas) any_part left p in
     omega (arith, t.enough, c.pixel_size-size.ensures.size)
 
-pub overflow_add-x : goal.overflow_add-x
-overflow_add-x g c =
+pub overflow_add-filled : goal.overflow_add-filled
+overflow_add-filled g c =
     let f = c.args.format.now in
     let area = c.args.area in
     let rest = c.loop.rest.now in
@@ -43,8 +43,8 @@ overflow_add-x g c =
     let within = t.within read in
     omega (arith, within.columns, c.requires.last_column)
 
-pub overflow_add-y : goal.overflow_add-y
-overflow_add-y g c =
+pub overflow_add-filled-in-loop : goal.overflow_add-filled-in-loop
+overflow_add-filled-in-loop g c =
     let f = c.args.format.now in
     let area = c.args.area in
     let rest = c.loop.rest.now in
@@ -60,12 +60,12 @@ overflow_add-y g c =
 pub fill-requires-clause-held : goal.fill-requires-clause-held
 unfolding subrectangle_of
 fill-requires-clause-held g c =
-    let color : c.unwrap_or-color.result ≡ unwrap_or (color_if c.args.format.now c.args.colored c.split_at.result.0.now) c.args.foreground =
-    c.unwrap_or-color.ensures ∙ ap (λ (s : Subrectangle). unwrap_or s.color c.args.foreground) c.read_subrectangle-part.ensures in
+    let color : c.unwrap_or.result ≡ unwrap_or (color_if c.args.format.now c.args.colored c.split_at.result.0.now) c.args.foreground =
+    c.unwrap_or.ensures ∙ ap (λ (s : Subrectangle). unwrap_or s.color c.args.foreground) c.read_subrectangle-part.ensures in
     subst g.C.Canvas.holds (sym color) (held_or g.C.Canvas.holds c.args.format.now c.args.colored c.split_at.result.0.now c.args.foreground c.requires.held c.requires.foreground)
 
-pub fill-requires-clause-columns : goal.fill-requires-clause-columns
-fill-requires-clause-columns g c =
+pub fill-requires-clause-within : goal.fill-requires-clause-within
+fill-requires-clause-within g c =
     let f = c.args.format.now in
     let area = c.args.area in
     let rest = c.loop.rest.now in
@@ -76,21 +76,10 @@ fill-requires-clause-columns g c =
     (g.C.Canvas.picture c.args.canvas.now) (g.C.Canvas.picture c.loop.canvas) c.read_subrectangle-part.result left p in
     let read = taken_field f c.args.colored c.pixel_size-size.result c.split_at.result.0.now rest c.read_subrectangle-part.result c.pixel_size-size.ensures.size c.split_at.ensures.front c.read_subrectangle-part.ensures in
     let within = t.within read in
-    omega (arith, within.columns, c.requires.columns, c.loop.invariant.width)
-
-pub fill-requires-clause-rows : goal.fill-requires-clause-rows
-fill-requires-clause-rows g c =
-    let f = c.args.format.now in
-    let area = c.args.area in
-    let rest = c.loop.rest.now in
-    let left : c.args.count - c.loop.counter ≡ suc (c.args.count - (c.loop.counter + 1)) = omega (arith, c.loop-test.true) in
-    let p = c.loop.invariant.painted c.requires.begin.parts c.requires.begin.rest c.requires.begin.is in
-    let t = part_taken f c.args.colored area.x area.y area.w area.h (c.args.count - c.loop.counter) (c.args.count - (c.loop.counter + 1)) c.args.foreground
-    c.requires.begin.parts c.requires.begin.rest rest (g.C.Canvas.width c.args.canvas.now) (g.C.Canvas.height c.args.canvas.now)
-    (g.C.Canvas.picture c.args.canvas.now) (g.C.Canvas.picture c.loop.canvas) c.read_subrectangle-part.result left p in
-    let read = taken_field f c.args.colored c.pixel_size-size.result c.split_at.result.0.now rest c.read_subrectangle-part.result c.pixel_size-size.ensures.size c.split_at.ensures.front c.read_subrectangle-part.ensures in
-    let within = t.within read in
-    omega (arith, within.rows, c.requires.rows, c.loop.invariant.height)
+    record {
+      columns = omega (arith, within.columns, c.requires.within.columns, c.loop.invariant.width);
+      rows = omega (arith, within.rows, c.requires.within.rows, c.loop.invariant.height);
+    }
 
 pub loop-preserved : goal.loop-preserved
 loop-preserved g c =
@@ -107,7 +96,7 @@ loop-preserved g c =
       painted = λ parts after e.
           rw (← at) (parts_go f c.args.colored area.x area.y area.w area.h (c.args.count - c.loop.counter) (c.args.count - (c.loop.counter + 1)) c.args.foreground parts after rest
           (g.C.Canvas.width c.args.canvas.now) (g.C.Canvas.height c.args.canvas.now)
-          (g.C.Canvas.picture c.args.canvas.now) (g.C.Canvas.picture c.loop.canvas) (g.C.Canvas.picture c.fill.new.self) part c.unwrap_or-color.result left read c.unwrap_or-color.ensures
+          (g.C.Canvas.picture c.args.canvas.now) (g.C.Canvas.picture c.loop.canvas) (g.C.Canvas.picture c.fill.new.self) part c.unwrap_or.result left read c.unwrap_or.ensures
           (c.loop.invariant.painted parts after e)
           (rw (c.loop.invariant.width, c.loop.invariant.height) at c.fill.ensures.painted));
     }

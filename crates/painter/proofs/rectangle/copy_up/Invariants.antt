@@ -1,5 +1,6 @@
 use Rattle.std.proofs.Common.{◌≡◌, ℕ, ◌<◌, cond}
-use Rattle.rect_codec.specs.Picture.{is_in, copied_picture}
+use Rattle.terms.specs.Area.{is_in}
+use Rattle.rect_codec.specs.Picture.{copied_picture}
 use Rattle.painter.specs.Pixels.{color_in}
 use Rattle.painter.proofs.rectangle.copy_up.Given as goal
 

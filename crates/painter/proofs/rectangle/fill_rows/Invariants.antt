@@ -1,5 +1,5 @@
 use Rattle.std.proofs.Common.{◌≡◌, ℕ, ◌<◌, cond}
-use Rattle.rect_codec.specs.Picture.{is_in}
+use Rattle.terms.specs.Area.{is_in}
 use Rattle.painter.specs.Pixels.{color_in, color_of}
 use Rattle.painter.proofs.rectangle.fill_rows.Given as goal
 

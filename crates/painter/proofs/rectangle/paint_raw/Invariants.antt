@@ -1,6 +1,7 @@
 use Rattle.std.proofs.Common.{◌≡◌, ℕ, ◌<◌, cond}
 use Rattle.pixel_format.specs.Format.{host_format}
-use Rattle.rect_codec.specs.Picture.{is_in, raw_picture}
+use Rattle.terms.specs.Area.{is_in}
+use Rattle.rect_codec.specs.Picture.{raw_picture}
 use Rattle.painter.specs.Pixels.{color_in}
 use Rattle.painter.proofs.rectangle.paint_raw.Given as goal
 

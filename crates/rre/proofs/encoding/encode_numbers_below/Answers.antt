@@ -1,6 +1,8 @@
-use Rattle.std.proofs.Common.{arith}
-use Rattle.std.proofs.lemmas.Grind.{common_steps}
+use Rattle.std.proofs.Common.{◌∙◌}
+use Rattle.terms.proofs.Appends.{kept_or_not}
 use Rattle.rre.proofs.encoding.encode_numbers_below.Goals as goal
 
 pub returns-clause-appended : goal.returns-clause-appended
-returns-clause-appended c = grind (arith, common_steps)
+returns-clause-appended c =
+    kept_or_not _ c.args.bytes.now.items c.append_few.new.bytes.items c.keep_below.new.bytes.items c.len-before.result c.keep_below.result (c.len-before.ensures ∙ c.args.bytes.now.ok.0)
+    (c.in_ok-whole.ensures.appended.ok c.if-not-whole.false) c.keep_below.ensures.kept c.keep_below.ensures.taken_back

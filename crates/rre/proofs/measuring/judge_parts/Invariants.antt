@@ -1,6 +1,6 @@
 use Rattle.std.proofs.Common.{◌≡◌, ◌+◌, ◌≤◌, ◌⊎◌, ℕ, List, ◌++◌, length}
 use Rattle.rre.specs.Grammar.{subrectangle_bytes, subrectangles_at}
-use Rattle.rre.specs.Measuring.{judged}
+use Rattle.terms.specs.Measuring.{judged}
 use Rattle.rre.proofs.measuring.judge_parts.Given as goal
 
 -- the bytes in front of the rest are the subrectangles that aren't left

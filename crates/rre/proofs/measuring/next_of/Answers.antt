@@ -1,6 +1,7 @@
 use Rattle.std.proofs.Common.{◌≡◌, ◌-◌, suc, arith, sym, ap}
 use Rattle.rre.specs.Grammar.{subrectangles_at}
-use Rattle.rre.specs.Measuring.{go_on, resume, judged}
+use Rattle.rre.specs.Measuring.{go_on, resume}
+use Rattle.terms.specs.Measuring.{judged}
 use Rattle.rre.proofs.Steps.{none_left}
 use Rattle.rre.proofs.measuring.next_of.Goals as goal
 

@@ -39,9 +39,9 @@ loop-rest-init g c =
       width = c.fill.ensures.width;
       height = c.fill.ensures.height;
       painted = λ content is.
-          rw (← at) (progress_begins f (g.C.Canvas.width c.args.canvas.now) (g.C.Canvas.height c.args.canvas.now) c.args.x c.args.y c.args.w c.args.h
+          rw (← at) (progress_begins f (g.C.Canvas.width c.args.canvas.now) (g.C.Canvas.height c.args.canvas.now) c.args.area.x c.args.area.y c.args.area.w c.args.area.h
           (g.C.Canvas.picture c.args.canvas.now) (g.C.Canvas.picture c.fill.new.self) c.args.bytes.now content c.pixel.result is
-          (c.pixel.ensures ∙ head_pixel_is f c.bytes.result c.split_at.result.0.now c.args.bytes.now c.bytes.ensures.value c.split_at.ensures.front ∙ (begun f c.args.w c.args.h c.args.bytes.now content is).background)
+          (c.pixel.ensures ∙ head_pixel_is f c.bytes.result c.split_at.result.0.now c.args.bytes.now c.bytes.ensures.value c.split_at.ensures.front ∙ (begun f c.args.area.w c.args.area.h c.args.bytes.now content is).background)
           c.fill.ensures.painted);
     }
 
@@ -49,48 +49,41 @@ pub split_at-requires-in-loop-rest : goal.split_at-requires-in-loop-rest
 split_at-requires-in-loop-rest g c =
     let p = c.loop-rest.invariant.painted c.requires.whole.0 c.requires.whole.1 in
     let some = some_left (length c.loop-rest.rest.now) (sym c.is_empty.ensures ∙ c.loop-rest-test.true) in
-    let next = next_is c.args.format.now c.args.w c.args.h p.others c.loop-rest.rest.now p.left some in
+    let next = next_is c.args.format.now c.args.area.w c.args.area.h p.others c.loop-rest.rest.now p.left some in
     omega (arith, next.enough, c.bytes-in-loop-rest.ensures.value)
 
-pub overflow_add-x : goal.overflow_add-x
-overflow_add-x g c =
+pub overflow_add-filled : goal.overflow_add-filled
+overflow_add-filled g c =
     let f = c.args.format.now in
     let p = c.loop-rest.invariant.painted c.requires.whole.0 c.requires.whole.1 in
     let some = some_left (length c.loop-rest.rest.now) (sym c.is_empty.ensures ∙ c.loop-rest-test.true) in
     let taken = part_taken f c.bytes-in-loop-rest.result c.split_at-in-loop-rest.result.0.now c.loop-rest.rest.now c.read_subrectangle-part.result
     c.bytes-in-loop-rest.ensures.value c.split_at-in-loop-rest.ensures.front c.read_subrectangle-part.ensures in
-    let within = part_within f c.args.w c.args.h p.others c.loop-rest.rest.now c.read_subrectangle-part.result p.left some taken in
+    let within = part_within f c.args.area.w c.args.area.h p.others c.loop-rest.rest.now c.read_subrectangle-part.result p.left some taken in
     omega (arith, within.columns, c.requires.last_column)
 
-pub overflow_add-y : goal.overflow_add-y
-overflow_add-y g c =
+pub overflow_add-filled-in-loop-rest : goal.overflow_add-filled-in-loop-rest
+overflow_add-filled-in-loop-rest g c =
     let f = c.args.format.now in
     let p = c.loop-rest.invariant.painted c.requires.whole.0 c.requires.whole.1 in
     let some = some_left (length c.loop-rest.rest.now) (sym c.is_empty.ensures ∙ c.loop-rest-test.true) in
     let taken = part_taken f c.bytes-in-loop-rest.result c.split_at-in-loop-rest.result.0.now c.loop-rest.rest.now c.read_subrectangle-part.result
     c.bytes-in-loop-rest.ensures.value c.split_at-in-loop-rest.ensures.front c.read_subrectangle-part.ensures in
-    let within = part_within f c.args.w c.args.h p.others c.loop-rest.rest.now c.read_subrectangle-part.result p.left some taken in
+    let within = part_within f c.args.area.w c.args.area.h p.others c.loop-rest.rest.now c.read_subrectangle-part.result p.left some taken in
     omega (arith, within.rows, c.requires.last_row)
 
-pub fill-requires-in-loop-rest-clause-columns : goal.fill-requires-in-loop-rest-clause-columns
-fill-requires-in-loop-rest-clause-columns g c =
+pub fill-requires-in-loop-rest-clause-within : goal.fill-requires-in-loop-rest-clause-within
+fill-requires-in-loop-rest-clause-within g c =
     let f = c.args.format.now in
     let p = c.loop-rest.invariant.painted c.requires.whole.0 c.requires.whole.1 in
     let some = some_left (length c.loop-rest.rest.now) (sym c.is_empty.ensures ∙ c.loop-rest-test.true) in
     let taken = part_taken f c.bytes-in-loop-rest.result c.split_at-in-loop-rest.result.0.now c.loop-rest.rest.now c.read_subrectangle-part.result
     c.bytes-in-loop-rest.ensures.value c.split_at-in-loop-rest.ensures.front c.read_subrectangle-part.ensures in
-    let within = part_within f c.args.w c.args.h p.others c.loop-rest.rest.now c.read_subrectangle-part.result p.left some taken in
-    omega (arith, within.columns, c.requires.columns, c.loop-rest.invariant.width)
-
-pub fill-requires-in-loop-rest-clause-rows : goal.fill-requires-in-loop-rest-clause-rows
-fill-requires-in-loop-rest-clause-rows g c =
-    let f = c.args.format.now in
-    let p = c.loop-rest.invariant.painted c.requires.whole.0 c.requires.whole.1 in
-    let some = some_left (length c.loop-rest.rest.now) (sym c.is_empty.ensures ∙ c.loop-rest-test.true) in
-    let taken = part_taken f c.bytes-in-loop-rest.result c.split_at-in-loop-rest.result.0.now c.loop-rest.rest.now c.read_subrectangle-part.result
-    c.bytes-in-loop-rest.ensures.value c.split_at-in-loop-rest.ensures.front c.read_subrectangle-part.ensures in
-    let within = part_within f c.args.w c.args.h p.others c.loop-rest.rest.now c.read_subrectangle-part.result p.left some taken in
-    omega (arith, within.rows, c.requires.rows, c.loop-rest.invariant.height)
+    let within = part_within f c.args.area.w c.args.area.h p.others c.loop-rest.rest.now c.read_subrectangle-part.result p.left some taken in
+    record {
+      columns = omega (arith, within.columns, c.requires.within.columns, c.loop-rest.invariant.width);
+      rows = omega (arith, within.rows, c.requires.within.rows, c.loop-rest.invariant.height);
+    }
 
 pub loop-rest-preserved : goal.loop-rest-preserved
 loop-rest-preserved g c =
@@ -104,7 +97,7 @@ loop-rest-preserved g c =
       width = c.fill-in-loop-rest.ensures.width ∙ c.loop-rest.invariant.width;
       height = c.fill-in-loop-rest.ensures.height ∙ c.loop-rest.invariant.height;
       painted = λ content is.
-          rw (← at) (progress_goes f (g.C.Canvas.width c.args.canvas.now) (g.C.Canvas.height c.args.canvas.now) c.args.x c.args.y c.args.w c.args.h
+          rw (← at) (progress_goes f (g.C.Canvas.width c.args.canvas.now) (g.C.Canvas.height c.args.canvas.now) c.args.area.x c.args.area.y c.args.area.w c.args.area.h
           (g.C.Canvas.picture c.args.canvas.now) (g.C.Canvas.picture c.loop-rest.canvas) (g.C.Canvas.picture c.fill-in-loop-rest.new.self) content rest c.read_subrectangle-part.result some taken
           (c.loop-rest.invariant.painted content is)
           (rw (c.loop-rest.invariant.width, c.loop-rest.invariant.height) at c.fill-in-loop-rest.ensures.painted));
@@ -113,7 +106,7 @@ loop-rest-preserved g c =
 pub returns-clause-painted : goal.returns-clause-painted
 returns-clause-painted g c = λ content is.
     let none = eqb-true (length c.loop-rest.rest.now) 0 (sym c.is_empty.ensures ∙ c.loop-rest-test.false) in
-    progress_ends c.args.format.now (g.C.Canvas.width c.args.canvas.now) (g.C.Canvas.height c.args.canvas.now) c.args.x c.args.y c.args.w c.args.h
+    progress_ends c.args.format.now (g.C.Canvas.width c.args.canvas.now) (g.C.Canvas.height c.args.canvas.now) c.args.area.x c.args.area.y c.args.area.w c.args.area.h
     (g.C.Canvas.picture c.args.canvas.now) (g.C.Canvas.picture c.loop-rest.canvas) content c.loop-rest.rest.now none (c.loop-rest.invariant.painted content is)
 
 pub fill-requires-in-loop-rest-clause-held : goal.fill-requires-in-loop-rest-clause-held

@@ -26,6 +26,17 @@ fn sees_each(rt: &HostRuntime, endpoint: Endpoint) -> Result<(), Fail> {
     viewer.talk(alloc, &CHANGES, &GREEN)
 }
 
+// What a viewer sees that asks for all each time, and so never for what changes next.
+fn sees_each_as_a_whole(rt: &HostRuntime, endpoint: Endpoint) -> Result<(), Fail> {
+    let alloc = rt.alloc();
+    let viewer = viewer(rt, endpoint)?;
+    viewer.talk(alloc, &ALL, &BLACK)?;
+    viewer.say(&ALL)?;
+    viewer.hear_at_last(alloc, &RED, &ALL)?;
+    viewer.say(&ALL)?;
+    viewer.hear_at_last(alloc, &GREEN, &ALL)
+}
+
 // Asks, and is shown this update no sooner than so many milliseconds from a moment on.
 fn comes_after(
     rt: &HostRuntime,
@@ -60,6 +71,14 @@ fn each_message_is_shown(rt: HostRuntime) -> Result<(), Fail> {
     let (viewers, endpoint) = listener(rt)?;
     let said = serve_while!(rt, &plan, viewers, move || sees_each(rt, endpoint))?;
     assert!(rt; said.as_str() == "true serving\ncommitted 2\n", "{said}");
+    let (viewers, endpoint) = listener(rt)?;
+    let said = serve_while!(
+        rt,
+        &plan,
+        viewers,
+        move || sees_each_as_a_whole(rt, endpoint)
+    )?;
+    assert!(rt; said.as_str() == "true serving\ncommitted 2\n", "{said}");
     let plan = Plan {
         playing: Some(Playing {
             pace: Pace::from_thousandths(1000).ok_or("pace")?,
@@ -76,7 +95,7 @@ fn each_message_is_shown(rt: HostRuntime) -> Result<(), Fail> {
 }
 
 // The file is cut off before a viewer has a seat: it is shown the screen at which it begins, and
-// closed once a message is to be read for it.
+// closed as a message is to be read for it then.
 fn sees_the_beginning(rt: &HostRuntime, endpoint: Endpoint, file: &str) -> Result<(), Fail> {
     let alloc = rt.alloc();
     let first = silent_viewer(rt, endpoint)?;
@@ -84,7 +103,6 @@ fn sees_the_beginning(rt: &HostRuntime, endpoint: Endpoint, file: &str) -> Resul
     OpenOptions::new().write(true).open(rt, file)?.set_len(0)?;
     let viewer = viewer(rt, endpoint)?;
     viewer.talk(alloc, &ALL, &BLACK)?;
-    viewer.say(&CHANGES)?;
     viewer.ends()
 }
 

@@ -1,7 +1,8 @@
 use Rattle.std.proofs.Common.{◌≡◌, ◌-◌, ◌⊎◌, inl, inr, suc, arith, sym, ap}
 use Rattle.hextile.specs.Tiles.{tile_count}
 use Rattle.hextile.specs.Grammar.{none_named, tiles_at, data_at}
-use Rattle.hextile.specs.Measuring.{go_on, resume, judged}
+use Rattle.hextile.specs.Measuring.{go_on, resume}
+use Rattle.terms.specs.Measuring.{judged}
 use Rattle.hextile.proofs.Tiling.{some_tiles}
 use Rattle.hextile.proofs.Steps.{no_data, no_pixels}
 use Rattle.hextile.proofs.measuring.Measuring.start.Goals as goal

@@ -28,5 +28,5 @@ returns-clause-ok c =
     value
     c.read_area.ensures.screen
 
-pub read_area-requires-clause-rows : goal.read_area-requires-clause-rows
-read_area-requires-clause-rows c = grind (arith, common_steps)
+pub read_area-requires-clause-area : goal.read_area-requires-clause-area
+read_area-requires-clause-area c = grind (arith, common_steps)

@@ -15,6 +15,6 @@ returns-in-Ok-clause-key c =
     let size = c.size-size.result in
     let W : Format → Type 0 = λ f. Appends (AreParts f (parts_of f screen (screen_parts.Region (whole_area size.width size.height) encodings.Hextile ∷ []))) c.new-bytes.result.items c.append_update.new.out.items in
     key_made c.args.format screen size c.size-size.ensures c.requires
-    (c.known_colors.ensures (whole_area screen.width screen.height) (omega arith) (omega arith))
+    (c.known_colors.ensures (whole_area screen.width screen.height) (record { columns = omega arith; rows = omega arith }))
     c.new-bytes.result.items c.append_update.new.out.items c.deref.result.now c.new-bytes.ensures.items (subst W c.host-host.ensures c.in_ok-append_update.ensures.ok)
     c.deref.ensures.value c.in-Ok.message (λ n for same. c.in-Ok.ensures.whole n for same)

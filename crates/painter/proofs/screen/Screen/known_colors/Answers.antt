@@ -5,7 +5,8 @@ use Rattle.painter.proofs.SentColors.{colors_are}
 use Rattle.painter.proofs.screen.Screen.known_colors.Goals as goal
 
 pub returns : goal.returns
-returns c = λ area columns rows.
+returns c = λ area within.
     let s = c.self.inside in
+    let inside = rw (← c.self.view_is) at within in
     subst (λ (screen : Framebuffer). AreColorsOf screen area (area_colors screen area)) c.self.view_is
-    (colors_are s.size.width s.size.height s.pixels.items area (sym s.pixels.ok.0 ∙ c.self.invariant) (rw (← c.self.view_is) at columns) (rw (← c.self.view_is) at rows))
+    (colors_are s.size.width s.size.height s.pixels.items area (sym s.pixels.ok.0 ∙ c.self.invariant) inside.columns inside.rows)

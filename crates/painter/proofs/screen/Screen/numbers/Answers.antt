@@ -22,5 +22,5 @@ returns c =
     subst (λ (z : List ℕ). AreNumbersOf f (sent_colors f c.args.self.now area) z) (sym all)
     (subst (λ (cs : List Color). AreNumbersOf f cs a.bytes) same a.are)
 
-pub number_area-requires-clause-rows : goal.number_area-requires-clause-rows
-number_area-requires-clause-rows c = grind (arith, common_steps)
+pub number_area-requires : goal.number_area-requires
+number_area-requires c = grind (arith, common_steps)

@@ -12,7 +12,7 @@ returns-clause-painted c =
     let kept : length pixels ≡ vec_len fields.pixels = c.fill_area.auto.pixels ∙ c.deref_mut.ensures.len in
     let told = rw c.deref_mut.ensures.value at c.fill_area.ensures in
     rw (← c.self.view_is)
-    (has_filled fields.size.width fields.size.height fields.pixels.items (with_items fields.pixels pixels).items (record { x = c.args.x; y = c.args.y; w = c.args.w; h = c.args.h })
+    (has_filled fields.size.width fields.size.height fields.pixels.items (with_items fields.pixels pixels).items c.args.area
     c.pixel_of_color.result c.args.color c.pixel_of_color.ensures (rw (with_items_is fields.pixels pixels kept) told))
 
 pub fill_area-requires : goal.fill_area-requires

@@ -12,7 +12,7 @@ returns-clause-painted c =
     let kept : length pixels ≡ vec_len fields.pixels = c.paint_raw.auto.pixels ∙ c.deref_mut.ensures.len in
     let told = rw c.deref_mut.ensures.value at c.paint_raw.ensures in
     rw (← c.self.view_is)
-    (has_pixels fields.size.width fields.size.height fields.pixels.items (with_items fields.pixels pixels).items (record { x = c.args.x; y = c.args.y; w = c.args.w; h = c.args.h })
+    (has_pixels fields.size.width fields.size.height fields.pixels.items (with_items fields.pixels pixels).items c.args.area
     c.args.bytes.now (rw (with_items_is fields.pixels pixels kept) told))
 
 pub paint_raw-requires-clause-area : goal.paint_raw-requires-clause-area

@@ -9,7 +9,7 @@ use Rattle.hextile.specs.Grammar as hextile
 use Rattle.hextile.specs.Measuring.{go_on as hextile_goes_on}
 use Rattle.rect_data.specs.Grammar.{judged_as, data_at}
 use Rattle.rect_data.specs.Judging.{resume, go_on}
-use Rattle.rect_data.proofs.Steps.{judged_rre, judged_hextile, pixels_whole, some_pixels, hextile_some}
+use Rattle.rect_data.proofs.Steps.{judged_again, pixels_whole, some_pixels, hextile_some}
 use Rattle.rect_data.proofs.judging.Judging.start.Goals as goal
 
 no_area : (f : Format) (area : Area) → (area.w ≡ 0) ⊎ ((area.w ≡ 0 → ⊥) × (area.h ≡ 0)) → 0 ≡ pixel_bytes f * (area.w * area.h)
@@ -35,7 +35,7 @@ returns-in-CopyRect-clause-goes c = λ width height more. rw c.in-CopyRect.is re
 pub returns-in-Rre-clause-goes : goal.returns-in-Rre-clause-goes
 unfolding go_on resume data_at rre_resume
 returns-in-Rre-clause-goes c = λ width height more.
-    rw c.in-Rre.is (judged_rre faults.BadRre (rre.data_at c.args.format.now c.args.area.w c.args.area.h more))
+    rw c.in-Rre.is (judged_again faults.BadRre (rre.data_at c.args.format.now c.args.area.w c.args.area.h more))
 
 -- the tiles, by the field with which they begin
 pub returns-in_err-start-in-Hextile-clause-goes : goal.returns-in_err-start-in-Hextile-clause-goes
@@ -45,7 +45,7 @@ returns-in_err-start-in-Hextile-clause-goes c = λ width height more.
     let all = hextile.data_at f c.args.area.w c.args.area.h more in
     rw (c.from_residual.ensures, c.in-Hextile.is)
     (ap (λ n. judged_as faults.BadHextile (hextile_goes_on f n more)) (sym c.in_err-start-in-Hextile.was)
-    ∙ ap (judged_as faults.BadHextile) (c.start.ensures f more) ∙ judged_hextile faults.BadHextile all)
+    ∙ ap (judged_as faults.BadHextile) (c.start.ensures f more) ∙ judged_again faults.BadHextile all)
 
 pub returns-in_ok-start-in-Hextile-clause-goes : goal.returns-in_ok-start-in-Hextile-clause-goes
 unfolding go_on resume data_at hextile_goes_on
@@ -54,7 +54,7 @@ returns-in_ok-start-in-Hextile-clause-goes c = λ width height more.
     let all = hextile.data_at f c.args.area.w c.args.area.h more in
     rw c.in-Hextile.is
     (ap (λ n. judged_as faults.BadHextile (hextile_goes_on f n more)) (sym c.in_ok-start-in-Hextile.was)
-    ∙ ap (judged_as faults.BadHextile) (c.start.ensures f more) ∙ judged_hextile faults.BadHextile all)
+    ∙ ap (judged_as faults.BadHextile) (c.start.ensures f more) ∙ judged_again faults.BadHextile all)
 
 pub returns-in_ok-start-in-Hextile-clause-some : goal.returns-in_ok-start-in-Hextile-clause-some
 returns-in_ok-start-in-Hextile-clause-some c = λ some. hextile_some c.args.format.now _ some

@@ -2,7 +2,8 @@ use Rattle.std.proofs.Common.{◌≡◌, ◌+◌, ◌∙◌, ◌++◌, length, t
 use Rattle.std.proofs.lemmas.Result.{err_from_is_err_and}
 use Rattle.rre.specs.declared.measuring.Measuring.TheVariants as stages
 use Rattle.rre.specs.Grammar.{head_bytes, subrectangles_at}
-use Rattle.rre.specs.Measuring.{judged, go_on, resume}
+use Rattle.rre.specs.Measuring.{go_on, resume}
+use Rattle.terms.specs.Measuring.{judged}
 use Rattle.rre.proofs.Steps.{head_whole, parts_of, taken_after}
 use Rattle.rre.proofs.measuring.Measuring.run.Goals as goal
 

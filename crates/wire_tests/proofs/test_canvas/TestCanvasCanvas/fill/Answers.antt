@@ -7,4 +7,4 @@ returns-clause-painted c = λ column row across down.
     let small : i < 38400 = omega arith in
     let at : i % 320 ≡ column = omega arith in
     let of : i / 320 ≡ row = omega arith in
-    rw (← c.self.view_is) (rw (at, of) at (c.fill_slots.ensures i small))
+    rw (← c.self.view_is) (rw (at, of) at (c.fill_area.ensures i small))

@@ -1,0 +1,10 @@
+use Rattle.std.proofs.Common.{◌≡◌}
+use Rattle.book_workers.specs.Accounts.{IsSettled, accepted_in}
+use Rattle.book_workers.proofs.workers.hand_in.Given as goal
+
+abbrev pub invariant-loop : goal.invariant-loop
+invariant-loop g l =
+    (g.S.HostSource.format l.source ≡ g.M.Mark.head.format) × (g.S.HostSource.width l.source ≡ g.M.Mark.head.width) × (g.S.HostSource.height l.source ≡ g.M.Mark.head.height)
+    × (g.S.HostSource.is_modelled → IsSettled (g.S.HostSource.account l.source))
+    × (g.S.HostSource.is_modelled → accepted_in (g.S.HostSource.account l.source) ≡ l.pen)
+    × (goal.iterator-loop g).can_next l.iterator' × (goal.iterator-loop g).is_finite l.iterator'

@@ -1,0 +1,9 @@
+//! The workers that host, flush and view beside each other, over a shared book, and those that they
+//! work for.
+#![tactic(auto)]
+
+mod parties;
+mod workers;
+
+pub use parties::{HostSource, Point, ReceiptSink, Turnstile, ViewerSink, ViewerWish};
+pub use workers::{FlusherEnd, ViewerEnd, run_flusher, run_host, run_viewer};

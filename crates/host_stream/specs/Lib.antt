@@ -1,0 +1,2 @@
+pub use Rattle.host_session.specs.Session
+pub mod Streams

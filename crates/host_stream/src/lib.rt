@@ -1,0 +1,10 @@
+//! What has come of a host's stream: its messages, each of which is given once, and how it ended.
+#![tactic(auto)]
+
+mod end;
+mod stream;
+#[cfg(test)]
+mod tests;
+
+pub use end::HostEnd;
+pub use stream::{HostStream, Next};

@@ -1,0 +1,4 @@
+pub mod Calls
+pub mod Noted
+pub mod AfterCrash
+pub mod Worked

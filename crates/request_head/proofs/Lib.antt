@@ -1,0 +1,5 @@
+mod Names
+mod Plain
+pub mod Only
+mod Whole
+pub mod Cuts

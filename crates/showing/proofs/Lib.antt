@@ -1,0 +1,12 @@
+pub mod Rows
+pub mod Says
+pub mod Means
+pub mod Counting
+pub mod Kept
+pub mod Each
+pub mod Sound
+pub mod Waits
+pub mod Turns
+pub mod Ending
+pub mod Reached
+pub mod PlayRows

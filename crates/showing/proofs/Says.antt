@@ -1,0 +1,64 @@
+-- What is so if something is done next.
+use Rattle.std.proofs.Common.{◌≡◌, ◌⊎◌, Bool, true, false, List, [], ◌∷◌, refl, inl, inr, arith}
+use Rattle.std.specs.Prelude.{if◌then◌else◌}
+use Rattle.showing.specs.declared.situation.Situation.{Situation}
+use Rattle.showing.specs.declared.next.Next.{Next}
+use Rattle.showing.specs.declared.next.Next.TheVariants.{Want, Wait, WaitUntilAsked, HoldBack, Newest, Seek, Begin, Sleep, Show, Rest, Stop}
+use Rattle.showing.specs.Table.{Row, applying, said_by, table, next_of, most, has_all, is_stopped, is_unread, starts_at_newest, starts_at_position, is_awaited, leaps_now, is_held_back, comes_on, takes_one, keeps_up, lacks_none, coming_by}
+use Rattle.showing.proofs.Rows.{one_row}
+
+-- which row applies if this is done next
+abbrev pub Says : Situation → Next → Type 0
+Says s Rest = has_all s ≡ true
+Says s Stop = is_stopped s ≡ true
+Says s Newest = (is_unread s ≡ true) ⊎ ((starts_at_newest s ≡ true) ⊎ (leaps_now s ≡ true))
+Says s (Want limit) = ((starts_at_position s ≡ true) × (limit ≡ 0)) ⊎ (((comes_on s ≡ true) × (limit ≡ coming_by s))
+    ⊎ (((takes_one s ≡ true) × (limit ≡ 1)) ⊎ ((keeps_up s ≡ true) × (limit ≡ most))))
+Says s WaitUntilAsked = is_awaited s ≡ true
+Says s HoldBack = is_held_back s ≡ true
+Says s Wait = lacks_none s ≡ true
+Says s (Seek count) = ⊥
+Says s Begin = ⊥
+Says s (Sleep time) = ⊥
+Says s Show = ⊥
+
+-- each row says what is so if it applies
+abbrev AllSay : Situation → List Row → Type 0
+AllSay s [] = Unit {0}
+AllSay s (r ∷ rows) = (r.applies ≡ true → Says s r.next) × AllSay s rows
+
+row_says : (s : Situation) (applies : Bool) (next : Next) (rows : List Row) → applying (record { applies = applies; next = next } ∷ rows) ≡ 1
+    → (applies ≡ true → Says s next) → (applying rows ≡ 1 → Says s (said_by rows)) → Says s (if applies then next else said_by rows)
+row_says s true next rows one here later = here refl
+row_says s false next rows one here later = later one
+
+say : (s : Situation) (rows : List Row) → applying rows ≡ 1 → AllSay s rows → Says s (said_by rows)
+say s [] one each = absurd (omega arith)
+say s (r ∷ rows) one each = row_says s r.applies r.next rows one each.0 (λ o. say s rows o each.1)
+
+pub says : (s : Situation) → Says s (next_of s)
+says s = say s (table s) (one_row s) (
+  λ e. e,
+  (
+    λ e. e,
+    (
+      λ e. inl e,
+      (
+        λ e. inr (inl e),
+        (
+          λ e. inl (e, refl),
+          (
+            λ e. e,
+            (
+              λ e. inr (inr e),
+              (
+                λ e. e,
+                (λ e. inr (inl (e, refl)), (λ e. inr (inr (inl (e, refl))), (λ e. inr (inr (inr (e, refl))), (λ e. e, tt)))),
+              ),
+            ),
+          ),
+        ),
+      ),
+    ),
+  ),
+)

@@ -1,0 +1,6 @@
+//! A number that two holders know, and that changes only where both come together.
+#![tactic(auto)]
+
+mod tally;
+
+pub use tally::{Counterpart, Halves, Tally};
