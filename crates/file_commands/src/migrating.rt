@@ -1,13 +1,14 @@
 //! The command `migrate`.
 
 use crate::command::Work;
-use crate::file_fault::name_kept;
+use crate::file_fault::{name_kept, opened};
 use crate::out_file::{demand_no_recording, open_target};
 use crate::recording::open_path;
 use crate::refusing::Ended;
-use file_disk::{FileDisk, Progress, sync_folder};
+use file_disk::{FileDisk, OsFolder, Progress};
 use key_index::Indexed;
 use migration::{may_be_migrated, migrate};
+use recording_name::settle;
 use refusals::Refusal;
 use std::alloc::Global;
 use std::fs::File;
@@ -44,11 +45,13 @@ fn migrated<'a, R: Files<File = File> + AllocGlobal>(
     let alloc = rt.alloc();
     let mut index = open_path(rt, what.recording, progress)?;
     may_be_migrated(&index).map_err(Refusal::Migrate)?;
-    let file = open_target(rt, what.out, what.recording)?;
-    demand_no_recording(&file, what.out)?;
-    let target = FileDisk::new(file).watched(progress);
+    let mut folder = OsFolder::of(rt, what.out);
+    let file = open_target(rt, &mut folder, what.out, what.recording)?;
+    let shared = opened(file.share(), what.out)?;
+    demand_no_recording(&shared, what.out)?;
+    let target = FileDisk::new(shared).watched(progress);
     let count = migrated_to(alloc, &mut index, target)?;
-    name_kept(sync_folder(rt, what.out), what.out)?;
+    name_kept(settle(&mut folder, &file, what.out), what.out)?;
     Ok(count)
 }
 

@@ -4,8 +4,8 @@ ghost use Rattle.std.specs.Prelude.{◌↔◌, ◌≤◌, IsTrue, length};
 ghost use Rattle.file_commands.specs.Fronts.{IsFrontOfRecording};
 
 use crate::file_fault::{FileFault, opened, written};
-use crate::source_file::demand_file;
-use file_disk::{SystemError, create_exclusively};
+use file_disk::{LockedFile, OsFolder, SystemError, create_exclusively};
+use recording_name::{Kind, Target, TargetFault, target_at};
 use std::fs::{File, Metadata, OpenOptions, Permissions};
 use std::os::unix::fs::{FileExt, MetadataExt, PermissionsExt};
 use std::rt::Files;
@@ -42,6 +42,12 @@ fn is_same_file(one: &Metadata, other: &Metadata) -> bool {
     one.dev() == other.dev() && one.ino() == other.ino()
 }
 
+// Lets those read and write a new file who may so a recording. Some file systems keep no modes.
+fn keep_mode(file: &File, recording: &Metadata) {
+    let mode = recording.permissions().mode() & PERMISSIONS;
+    let _kept = file.set_permissions(Permissions::from_mode(mode));
+}
+
 // A new file, which who may read a recording may read.
 fn make_like<R: Files<File = File>>(
     files: &R,
@@ -49,9 +55,7 @@ fn make_like<R: Files<File = File>>(
     recording: &Metadata,
 ) -> io::Result<File> {
     let file = create_exclusively(files, path)?;
-    let mode = recording.permissions().mode() & PERMISSIONS;
-    // Some file systems keep no modes.
-    let _kept = file.set_permissions(Permissions::from_mode(mode));
+    keep_mode(&file, recording);
     Ok(file)
 }
 
@@ -96,21 +100,31 @@ pub fn open_out<'a, R: Files<File = File>>(
     }
 }
 
-/// A file to be read and written: a new one with the mode of the file at another path, or one that
-/// is there and stays as it is.
-pub fn open_target<'a, R: Files<File = File>>(
-    files: &R,
+// Why there is no file to which a recording is written.
+fn target_fault(fault: TargetFault, path: &str) -> FileFault<'_> {
+    match fault {
+        TargetFault::NoFile(Kind::Folder) => FileFault::Folder(path),
+        TargetFault::NoFile(_) => FileFault::NoFile(path),
+        TargetFault::NotMade(error) => FileFault::Make(path, SystemError::of(&error)),
+        TargetFault::NotOpened(error) => FileFault::Open(path, SystemError::of(&error)),
+    }
+}
+
+/// A file to be read and written, locked: a new one with the mode of the file at another path, or one
+/// that is there and stays as it is.
+pub fn open_target<'a, R: AllocGlobal + Files<File = File>>(
+    rt: &R,
+    folder: &mut OsFolder<'_, R>,
     path: &'a str,
     like: &'a str,
-) -> Result<File, FileFault<'a>> {
-    let recording = opened(fs::metadata(files, like), like)?;
-    match make_like(files, path, &recording) {
-        Ok(file) => return Ok(file),
-        Err(error) if error.kind() == io::ErrorKind::AlreadyExists => {}
-        Err(error) => return Err(FileFault::Make(path, SystemError::of(&error))),
+) -> Result<LockedFile, FileFault<'a>> {
+    let recording = opened(fs::metadata(rt, like), like)?;
+    match target_at(folder, path) {
+        Ok(Target::There(file)) => Ok(file),
+        Ok(Target::Made(file)) => {
+            keep_mode(&opened(file.share(), path)?, &recording);
+            Ok(file)
+        }
+        Err(fault) => Err(target_fault(fault, path)),
     }
-    let found = opened(fs::metadata(files, path), path)?;
-    demand_file(&found, path)?;
-    let there = OpenOptions::new().read(true).write(true).open(files, path);
-    opened(there, path)
 }

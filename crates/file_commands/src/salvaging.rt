@@ -5,15 +5,16 @@ ghost use Rattle.recording_bytes.specs.declared.format.TheConstants.{LONGEST_FIL
 
 use crate::after_end::{AfterEnd, after_gate};
 use crate::command::Work;
-use crate::file_fault::name_kept;
+use crate::file_fault::{name_kept, opened};
 use crate::out_file::open_target;
 use crate::refusing::{Ended, LeftOut};
 use crate::source_file::open_source;
 use block_walk::WholeBlocks;
-use file_disk::{DiskOfFile, FileDisk, OsFile, Progress, ShownFile, sync_folder};
+use file_disk::{DiskOfFile, FileDisk, OsFile, OsFolder, Progress, ShownFile};
 use key_index::IndexFault;
 use pixel_format::Format;
 use recording_bytes::OPEN_GATE;
+use recording_name::settle;
 use refusals::{DigestFault, Refusal};
 use salvage::{Salvaged, salvage};
 use std::alloc::Global;
@@ -146,14 +147,16 @@ impl<R: Files<File = File> + AllocGlobal, O: Write> Work<'_, R, O> {
     /// messages they have, and notes what is left out, or what follows its end.
     pub fn salvage<'a>(&mut self, what: &Salvaging<'a>) -> Result<(), Ended<'a>> {
         let source = source_of(self.rt, what, self.progress)?;
-        let file = open_target(self.rt, what.out, what.recording)?;
-        let target = FileDisk::new(file).watched(self.progress);
+        let mut folder = OsFolder::of(self.rt, what.out);
+        let file = open_target(self.rt, &mut folder, what.out, what.recording)?;
+        let shared = opened(file.share(), what.out)?;
+        let target = FileDisk::new(shared).watched(self.progress);
         let Outcome {
             messages,
             left_out,
             after_end,
         } = salvaged(self.rt, source, target)?;
-        name_kept(sync_folder(self.rt, what.out), what.out)?;
+        name_kept(settle(&mut folder, &file, what.out), what.out)?;
         self.left_out = left_out;
         self.after_end = after_end;
         self.progress.end();

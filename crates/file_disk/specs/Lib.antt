@@ -1,3 +1,4 @@
 pub mod FileView
 pub mod Untold
+pub mod UntoldFolder
 pub mod WriteLaws

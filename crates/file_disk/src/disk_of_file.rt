@@ -60,6 +60,14 @@ impl<F: SystemFile> DiskOfFile<F> {
         }
     }
 
+    /// The file.
+    pub fn into_file(self) -> F
+        ensures { result ≡ self.file }
+    {
+        let DiskOfFile { file, .. } = self;
+        file
+    }
+
     /// The same, with what is read told of.
     pub fn watched(self, progress: Progress) -> DiskOfFile<F>
         ensures same { result.failures ≡ self.failures }

@@ -4,10 +4,9 @@
 mod beginning;
 mod draft;
 mod opening;
-mod os_folder;
 mod reading;
 mod recording;
 
 pub use opening::{Begun, Opened, Opening, Source};
 pub use reading::Reading;
-pub use recording::Identity;
+pub use recording::is_still_at;

@@ -2,7 +2,7 @@
 
 use crate::beginning::beginning_of;
 use crate::reading::Reading;
-use crate::recording::{Found, Identity};
+use crate::recording::Found;
 use broadcast::Desk;
 use connections::{Beginning, ConnectFault, Host, HostOnClock, Stopwatch};
 use disk::Disk;
@@ -10,6 +10,7 @@ use file_disk::{FileDisk, LastError, Written};
 use flusher_core::Book;
 use gated_journal::Header;
 use pixel_format::Format;
+use recording_name::Identity;
 use refusals::{Refusal, Stopped};
 use serve_plan::Plan;
 use std::alloc::Global;

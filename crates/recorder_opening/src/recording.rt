@@ -4,22 +4,23 @@ ghost use Rattle.std.specs.Prelude.{◌≢◌, OnOk};
 
 use crate::draft::{CutOff, draft_path};
 use crate::opening::Opening;
-use crate::os_folder::OsFolder;
 use block_walk::{hidden_after, read_header};
-use file_disk::{FileDisk, LastError, Written};
+use file_disk::{FileDisk, LastError, LockedFile, OsFolder, Written};
 use flusher_core::Book;
 use gated_journal::{CreateFault, Header};
 use key_index::IndexFault;
 use pixel_format::Format;
-use recording_name::{DraftFault, PublishFault, make_draft, publish, settle};
+use recording_name::{
+    Access, DraftFault, Identity, PublishFault, Standing, StandingFault, SystemFolder, make_draft,
+    publish, stand_at,
+};
 use refusals::Refusal;
 use std::alloc::Global;
-use std::fs::{File, Metadata, OpenOptions};
-use std::os::unix::fs::MetadataExt;
+use std::fs::File;
 use std::rt::Files;
 use std::sync::Wait;
 use std::time::{Clock, Duration};
-use std::{fs, io, thread};
+use std::{io, thread};
 use telling::Event;
 
 /// How often a lock is tried, and for how many milliseconds it waits between two tries.
@@ -31,27 +32,16 @@ const BETWEEN_TRIES: u64 = 20;
 /// the one whose gate wasn't opened yet.
 const LEFT_BY_CRASH: u64 = 1;
 
-/// Which file of the system one is, whatever its name.
-#[derive(Clone, Copy, Debug, PartialEq, Eq)]
-pub struct Identity {
-    device: u64,
-    inode: u64,
-}
-
-impl Identity {
-    fn of(metadata: &Metadata) -> Identity {
-        Identity {
-            device: metadata.dev(),
-            inode: metadata.ino(),
-        }
-    }
-
-    /// Whether the file at this path is this one, and at least this long.
-    pub fn is_at<R: Files>(self, rt: &R, path: &str, length: u64) -> bool {
-        match fs::metadata(rt, path) {
-            Ok(metadata) => Identity::of(&metadata) == self && metadata.len() >= length,
-            Err(_) => false,
-        }
+/// Whether a path leads to this file still, which has at least so many bytes.
+pub fn is_still_at<R: AllocGlobal + Files<File = File>>(
+    rt: &R,
+    path: &str,
+    identity: Identity,
+    length: u64,
+) -> bool {
+    match OsFolder::of(rt, path).follow(path) {
+        Ok(Some(found)) => found.identity == identity && found.length >= length,
+        Ok(None) | Err(_) => false,
     }
 }
 
@@ -59,7 +49,7 @@ impl Identity {
 #[derive(Drop)]
 pub struct Unread {
     pub header: Header,
-    file: File,
+    file: LockedFile,
     identity: Identity,
     length: u64,
 }
@@ -70,42 +60,15 @@ pub enum Found {
     /// A recording.
     Recording(Unread),
     /// A file without bytes, open and locked.
-    Empty(File),
+    Empty(LockedFile),
     /// Nothing.
     Nothing,
 }
 
-// Locks a file, so that no two recorders write it: alone, or beside others that only read. Who only
-// looks whether a recorder writes it has it locked for a moment, too.
-fn lock<R: Clock + Wait>(rt: &R, file: &File, is_written: bool) -> io::Result<()> {
-    for _ in 0..TRIES {
-        let locked = if is_written {
-            file.try_lock()
-        } else {
-            file.try_lock_shared()
-        };
-        if locked.is_ok() {
-            return Ok(());
-        }
-        thread::sleep(rt, Duration::from_millis(BETWEEN_TRIES));
-    }
-    Err(io::ErrorKind::WouldBlock.into())
-}
-
-// Whether a link stands at a path. A file that is renamed to it would replace the link.
-fn is_link<R: Files<File = File>>(rt: &R, path: &str) -> bool {
-    match fs::symlink_metadata(rt, path) {
-        Ok(metadata) => metadata.is_symlink(),
-        Err(_) => false,
-    }
-}
-
-// Whether a failure says that only who may write may do this.
-fn is_for_writers(error: &io::Error) -> bool {
-    match error.kind() {
-        io::ErrorKind::PermissionDenied
-        | io::ErrorKind::ReadOnlyFilesystem
-        | io::ErrorKind::InvalidInput => true,
+// Whether another process has locked what stands at a path.
+fn is_locked<F: Drop>(standing: &Result<Standing<F>, StandingFault>) -> bool {
+    match standing {
+        Err(StandingFault::NotLocked(error)) => error.kind() == io::ErrorKind::WouldBlock,
         _ => false,
     }
 }
@@ -116,37 +79,40 @@ fn boxed<T: Drop>(alloc: Global, value: T, refusal: Refusal) -> Result<Box<T>, R
 }
 
 impl<'a, R: AllocGlobal + Clock + Eprint + Files<File = File> + Wait> Opening<'a, R> {
-    // Tells of a file that a recorder has open why it can't be locked.
-    fn tell_lock(&self, error: &io::Error) {
+    // Tells why nothing at the recording's path can be gone on with, or made.
+    fn tell_standing(&self, fault: StandingFault) {
         let path = self.plan.file;
-        if error.kind() == io::ErrorKind::WouldBlock {
-            self.telling.tell(self.rt, Event::Locked(path));
-        } else {
-            self.telling.tell_failure(self.rt, "lock", path, error);
-        }
+        let (operation, error) = match fault {
+            StandingFault::NoFile => return self.telling.tell(self.rt, Event::NoFile(path)),
+            StandingFault::EmptyLink => return self.telling.tell(self.rt, Event::Link(path)),
+            StandingFault::NotLocked(error) if error.kind() == io::ErrorKind::WouldBlock => {
+                return self.telling.tell(self.rt, Event::Locked(path));
+            }
+            StandingFault::NotLocked(error) => ("lock", error),
+            StandingFault::NotOpened(error) => ("open", error),
+            StandingFault::NotSettled(error) => ("sync the folder of", error),
+        };
+        self.telling.tell_failure(self.rt, operation, path, &error);
     }
 
-    // The file at the recording's path, open and locked, and what the system says of it; `None` if
-    // nothing is there. A device or a pipe is refused, and isn't opened.
-    fn open_file(&self, is_written: bool) -> Result<Option<(File, Metadata)>, Refusal> {
+    // What stands at the recording's path, locked so that no two recorders write it: alone, or beside
+    // others that only read. Who only looks whether a recorder writes it has it locked for a moment,
+    // too; so it is tried again.
+    fn standing(&self, access: Access) -> Result<Standing<LockedFile>, Refusal> {
         let path = self.plan.file;
-        match fs::metadata(self.rt, path) {
-            Ok(metadata) if !metadata.is_file() => {
-                self.telling.tell(self.rt, Event::NoFile(path));
-                return Err(Refusal::File);
+        let mut folder = OsFolder::of(self.rt, path);
+        let mut standing = stand_at(&mut folder, path, access);
+        for _ in 1..TRIES {
+            if !is_locked(&standing) {
+                break;
             }
-            Err(error) if is_written && error.kind() == io::ErrorKind::NotFound => return Ok(None),
-            _ => {}
+            thread::sleep(self.rt, Duration::from_millis(BETWEEN_TRIES));
+            standing = stand_at(&mut folder, path, access);
         }
-        let opened = OpenOptions::new()
-            .read(true)
-            .write(is_written)
-            .open(self.rt, path);
-        let file = self.given(opened, "open", path, Refusal::File)?;
-        match lock(self.rt, &file, is_written).and_then(|()| file.metadata()) {
-            Ok(metadata) => Ok(Some((file, metadata))),
-            Err(error) => {
-                self.tell_lock(&error);
+        match standing {
+            Ok(standing) => Ok(standing),
+            Err(fault) => {
+                self.tell_standing(fault);
                 Err(Refusal::File)
             }
         }
@@ -164,19 +130,8 @@ impl<'a, R: AllocGlobal + Clock + Eprint + Files<File = File> + Wait> Opening<'a
         Some((self.last_error.share().ok()?, self.written.share().ok()?))
     }
 
-    // Brings a recording that was found onto the device, and its name: whoever made it may have been
-    // cut off before. Who only reads may not be allowed to, and needn't if nothing is written.
-    fn settle(&self, file: &File, is_written: bool) -> Result<(), Refusal> {
-        let path = self.plan.file;
-        match settle(&mut OsFolder::of(self.rt, path), file, path) {
-            Ok(_by_name_or_link) => Ok(()),
-            Err(error) if !is_written && is_for_writers(&error) => Ok(()),
-            Err(error) => self.given(Err(error), "sync the folder of", path, Refusal::File),
-        }
-    }
-
     // The header of the recording in a file of this length.
-    fn header_of(&self, file: &File, length: u64) -> Result<Header, Refusal> {
+    fn header_of(&self, file: &LockedFile, length: u64) -> Result<Header, Refusal> {
         let again = self.again(file)?;
         let mut disk = FileDisk::to_read(self.rt, again);
         match read_header(self.rt.alloc(), &mut disk, length) {
@@ -186,8 +141,8 @@ impl<'a, R: AllocGlobal + Clock + Eprint + Files<File = File> + Wait> Opening<'a
     }
 
     // A second handle of the recording's file.
-    fn again(&self, file: &File) -> Result<File, Refusal> {
-        self.given(file.try_clone(), "open", self.plan.file, Refusal::File)
+    fn again(&self, file: &LockedFile) -> Result<File, Refusal> {
+        self.given(file.share(), "open", self.plan.file, Refusal::File)
     }
 
     // Opens the recording in a file of this length. In format 2 all of it is read twice.
@@ -245,10 +200,9 @@ impl<'a, R: AllocGlobal + Clock + Eprint + Files<File = File> + Wait> Opening<'a
             identity,
             length,
         } = unread;
-        let again = self.again(&file)?;
-        let book = self.open_book(file, is_written, length, header.format())?;
+        let book = self.open_book(self.again(&file)?, is_written, length, header.format())?;
         if is_written && !self.plan.overwrites {
-            self.demand_end(&book, again)?;
+            self.demand_end(&book, self.again(&file)?)?;
         }
         Ok((book, identity))
     }
@@ -257,32 +211,31 @@ impl<'a, R: AllocGlobal + Clock + Eprint + Files<File = File> + Wait> Opening<'a
     /// its file, and reads its header. What is no file is refused, and so is a link to nothing or to a
     /// file without bytes.
     pub fn find(&self) -> Result<Found, Refusal> {
-        let is_written = self.plan.host.is_some();
-        let found = match self.open_file(is_written)? {
-            Some((file, metadata)) if is_written && metadata.len() == 0 => Found::Empty(file),
-            Some((file, metadata)) => {
-                self.settle(&file, is_written)?;
-                return Ok(Found::Recording(Unread {
-                    header: self.header_of(&file, metadata.len())?,
-                    file,
-                    identity: Identity::of(&metadata),
-                    length: metadata.len(),
-                }));
-            }
-            None => Found::Nothing,
+        let access = match self.plan.host {
+            Some(_) => Access::Write,
+            None => Access::Read,
         };
-        if is_link(self.rt, self.plan.file) {
-            self.telling.tell(self.rt, Event::Link(self.plan.file));
-            return Err(Refusal::File);
+        match self.standing(access)? {
+            Standing::Recording {
+                file,
+                found,
+                settled: _,
+            } => Ok(Found::Recording(Unread {
+                header: self.header_of(&file, found.length)?,
+                file,
+                identity: found.identity,
+                length: found.length,
+            })),
+            Standing::Empty(file) => Ok(Found::Empty(file)),
+            Standing::Nothing => Ok(Found::Nothing),
         }
-        Ok(found)
     }
 
     // Gives a whole recording its name, on the device.
     fn publish(
         &self,
         folder: &mut OsFolder<'_, R>,
-        file: &File,
+        file: &LockedFile,
         draft: &str,
         path: &str,
     ) -> Result<(), Refusal>
@@ -303,6 +256,7 @@ impl<'a, R: AllocGlobal + Clock + Eprint + Files<File = File> + Wait> Opening<'a
         &self,
         header: Header,
         disk: FileDisk,
+        folder: &mut OsFolder<'_, R>,
         draft: &str,
     ) -> Result<Box<Book<FileDisk>>, Refusal> {
         let alloc = self.rt.alloc();
@@ -314,7 +268,7 @@ impl<'a, R: AllocGlobal + Clock + Eprint + Files<File = File> + Wait> Opening<'a
             }
         };
         if made.is_err() {
-            let _removed = fs::remove_file(self.rt, draft);
+            let _removed = folder.remove(draft);
         }
         made
     }
@@ -336,7 +290,7 @@ impl<'a, R: AllocGlobal + Clock + Eprint + Files<File = File> + Wait> Opening<'a
         folder: &mut OsFolder<'_, R>,
         draft: &str,
         path: &str,
-    ) -> Result<File, Refusal>
+    ) -> Result<LockedFile, Refusal>
         ensures { OnOk result (draft.now ≢ path.now) }
     {
         let leftover = CutOff {
@@ -362,10 +316,10 @@ impl<'a, R: AllocGlobal + Clock + Eprint + Files<File = File> + Wait> Opening<'a
         let draft = named.as_str();
         let mut folder = OsFolder::of(self.rt, path);
         let file = self.make_draft(&mut folder, draft, path)?;
-        let metadata = self.given(file.metadata(), "make", draft, Refusal::File)?;
+        let found = self.given(folder.identify(&file), "make", draft, Refusal::File)?;
         let disk = FileDisk::new(self.again(&file)?).noting(last_error, written);
-        let book = self.make_book(header, disk, draft)?;
+        let book = self.make_book(header, disk, &mut folder, draft)?;
         self.publish(&mut folder, &file, draft, path)?;
-        Ok((book, Identity::of(&metadata)))
+        Ok((book, found.identity))
     }
 }

@@ -1,9 +1,9 @@
 -- What a crash leaves at a name, by the clauses of the account.
 use Rattle.std.specs.Prelude.{◌≡◌, ◌≢◌, ◌⊎◌, ℕ, List, [], ◌∷◌, Option, None, Some, Contains}
-use Rattle.std.proofs.Common.{subst, inl, inr, arith}
+use Rattle.std.proofs.Common.{subst, inl, inr, arith, ◌∙◌}
 use Rattle.disk.specs.Contents.{Contents}
 use Rattle.disk.specs.Contents as disk
-use Rattle.recording_name.specs.Folder.{Folder, Left, MayLeave}
+use Rattle.recording_name.specs.Folder.{Folder, Left, MayLeave, IsMade}
 use Rattle.recording_name.specs.Kept.{IsAsAt, IsWhole, Keeps, IsNew, HasOnly, KeepsOrIsWhole, IsSettled, WritesOnly}
 use Rattle.recording_name.specs.KeptLaws.{Keeps-then, first_or_rest}
 
@@ -51,3 +51,18 @@ settled_left g path file bytes left settled only may =
 pub later_left : (f g : Folder) (path : List ℕ) (file : ℕ) (left : Left) → IsSettled path file f → g.recent path ≡ f.recent path → MayLeave g left → (left.names path ≡ Some file) × disk.MayLeave (g.files file) (left.bytes file)
 later_left f g path file left settled same may =
     (settled (left.names path) (subst (λ (r : List (Option ℕ)). Contains r (left.names path)) same (may.names path)), may.bytes file)
+
+pub target_left : (f made written : Folder) (path : List ℕ) (file : ℕ) (left : Left) → IsMade path file f made → WritesOnly file made written → MayLeave written left → IsAsAt f path left ⊎ ((left.names path ≡ Some file) × disk.MayLeave (written.files file) (left.bytes file))
+target_left f made written path file left is writes may =
+    let named : Contains (Some file ∷ f.recent path) (left.names path) =
+    subst (λ (r : List (Option ℕ)). Contains r (left.names path)) (writes.recent path ∙ is.recent) (may.names path) in
+    elim (first_or_rest (Some file) (f.recent path) (left.names path) named) [
+      | inl this ↦ inr (this, may.bytes file)
+      | inr before ↦ inl (record {
+        names = before;
+        bytes = λ i there.
+            let there_before : Contains (f.recent path) (Some i) = subst (Contains (f.recent path)) there before in
+            let differ : i ≢ file = λ same. is.fresh path (subst (λ (k : ℕ). Contains (f.recent path) (Some k)) same there_before) in
+            subst (λ (c : Contents). disk.MayLeave c (left.bytes i)) (writes.other_files i differ ∙ is.other_files i differ) (may.bytes i);
+      })
+    ]

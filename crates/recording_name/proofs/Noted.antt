@@ -63,7 +63,7 @@ below_same f g n m below more fewer name k has = let less : k < n = below name k
 below_after : (f : Folder) (e : Event) (n m : ℕ) → Agrees f → IsBelow n f → n ≤ m → ((k : ℕ) → given_of e ≡ Some k → k < m) → IsBelow m (after f e)
 below_after f (Named name file) n m agrees below more given = below_named f (string_bytes name) file f.files n m below more given
 below_after f (Made name file) n m agrees below more given = below_named f (string_bytes name) (Some file) (after f (Made name file)).files n m below more given
-below_after f (Wrote file bytes) n m agrees below more given = below_same f (after f (Wrote file bytes)) n m below more (λ name x has. has)
+below_after f (Wrote file offset bytes) n m agrees below more given = below_same f (after f (Wrote file offset bytes)) n m below more (λ name x has. has)
 below_after f (FileSynced file) n m agrees below more given = below_same f (after f (FileSynced file)) n m below more (λ name x has. has)
 below_after f FolderSynced n m agrees below more given = below_same f (after f FolderSynced) n m below more (λ name x has.
     elim (first_or_rest (f.names name) [] x has) [
@@ -88,33 +88,16 @@ recent_with n file files f name x has = at (bytes_eq n name)
 recent_after : (f : Folder) (e : Event) (name : List ℕ) (x : Option ℕ) → syncs e ≡ false → Contains (f.recent name) x → Contains ((after f e).recent name) x
 recent_after f (Named n file) name x not has = recent_with (string_bytes n) file f.files f name x has
 recent_after f (Made n file) name x not has = recent_with (string_bytes n) (Some file) (after f (Made n file)).files f name x has
-recent_after f (Wrote file bytes) name x not has = has
+recent_after f (Wrote file offset bytes) name x not has = has
 recent_after f (FileSynced file) name x not has = has
 recent_after f FolderSynced name x not has = cc
 
--- what the events that were gone through stand for, with one more
-pub state_more : (events : List Event) (i : ℕ) (e : Event) → i < length events → e ≡ get_or events i e → state_of (take (i + 1) events) ≡ after (state_of (take i events)) e
-state_more events i e within is = fold_more after empty_folder events i e within ∙ ap (after (state_of (take i events))) (sym is)
-
--- what a name has named is among the same still, if the folder isn't synced meanwhile
-pub recent_more : (events : List Event) (i : ℕ) (e : Event) (name : List ℕ) (x : Option ℕ) → i < length events → e ≡ get_or events i e → syncs e ≡ false → Contains ((state_of (take i events)).recent name) x → Contains ((state_of (take (i + 1) events)).recent name) x
-recent_more events i e name x within is not has =
-    subst (λ (f : Folder). Contains (f.recent name) x) (sym (state_more events i e within is)) (recent_after (state_of (take i events)) e name x not has)
+-- what a name has named is among the same still after one event more, if that doesn't sync the folder
+pub recent_pushed : (before : List Event) (e : Event) (events : List Event) (name : List ℕ) (x : Option ℕ) → events ≡ before ++ e ∷ [] → syncs e ≡ false → Contains ((state_of before).recent name) x → Contains ((state_of events).recent name) x
+recent_pushed before e events name x is not has =
+    let next : state_of events ≡ after (state_of before) e = ap state_of is ∙ state_push before e in
+    subst (λ (f : Folder). Contains (f.recent name) x) (sym next) (recent_after (state_of before) e name x not has)
 
 -- what a name names is among what it has named
 pub named_now : (events : List Event) (name : List ℕ) (x : Option ℕ) → x ≡ (state_of events).names name → Contains ((state_of events).recent name) x
 named_now events name x is = subst (Contains ((state_of events).recent name)) (sym is) ((Agrees-state_of events).names name)
-
--- the bytes that a file had when it was last synced are left, or those that it has
-pub held_left : (events : List Event) (file : ℕ) (bytes : List ℕ) → bytes ≡ ((state_of events).files file).held → disk.MayLeave ((state_of events).files file) bytes
-held_left events file bytes is =
-    let agrees = (Agrees-state_of events).files file in
-    subst (disk.MayLeave ((state_of events).files file)) (sym is) (record { no_shorter = omega arith; no_longer = omega (arith, agrees.no_shorter); untouched = λ p l e. refl })
-
-pub now_left : (events : List Event) (file : ℕ) (bytes : List ℕ) → bytes ≡ ((state_of events).files file).now → disk.MayLeave ((state_of events).files file) bytes
-now_left events file bytes is = subst (disk.MayLeave ((state_of events).files file)) (sym is) ((Agrees-state_of events).files file)
-
--- what follows of each value
-pub if_ok : {T E : Type 0} {P Q : T → Type 0} (r : Result T E) → ((v : T) → P v → Q v) → IfOk r P → IfOk r Q
-if_ok (Ok v) f p = f v p
-if_ok (Err e) f p = tt

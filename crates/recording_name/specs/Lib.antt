@@ -3,6 +3,8 @@ pub mod FolderHistory
 pub mod Kept
 pub mod KeptLaws
 pub mod Refused
+pub mod Standing
+pub mod Target
 pub mod Told
 pub mod Memory
 pub mod MemoryLaws

@@ -1,7 +1,7 @@
 -- A folder in memory, from its record of what was done: each event makes a folder of the one before.
-use Rattle.std.specs.Prelude.{◌==◌, ◌||◌, ℕ, Bool, true, false, List, [], ◌∷◌, ◌++◌, length, take, fold, ◌<◌, Contains, Option, Some, None, if◌then◌else◌, string_bytes}
+use Rattle.std.specs.Prelude.{◌==◌, ◌||◌, ℕ, Bool, true, false, List, [], ◌∷◌, length, take, fold, ◌<◌, Contains, Option, Some, None, if◌then◌else◌, string_bytes}
 use Rattle.std.specs.Str.{bytes_eq}
-use Rattle.disk.specs.Contents.{Contents, is_between}
+use Rattle.disk.specs.Contents.{Contents, put, is_between}
 use Rattle.recording_name.specs.Folder.{Folder, empty_file}
 use Rattle.recording_name.specs.FolderHistory.{History}
 use Rattle.recording_name.specs.declared.memory_folder.Event.{Event}
@@ -11,12 +11,12 @@ use Rattle.recording_name.specs.declared.memory_folder.Event.TheVariants.{Named,
 abbrev pub empty_folder : Folder
 empty_folder = record { names = λ _. None; recent = λ _. None ∷ []; files = λ _. empty_file }
 
--- a file with these bytes after its own
-abbrev pub appended : List ℕ → Contents → Contents
-appended bytes c = record {
-  now = c.now ++ bytes;
+-- a file into which these bytes are written
+abbrev pub written : ℕ → List ℕ → Contents → Contents
+written offset bytes c = record {
+  now = put c.now offset bytes;
   held = c.held;
-  touched = λ p. c.touched p || is_between (length c.now) (length bytes) p;
+  touched = λ p. c.touched p || is_between offset (length bytes) p;
 }
 
 -- a file all of whose bytes are held
@@ -38,7 +38,7 @@ with_file file c f i = if i == file then c else f.files i
 abbrev pub after : Folder → Event → Folder
 after f (Named name file) = with_name (string_bytes name) file f.files f
 after f (Made name file) = with_name (string_bytes name) (Some file) (with_file file empty_file f) f
-after f (Wrote file bytes) = record { names = f.names; recent = f.recent; files = with_file file (appended bytes.items (f.files file)) f }
+after f (Wrote file offset bytes) = record { names = f.names; recent = f.recent; files = with_file file (written offset bytes.items (f.files file)) f }
 after f (FileSynced file) = record { names = f.names; recent = f.recent; files = with_file file (held_whole (f.files file)) f }
 after f FolderSynced = record { names = f.names; recent = λ n. f.names n ∷ []; files = f.files }
 
@@ -54,7 +54,7 @@ history_of events = record { moment = length events; at = λ m. state_of (take m
 abbrev pub given_of : Event → Option ℕ
 given_of (Named name file) = file
 given_of (Made name file) = Some file
-given_of (Wrote file bytes) = None
+given_of (Wrote file offset bytes) = None
 given_of (FileSynced file) = None
 given_of FolderSynced = None
 
@@ -67,5 +67,5 @@ abbrev pub syncs : Event → Bool
 syncs FolderSynced = true
 syncs (Named name file) = false
 syncs (Made name file) = false
-syncs (Wrote file bytes) = false
+syncs (Wrote file offset bytes) = false
 syncs (FileSynced file) = false

@@ -1,18 +1,20 @@
 -- What follows of a folder in memory: what its calls have to show.
-use Rattle.std.specs.Prelude.{◌≡◌, ◌≢◌, ◌==◌, ◌||◌, ℕ, ◌+◌, Bool, true, false, List, [], ◌∷◌, ◌++◌, length, take, fold, Option, Some, None, Contains, if◌then◌else◌, string_bytes, refl}
-use Rattle.std.proofs.Common.{sym, ap, ◌∙◌, subst, arith, length-append}
-use Rattle.std.proofs.lemmas.Bool.{eq-eqb, ne_eqb}
-use Rattle.std.proofs.lemmas.List.{take_all, take-append-le, get_or_append_left}
+use Rattle.std.specs.Prelude.{◌≡◌, ◌≢◌, ◌⊎◌, ◌==◌, ◌||◌, ℕ, ◌+◌, ◌<◌, ◌≤◌, min, max, Bool, true, false, List, [], ◌∷◌, ◌++◌, length, take, fold, Option, Some, None, Contains, if◌then◌else◌, string_bytes, refl}
+use Rattle.std.proofs.Common.{sym, ap, ◌∙◌, subst, arith, inl, inr, length-append}
+use Rattle.std.proofs.lemmas.Bool.{eq-eqb, ne_eqb, cases_lt}
+use Rattle.std.proofs.lemmas.List.{take_all, take-append-le, drop_all}
 use Rattle.std.proofs.lemmas.List.Sums.{fold_push}
 use Rattle.std.proofs.lemmas.Slice.Eq.{bytes_eq-Decides}
 use Rattle.std.specs.Str.{bytes_eq}
-use Rattle.disk.specs.Contents.{Contents, IsSynced}
+use Rattle.disk.specs.Contents.{Contents, IsSynced, put, is_between}
+use Rattle.disk.specs.ContentsLaws.{not_between}
+use Rattle.disk.specs.Put.{length-put, put_elsewhere}
 use Rattle.disk.specs.Contents as disk
 use Rattle.recording_name.specs.Folder.{Folder, Agrees, IsNamed, IsMade, IsMoved, IsFileSynced, IsFolderSynced, empty_file}
 use Rattle.recording_name.specs.FolderHistory.{present, GoesOn}
 use Rattle.recording_name.specs.Kept.{WritesOnly}
 use Rattle.recording_name.specs.KeptLaws.{has_first}
-use Rattle.recording_name.specs.Memory.{empty_folder, appended, held_whole, with_name, with_file, after, state_of, history_of}
+use Rattle.recording_name.specs.Memory.{empty_folder, written, held_whole, with_name, with_file, after, state_of, history_of}
 use Rattle.recording_name.specs.declared.memory_folder.Event.{Event}
 use Rattle.recording_name.specs.declared.memory_folder.Event.TheVariants.{Named, Made, Wrote, FileSynced, FolderSynced}
 
@@ -133,17 +135,61 @@ agrees_empty = record { no_shorter = omega arith; no_longer = omega arith; untou
 agrees_whole : (c : Contents) → disk.Agrees (held_whole c)
 agrees_whole c = record { no_shorter = omega arith; no_longer = omega arith; untouched = λ p l e. refl }
 
-or_false : (a b : Bool) → (a || b) ≡ false → a ≡ false
+or_false : (a b : Bool) → (a || b) ≡ false → (a ≡ false) × (b ≡ false)
 or_false true b e = cc
-or_false false b e = refl
+or_false false b e = (refl, e)
 
-agrees_appended : (bytes : List ℕ) (c : Contents) → disk.Agrees c → disk.Agrees (appended bytes c)
-agrees_appended bytes c agrees = record {
-  no_shorter = omega (arith, length-append c.now bytes, agrees.no_shorter);
-  no_longer = omega arith;
-  untouched = λ p l e.
-      get_or_append_left c.now bytes 0 p (omega (arith, agrees.no_shorter)) ∙ agrees.untouched p l (or_false (c.touched p) _ e);
-}
+-- An offset after a file's end is its end.
+pub put_at_end : (file bytes : List ℕ) (offset : ℕ) → put file offset bytes ≡ put file (min offset (length file)) bytes
+put_at_end file bytes offset = elim (cases_lt (length file) offset) [
+  | inl past ↦
+      let at : min offset (length file) ≡ length file = omega arith in
+      rw (at, take_all offset file (omega arith), take_all (length file) file (omega arith), drop_all (offset + length bytes) file (omega arith), drop_all (length file + length bytes) file (omega arith)) refl
+  | inr within ↦
+      let at : min offset (length file) ≡ offset = omega arith in
+      rw at refl
+]
+
+-- What is left before a write may be left after it.
+pub left_unwritten : (c : Contents) (offset : ℕ) (bytes left : List ℕ) → disk.MayLeave c left → disk.MayLeave (written offset bytes c) left
+left_unwritten c offset bytes left may =
+    let longer : length (put c.now offset bytes) ≡ max (length c.now) (min offset (length c.now) + length bytes) =
+    ap length (put_at_end c.now bytes offset) ∙ length-put c.now bytes (min offset (length c.now)) (omega arith) in
+    record {
+      no_shorter = may.no_shorter;
+      no_longer = omega (arith, may.no_longer);
+      untouched = λ p l e. may.untouched p l ((or_false (c.touched p) _ e).0);
+    }
+
+-- A part of what is left that a write doesn't reach is as it was, and what it reaches may be anything.
+pub left_written : (c : Contents) (offset start : ℕ) (bytes left : List ℕ) → disk.MayLeave c left → start ≡ min offset (length c.now) → start ≤ length left → disk.MayLeave (written offset bytes c) (put left start bytes)
+left_written c offset start bytes left may is within =
+    let whole : length (put left start bytes) ≡ max (length left) (start + length bytes) = length-put left bytes start within in
+    let longer : length (put c.now offset bytes) ≡ max (length c.now) (min offset (length c.now) + length bytes) =
+    ap length (put_at_end c.now bytes offset) ∙ length-put c.now bytes (min offset (length c.now)) (omega arith) in
+    record {
+      no_shorter = omega (arith, may.no_shorter);
+      no_longer = omega (arith, may.no_longer);
+      untouched = λ p l e.
+          let shorter : p < length left = omega (arith, may.no_shorter) in
+          put_elsewhere left bytes start p shorter (outside p l e) ∙ may.untouched p l ((or_false (c.touched p) _ e).0);
+    }
+  where
+    outside : (p : ℕ) → p < length c.held → (c.touched p || is_between offset (length bytes) p) ≡ false → (p < start) ⊎ (start + length bytes ≤ p)
+    outside p l e =
+        let held : length c.held ≤ length c.now = omega (arith, may.no_shorter, may.no_longer) in
+        elim (not_between offset (length bytes) p ((or_false (c.touched p) _ e).1)) [
+          | inl before ↦ inl (omega arith)
+          | inr past ↦ elim (cases_lt p start) [
+            | inl before ↦ inl before
+            | inr from ↦ inr (omega arith)
+          ]
+        ]
+
+agrees_written : (offset : ℕ) (bytes : List ℕ) (c : Contents) → disk.Agrees c → disk.Agrees (written offset bytes c)
+agrees_written offset bytes c agrees =
+    subst (disk.MayLeave (written offset bytes c)) (sym (put_at_end c.now bytes offset))
+    (left_written c offset (min offset (length c.now)) bytes c.now agrees refl (omega arith))
 
 agrees_with_file : (file : ℕ) (c : Contents) (f : Folder) → Agrees f → disk.Agrees c → (i : ℕ) → disk.Agrees (with_file file c f i)
 agrees_with_file file c f agrees one i = at (i == file)
@@ -155,7 +201,7 @@ agrees_with_file file c f agrees one i = at (i == file)
 agrees_after : (f : Folder) (e : Event) → Agrees f → Agrees (after f e)
 agrees_after f (Named name file) agrees = agrees_named (string_bytes name) file f.files f agrees agrees.files
 agrees_after f (Made name file) agrees = agrees_named (string_bytes name) (Some file) (with_file file empty_file f) f agrees (agrees_with_file file empty_file f agrees agrees_empty)
-agrees_after f (Wrote file bytes) agrees = record { names = agrees.names; files = agrees_with_file file (appended bytes.items (f.files file)) f agrees (agrees_appended bytes.items (f.files file) (agrees.files file)) }
+agrees_after f (Wrote file offset bytes) agrees = record { names = agrees.names; files = agrees_with_file file (written offset bytes.items (f.files file)) f agrees (agrees_written offset bytes.items (f.files file) (agrees.files file)) }
 agrees_after f (FileSynced file) agrees = record { names = agrees.names; files = agrees_with_file file (held_whole (f.files file)) f agrees (agrees_whole (f.files file)) }
 agrees_after f FolderSynced agrees = record { names = λ n. has_first (f.names n) []; files = agrees.files }
 

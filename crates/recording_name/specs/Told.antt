@@ -10,6 +10,11 @@ pub record IsThere (number : Identity → ℕ) (found : Found) (name : List ℕ)
   pub named : f.names name ≡ Some (number found.identity)
   pub length : found.kind ≡ File → found.length ≡ size (f.files (number found.identity)).now
 
+-- What is found is this file, and if that is a regular one, it has this length.
+pub record IsThat (number : Identity → ℕ) (found : Found) (file : ℕ) (f : Folder) : Type 0 where
+  pub same : number found.identity ≡ file
+  pub length : found.kind ≡ File → found.length ≡ size (f.files file).now
+
 -- what is found at a name is the file that it names, or nothing
 abbrev pub IsTold : (Identity → ℕ) → Option Found → List ℕ → Folder → Type 0
 IsTold number None name f = f.names name ≡ None

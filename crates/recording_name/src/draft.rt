@@ -6,7 +6,7 @@ ghost use Rattle.recording_name.specs.Kept.{Keeps, IsFree, IsNew, MayAllGo, Repl
 ghost use Rattle.recording_name.specs.Told.{IsOpened};
 
 use crate::settling::is_at;
-use crate::system_folder::{Found, Kind, SystemFolder};
+use crate::system_folder::{Access, Found, Kind, SystemFolder};
 use std::io;
 use thiserror::Error;
 
@@ -43,8 +43,8 @@ fn open_left<S: SystemFolder>(
     folder: &mut S,
     draft: &str,
     longest: u64,
-) -> Result<Option<S::File>, DraftFault>
-    ensures named { S.is_modelled → IfOk result (λ left. IsOpened S.file left ((present (S.history folder.old)).names draft.now)) }
+) -> Result<Option<S::LockedFile>, DraftFault>
+    ensures named { S.is_modelled → IfOk result (λ left. IsOpened S.locked left ((present (S.history folder.old)).names draft.now)) }
     ensures history { S.is_modelled → S.history folder.new ≡ S.history folder.old }
 {
     match folder.look_up(draft)? {
@@ -52,10 +52,10 @@ fn open_left<S: SystemFolder>(
         Some(found) if found.kind != Kind::File => return Err(DraftFault::InTheWay),
         Some(_) => {}
     }
-    let file = folder.open(draft)?;
-    if folder.lock(&file).is_err() {
+    let file = folder.open(draft, Access::Write)?;
+    let Ok(file) = folder.lock(file, Access::Write) else {
         return Err(DraftFault::Taken);
-    }
+    };
     // Who had it before may have renamed or removed it by now.
     if !is_at(folder, &file, draft)? {
         return Err(DraftFault::Taken);
@@ -104,21 +104,30 @@ fn make_at<S: SystemFolder, L: Leftover>(
     Ok(folder.make(draft)?)
 }
 
-// Locks a new draft. Whether nothing has come to the recording's own name meanwhile, or a file
-// without bytes.
+// Locks a new draft.
 fn claim<S: SystemFolder>(
     folder: &mut S,
-    file: &S::File,
+    file: S::File,
     draft: &str,
-    path: &str,
-) -> Result<bool, DraftFault>
-    ensures free { S.is_modelled → IfOk result (λ is_free. is_free ≡ true → IsFree path.now (present (S.history folder.new))) }
+) -> Result<S::LockedFile, DraftFault>
+    ensures claimed { S.is_modelled → IfOk result (λ claimed. S.locked claimed ≡ S.file file) }
     ensures history { S.is_modelled → S.history folder.new ≡ S.history folder.old }
 {
     // Another recorder may have taken it for one that was cut off, before it was locked.
-    if folder.lock(file).is_err() || !is_at(folder, file, draft)? {
+    let Ok(file) = folder.lock(file, Access::Write) else {
+        return Err(DraftFault::Taken);
+    };
+    if !is_at(folder, &file, draft)? {
         return Err(DraftFault::Taken);
     }
+    Ok(file)
+}
+
+// Whether nothing is at a recording's own name, or a file without bytes.
+fn is_free<S: SystemFolder>(folder: &mut S, path: &str) -> io::Result<bool>
+    ensures free { S.is_modelled → IfOk result (λ is_free. is_free ≡ true → IsFree path.now (present (S.history folder.new))) }
+    ensures history { S.is_modelled → S.history folder.new ≡ S.history folder.old }
+{
     match folder.look_up(path)? {
         None
         | Some(
@@ -140,8 +149,8 @@ pub fn make_draft<S: SystemFolder, L: Leftover>(
     draft: &str,
     path: &str,
     leftover: &L,
-) -> Result<S::File, DraftFault>
-    ensures made { S.is_modelled → IfOk result (λ file. IsNew draft.now (S.file file) (present (S.history folder.new))) }
+) -> Result<S::LockedFile, DraftFault>
+    ensures made { S.is_modelled → IfOk result (λ file. IsNew draft.now (S.locked file) (present (S.history folder.new))) }
     ensures differ { OnOk result (draft.now ≢ path.now) }
 
     // Nothing that has bytes is at the recording's own name.
@@ -157,8 +166,9 @@ pub fn make_draft<S: SystemFolder, L: Leftover>(
     if draft == path {
         return Err(DraftFault::InTheWay);
     }
-    let file = make_at(folder, draft, leftover)?;
-    if claim(folder, &file, draft, path)? {
+    let made = make_at(folder, draft, leftover)?;
+    let file = claim(folder, made, draft)?;
+    if is_free(folder, path)? {
         return Ok(file);
     }
     // Who came here after another recorder finds its recording at the path.

@@ -2,7 +2,7 @@
 
 ghost use Rattle.std.specs.Prelude.{◌≡◌, ◌≢◌, ◌⊎◌, ℕ, List, [], ◌∷◌, None, Some};
 ghost use Rattle.disk.specs.Contents as disk;
-ghost use Rattle.recording_name.specs.Folder.{Folder, Left, MayLeave};
+ghost use Rattle.recording_name.specs.Folder.{Folder, Left, MayLeave, IsMade};
 ghost use Rattle.recording_name.specs.Kept.{IsAsAt, IsWhole, Keeps, IsNew, HasOnly, KeepsOrIsWhole, IsSettled, WritesOnly};
 
 /// A crash at a moment that keeps a name leaves there what one before might have left.
@@ -36,4 +36,13 @@ pub fn a_settled_recording()
 pub fn a_settled_recording_that_grows()
     ensures { (f g : Folder) (path : List ℕ) (file : ℕ) (left : Left) → IsSettled path file f → g.recent path ≡ f.recent path
         → MayLeave g left → (left.names path ≡ Some file) × disk.MayLeave (g.files file) (left.bytes file) }
+{}
+
+/// From a target that is made (`target_at`) on, while nothing is written but its bytes: a crash
+/// leaves at its name what one before might have left there, or the file, with bytes that the rules
+/// of a disk say of it. That these are no recording before all is there is its writer's promise.
+pub fn a_target_in_the_making()
+    ensures { (f made written : Folder) (path : List ℕ) (file : ℕ) (left : Left) → IsMade path file f made
+        → WritesOnly file made written → MayLeave written left
+        → IsAsAt f path left ⊎ ((left.names path ≡ Some file) × disk.MayLeave (written.files file) (left.bytes file)) }
 {}

@@ -1,6 +1,7 @@
 //! A folder in memory, which can tell its past.
 
 ghost use Rattle.std.specs.Prelude.{◌≡◌, ◌⊎◌, ◌∷◌, ◌++◌, [], List, ℕ, Some, None, IfOk, IfSome, OnOk, OnErr, Contains, length};
+ghost use Rattle.disk.specs.Contents.{put, IsWritten};
 ghost use Rattle.recording_name.specs.Folder.{Folder, IsNamed};
 ghost use Rattle.recording_name.specs.FolderHistory.{present, GoesOn};
 ghost use Rattle.recording_name.specs.Kept.{WritesOnly};
@@ -8,8 +9,8 @@ ghost use Rattle.recording_name.specs.Memory.{after, history_of, state_of, given
 
 mod crash;
 
-use crate::system_folder::{Found, Identity, Kind, SystemFolder};
-pub use crash::Extent;
+use crate::system_folder::{Access, Found, Identity, Kind, SystemFolder};
+pub use crash::Chosen;
 use std::alloc::{AllocError, Global};
 use std::io;
 use std::marker::Model;
@@ -18,12 +19,24 @@ use std::marker::Model;
 #[derive(Drop)]
 enum Event {
     /// A name got a file, or names nothing any more.
-    Named { name: String, file: Option<u64> },
+    Named {
+        name: String,
+        file: Option<u64>,
+    },
     /// The same, of a new file.
-    Made { name: String, file: u64 },
-    /// Bytes were written at a file's end.
-    Wrote { file: u64, bytes: Vec<u8> },
-    FileSynced { file: u64 },
+    Made {
+        name: String,
+        file: u64,
+    },
+    /// Bytes were written at an offset of a file.
+    Wrote {
+        file: u64,
+        offset: usize,
+        bytes: Vec<u8>,
+    },
+    FileSynced {
+        file: u64,
+    },
     FolderSynced,
 }
 
@@ -98,20 +111,41 @@ fn unused(events: &[Event]) -> Option<u64>
     Some(next)
 }
 
+// Puts these bytes at an offset of a file, or at its end if that is before it.
+fn put(file: &mut Vec<u8>, offset: usize, bytes: &[u8]) -> Result<(), AllocError>
+    ensures { OnOk result (file.new.items ≡ put file.old.items offset bytes.now) }
+{
+    let start = offset.min(file.len());
+    let overlap = bytes.len().min(file.len() - start);
+    file.extend_from_slice(&bytes[overlap..])?;
+    file[start..start + overlap].copy_from_slice(&bytes[..overlap]);
+    Ok(())
+}
+
+// What a file's bytes are after an event, by those before.
+fn bytes_after(event: &Event, file: u64, bytes: &mut Vec<u8>) -> Result<(), AllocError>
+    ensures { OnOk result ((f : Folder) → bytes.old.items ≡ (f.files file).now
+        → bytes.new.items ≡ ((after f event.now).files file).now) }
+{
+    match event {
+        Event::Made { name: _, file: its } if *its == file => bytes.clear(),
+        Event::Wrote {
+            file: its,
+            offset,
+            bytes: written,
+        } if *its == file => put(bytes, *offset, written)?,
+        _ => {}
+    }
+    Ok(())
+}
+
 // The bytes of a file.
 fn bytes_of(alloc: Global, events: &[Event], file: u64) -> Result<Vec<u8>, AllocError>
     ensures { IfOk result (λ bytes. bytes.items ≡ ((state_of events.now).files file).now) }
 {
     let mut bytes = Vec::new(alloc);
     for event in events {
-        match event {
-            Event::Made { name: _, file: its } if *its == file => bytes.clear(),
-            Event::Wrote {
-                file: its,
-                bytes: more,
-            } if *its == file => bytes.extend_from_slice(more)?,
-            _ => {}
-        }
+        bytes_after(event, file, &mut bytes)?;
     }
     Ok(bytes)
 }
@@ -139,10 +173,15 @@ impl MemoryFolder {
         self.calls_to_failure = Some(calls);
     }
 
-    /// Writes these bytes at a file's end.
-    pub fn append(&mut self, file: &MemoryFile, bytes: &[u8]) -> io::Result<()>
-        ensures written { OnOk result (((present (history_of self.new)).files file.now.number).now
-            ≡ ((present (history_of self.old)).files file.now.number).now ++ bytes.now) }
+    /// Whether the call that is to fail is still to come.
+    pub fn is_to_fail(&self) -> bool {
+        self.calls_to_failure.is_some()
+    }
+
+    /// Writes these bytes at an offset of a file, or at its end if that is before it.
+    pub fn write_at(&mut self, file: &MemoryFile, offset: usize, bytes: &[u8]) -> io::Result<()>
+        ensures written { OnOk result (IsWritten offset bytes.now ((present (history_of self.old)).files file.now.number)
+            ((present (history_of self.new)).files file.now.number)) }
         ensures names { (name : List ℕ) → (present (history_of self.new)).names name ≡ (present (history_of self.old)).names name }
         ensures only { GoesOn (history_of self.old) (history_of self.new)
             (λ f. (f ≡ present (history_of self.old)) ⊎ WritesOnly file.now.number (present (history_of self.old)) f) }
@@ -151,6 +190,7 @@ impl MemoryFolder {
         let bytes = Vec::from_slice(*self.events.allocator(), bytes)?;
         self.note(Event::Wrote {
             file: file.number,
+            offset,
             bytes,
         })
     }
@@ -228,6 +268,8 @@ impl SystemFolder for MemoryFolder {
 
     type File = MemoryFile;
 
+    type LockedFile = MemoryFile;
+
     ghost is_modelled = { Unit {0} };
 
     ghost history = { history_of };
@@ -236,11 +278,17 @@ impl SystemFolder for MemoryFolder {
 
     ghost file = { λ file. file.number };
 
+    ghost locked = { λ file. file.number };
+
     fn look_up(&mut self, name: &str) -> io::Result<Option<Found>> {
         match self.find(name)? {
             Some(number) => Ok(Some(self.told_of(number)?)),
             None => Ok(None),
         }
+    }
+
+    fn follow(&mut self, name: &str) -> io::Result<Option<Found>> {
+        self.look_up(name)
     }
 
     fn identify(&mut self, opened: &MemoryFile) -> io::Result<Found> {
@@ -258,15 +306,16 @@ impl SystemFolder for MemoryFolder {
         Ok(MemoryFile { number })
     }
 
-    fn open(&mut self, name: &str) -> io::Result<MemoryFile> {
+    fn open(&mut self, name: &str, _access: Access) -> io::Result<MemoryFile> {
         match self.find(name)? {
             Some(number) => Ok(MemoryFile { number }),
             None => Err(not_found()),
         }
     }
 
-    fn lock(&mut self, _opened: &MemoryFile) -> io::Result<()> {
-        self.count()
+    fn lock(&mut self, opened: MemoryFile, _access: Access) -> io::Result<MemoryFile> {
+        self.count()?;
+        Ok(opened)
     }
 
     fn read(&mut self, opened: &MemoryFile) -> io::Result<Vec<u8>> {

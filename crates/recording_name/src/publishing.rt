@@ -41,29 +41,29 @@ fn give_up<S: SystemFolder>(folder: &mut S, draft: &str, error: io::Error) -> Pu
 /// the device then. If it can't be renamed, the draft is removed.
 pub fn publish<S: SystemFolder>(
     folder: &mut S,
-    file: &S::File,
+    file: &S::LockedFile,
     draft: &str,
     path: &str,
 ) -> Result<(), PublishFault>
     requires differ { draft.now ≢ path.now }
-    requires drafted { S.is_modelled → (present (S.history folder.old)).names draft.now ≡ Some (S.file file.now) }
+    requires drafted { S.is_modelled → (present (S.history folder.old)).names draft.now ≡ Some (S.locked file.now) }
 
     // Each crash from then on leaves the file at its name, and in it what reads gave.
-    ensures settled { S.is_modelled → OnOk result (IsSettled path.now (S.file file.now) (present (S.history folder.new))) }
+    ensures settled { S.is_modelled → OnOk result (IsSettled path.now (S.locked file.now) (present (S.history folder.new))) }
     ensures whole { S.is_modelled → OnOk result
-        (HoldsWhole (S.file file.now) (present (S.history folder.old)) (present (S.history folder.new))) }
+        (HoldsWhole (S.locked file.now) (present (S.history folder.old)) (present (S.history folder.new))) }
 
     // A crash at any moment of it leaves at that name what it might have left before, or the whole
     // recording.
     ensures any_moment { S.is_modelled → GoesOn (S.history folder.old) (S.history folder.new)
-        (KeepsOrIsWhole (present (S.history folder.old)) path.now (S.file file.now) ((present (S.history folder.old)).files (S.file file.now)).now) }
+        (KeepsOrIsWhole (present (S.history folder.old)) path.now (S.locked file.now) ((present (S.history folder.old)).files (S.locked file.now)).now) }
 
     // No other name is touched.
     ensures elsewhere { S.is_modelled → (name : List ℕ) → name ≢ draft.now → name ≢ path.now
         → GoesOn (S.history folder.old) (S.history folder.new) (Keeps (present (S.history folder.old)) name) }
 
     // What a refusal leaves.
-    ensures refused { S.is_modelled → IfErr result (λ fault. IsLeftBy fault draft.now path.now (S.file file.now) (present (S.history folder.new))) }
+    ensures refused { S.is_modelled → IfErr result (λ fault. IsLeftBy fault draft.now path.now (S.locked file.now) (present (S.history folder.new))) }
 {
     if let Err(error) = folder.sync_file(file) {
         return Err(give_up(folder, draft, error));

@@ -19,8 +19,12 @@ pub enum Settled {
 }
 
 // Whether an open file is the one that a name names, and not one that a link there leads to.
-pub(crate) fn is_at<S: SystemFolder>(folder: &mut S, file: &S::File, name: &str) -> io::Result<bool>
-    ensures named { S.is_modelled → IfOk result (λ is_at. is_at ≡ true → (present (S.history folder.old)).names name.now ≡ Some (S.file file.now)) }
+pub(crate) fn is_at<S: SystemFolder>(
+    folder: &mut S,
+    file: &S::LockedFile,
+    name: &str,
+) -> io::Result<bool>
+    ensures named { S.is_modelled → IfOk result (λ is_at. is_at ≡ true → (present (S.history folder.old)).names name.now ≡ Some (S.locked file.now)) }
     ensures history { S.is_modelled → S.history folder.new ≡ S.history folder.old }
 {
     let opened = folder.identify(file)?;
@@ -31,12 +35,12 @@ pub(crate) fn is_at<S: SystemFolder>(folder: &mut S, file: &S::File, name: &str)
 }
 
 // Brings a file's bytes onto the device, and then the folder's names.
-pub(crate) fn sync_both<S: SystemFolder>(folder: &mut S, file: &S::File) -> io::Result<()>
+pub(crate) fn sync_both<S: SystemFolder>(folder: &mut S, file: &S::LockedFile) -> io::Result<()>
     ensures keeps { S.is_modelled → (name : List ℕ) → GoesOn (S.history folder.old) (S.history folder.new) (Keeps (present (S.history folder.old)) name) }
-    ensures settled { S.is_modelled → OnOk result ((name : List ℕ) → (present (S.history folder.old)).names name ≡ Some (S.file file.now)
-        → IsSettled name (S.file file.now) (present (S.history folder.new))) }
+    ensures settled { S.is_modelled → OnOk result ((name : List ℕ) → (present (S.history folder.old)).names name ≡ Some (S.locked file.now)
+        → IsSettled name (S.locked file.now) (present (S.history folder.new))) }
     ensures whole { S.is_modelled → OnOk result
-        (HoldsWhole (S.file file.now) (present (S.history folder.old)) (present (S.history folder.new))) }
+        (HoldsWhole (S.locked file.now) (present (S.history folder.old)) (present (S.history folder.new))) }
     ensures names { S.is_modelled → (name : List ℕ) → (present (S.history folder.new)).names name ≡ (present (S.history folder.old)).names name }
 {
     folder.sync_file(file)?;
@@ -45,11 +49,15 @@ pub(crate) fn sync_both<S: SystemFolder>(folder: &mut S, file: &S::File) -> io::
 
 /// Brings a recording that was found onto the device, its bytes and its name: whoever made it may
 /// have been cut off before. Nothing of it may be shown before that. The file is open, and locked.
-pub fn settle<S: SystemFolder>(folder: &mut S, file: &S::File, path: &str) -> io::Result<Settled>
+pub fn settle<S: SystemFolder>(
+    folder: &mut S,
+    file: &S::LockedFile,
+    path: &str,
+) -> io::Result<Settled>
     // Each crash from then on leaves the file at its name, and in it what reads gave.
-    ensures settled { S.is_modelled → IfOk result (λ settled. settled ≡ Settled.ByName → IsSettled path.now (S.file file.now) (present (S.history folder.new))) }
+    ensures settled { S.is_modelled → IfOk result (λ settled. settled ≡ Settled.ByName → IsSettled path.now (S.locked file.now) (present (S.history folder.new))) }
     ensures whole { S.is_modelled → OnOk result
-        (HoldsWhole (S.file file.now) (present (S.history folder.old)) (present (S.history folder.new))) }
+        (HoldsWhole (S.locked file.now) (present (S.history folder.old)) (present (S.history folder.new))) }
     // No name is touched: at each moment a crash leaves there what it might have left before.
     ensures keeps { S.is_modelled → (name : List ℕ) → GoesOn (S.history folder.old) (S.history folder.new) (Keeps (present (S.history folder.old)) name) }
 {

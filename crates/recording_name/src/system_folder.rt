@@ -18,8 +18,19 @@ pub enum Kind {
     File,
     /// A symbolic link.
     Link,
-    /// A folder, a pipe, a socket or a device.
+    /// A folder.
+    Folder,
+    /// A pipe, a socket or a device.
     Other,
+}
+
+/// What a file is opened for, and locked for.
+#[derive(Clone, Copy, Debug, PartialEq, Eq)]
+pub enum Access {
+    /// It is read, beside others who read it.
+    Read,
+    /// It is read and written, by nobody else.
+    Write,
 }
 
 /// What the system says of a file: which one it is, of which kind, and how many bytes it has.
@@ -39,11 +50,15 @@ pub struct Found {
 pub trait SystemFolder {
     ghost use Rattle.recording_name.specs.Folder.{Folder, Agrees, IsNamed, IsMade, IsFileSynced, IsFolderSynced, IsRenamed, IsWithinRename};
     ghost use Rattle.recording_name.specs.FolderHistory.{History, present, GoesOn};
-    ghost use Rattle.recording_name.specs.Told.{IsTold};
+    ghost use Rattle.recording_name.specs.Told.{IsTold, IsThat};
     ghost use Rattle.recording_name.specs.declared.system_folder.Identity.{Identity};
 
     /// An open file.
     type File: Drop;
+
+    /// An open file that is locked, as long as this is kept. What is read of a file or brought onto
+    /// the device is asked of this alone: so nothing is read before the lock is taken.
+    type LockedFile: Drop;
 
     /// Whether the system keeps the rules for folders of this type.
     ghost is_modelled: { Type 0 };
@@ -57,15 +72,22 @@ pub trait SystemFolder {
     /// The number of an open file.
     ghost file: { Self.File → ℕ };
 
+    /// The same of one that is locked.
+    ghost locked: { Self.LockedFile → ℕ };
+
     /// `lstat`: what this name names, and how many bytes a regular file there has; a link isn't
     /// followed. `None` if it names nothing.
     fn look_up(&mut self, name: &str) -> io::Result<Option<Found>>
         ensures told { is_modelled → IfOk result (λ found. IsTold number found name.now (present (history self.old))) }
         ensures history { is_modelled → history self.new ≡ history self.old };
 
-    /// `fstat`: which file an open one is.
-    fn identify(&mut self, opened: &Self::File) -> io::Result<Found>
-        ensures told { is_modelled → IfOk result (λ found. number found.identity ≡ file opened.now) }
+    /// `stat`: what this name leads to, through links too. `None` if it leads to nothing.
+    fn follow(&mut self, name: &str) -> io::Result<Option<Found>>
+        ensures history { is_modelled → history self.new ≡ history self.old };
+
+    /// `fstat`: which file an open one is, and how many bytes it has.
+    fn identify(&mut self, opened: &Self::LockedFile) -> io::Result<Found>
+        ensures told { is_modelled → IfOk result (λ found. IsThat number found (locked opened.now) (present (history self.old))) }
         ensures history { is_modelled → history self.new ≡ history self.old };
 
     /// `open` with `O_CREAT | O_EXCL` and mode 0600: a new file under this name, which names nothing
@@ -75,24 +97,26 @@ pub trait SystemFolder {
         ensures goes_on { is_modelled → GoesOn (history self.old) (history self.new)
             (λ f. (f ≡ present (history self.old)) ⊎ ((i : ℕ) × IsMade name.now i (present (history self.old)) f)) };
 
-    /// `open`: the file that this name leads to, through links too, for reading.
-    fn open(&mut self, name: &str) -> io::Result<Self::File>
+    /// `open` with `O_RDONLY` or `O_RDWR`: the file that this name leads to, through links too.
+    fn open(&mut self, name: &str, access: Access) -> io::Result<Self::File>
         ensures history { is_modelled → history self.new ≡ history self.old };
 
-    /// `flock` with `LOCK_EX | LOCK_NB`: fails if another process has it locked.
-    fn lock(&mut self, opened: &Self::File) -> io::Result<()>
+    /// `flock` with `LOCK_NB` and `LOCK_SH`, or `LOCK_EX` if it is to be written: fails
+    /// (`WouldBlock`) if another process has it locked.
+    fn lock(&mut self, opened: Self::File, access: Access) -> io::Result<Self::LockedFile>
+        ensures locked { is_modelled → IfOk result (λ it. locked it ≡ file opened) }
         ensures history { is_modelled → history self.new ≡ history self.old };
 
-    /// `read`, up to the end: the bytes of an open file.
-    fn read(&mut self, opened: &Self::File) -> io::Result<Vec<u8>>
-        ensures read { is_modelled → IfOk result (λ bytes. bytes.items ≡ ((present (history self.old)).files (file opened.now)).now) }
+    /// `read`, up to the end: the bytes of a file.
+    fn read(&mut self, opened: &Self::LockedFile) -> io::Result<Vec<u8>>
+        ensures read { is_modelled → IfOk result (λ bytes. bytes.items ≡ ((present (history self.old)).files (locked opened.now)).now) }
         ensures history { is_modelled → history self.new ≡ history self.old };
 
     /// `fsync` of a file: brings its bytes through a later crash.
-    fn sync_file(&mut self, opened: &Self::File) -> io::Result<()>
-        ensures synced { is_modelled → OnOk result (IsFileSynced (file opened.now) (present (history self.old)) (present (history self.new))) }
+    fn sync_file(&mut self, opened: &Self::LockedFile) -> io::Result<()>
+        ensures synced { is_modelled → OnOk result (IsFileSynced (locked opened.now) (present (history self.old)) (present (history self.new))) }
         ensures goes_on { is_modelled → GoesOn (history self.old) (history self.new)
-            (λ f. (f ≡ present (history self.old)) ⊎ IsFileSynced (file opened.now) (present (history self.old)) f) };
+            (λ f. (f ≡ present (history self.old)) ⊎ IsFileSynced (locked opened.now) (present (history self.old)) f) };
 
     /// `fsync` of the folder: brings its names through a later crash.
     fn sync_folder(&mut self) -> io::Result<()>

@@ -7,7 +7,7 @@ use crate::greeter::{Door, Greeter};
 use connections::{Device, Hall, Room};
 use file_disk::{LastError, Written};
 use libc::STDERR_FILENO;
-use recorder_opening::{Begun, Opened, Opening, Reading, Source};
+use recorder_opening::{Begun, Opened, Opening, Reading, Source, is_still_at};
 use recorder_threads::{Comer, Service, Work, refuse, run_threads};
 use refusals::{Refusal, Stopped};
 use serve_plan::{Origin, Plan};
@@ -258,7 +258,7 @@ where
     let committed = serve_opened::<Brand, R, W>(
         rt, plan, token, opened, arrivals, bell, telling, last_error, err,
     )?;
-    if !identity.is_at(rt, plan.file, written.end()) {
+    if !is_still_at(rt, plan.file, identity, written.end()) {
         telling.tell(rt, Event::Replaced(plan.file));
         return Err(Stopped::Refused(Refusal::File));
     }

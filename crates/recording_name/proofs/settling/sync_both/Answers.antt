@@ -11,5 +11,5 @@ returns-clause-keeps g c m name =
 
 pub returns-clause-whole : goal.returns-clause-whole
 returns-clause-whole g c m =
-    on_ok c.sync_folder.result (λ synced. HasOnly-after (present (g.S.SystemFolder.history c.args.folder.now)) (present (g.S.SystemFolder.history c.sync_file.new.self)) (present (g.S.SystemFolder.history c.sync_folder.new.self)) (g.S.SystemFolder.file c.args.file.now) (c.in_ok-sync_file.ensures.synced m) (synced.files (g.S.SystemFolder.file c.args.file.now)))
+    on_ok c.sync_folder.result (λ synced. HasOnly-after (present (g.S.SystemFolder.history c.args.folder.now)) (present (g.S.SystemFolder.history c.sync_file.new.self)) (present (g.S.SystemFolder.history c.sync_folder.new.self)) (g.S.SystemFolder.locked c.args.file.now) (c.in_ok-sync_file.ensures.synced m) (synced.files (g.S.SystemFolder.locked c.args.file.now)))
     (c.sync_folder.ensures.synced m)
