@@ -111,6 +111,21 @@ const COMMANDS: [CommandWords; 15] = [
         ],
     },
     CommandWords {
+        name: "page",
+        about: "Writes a recording as one HTML file that plays it in any browser, without a network",
+        example: "Example: recorderd page r r.html, and then open r.html",
+        arguments: &[
+            Word("PATH", "The recording"),
+            Word("OUT", "The file to write"),
+            Value("from", "BLOCK", "The block to begin with [default: 0]"),
+            Value(
+                "to",
+                "COUNT",
+                "The number of the first message left out [default: none is]",
+            ),
+        ],
+    },
+    CommandWords {
         name: "fbs-check",
         about: "Reads a whole FBS file, and prints its size and how much it holds",
         example: "Example: recorderd fbs-check r.fbs",

@@ -5,6 +5,7 @@ use crate::chaining::Chaining;
 use crate::exporting::Extract;
 use crate::framing::Filming;
 use crate::migrating::Migration;
+use crate::paging::Paging;
 use crate::picturing::Scene;
 use crate::refusing::{Ended, LeftOut, answer};
 use crate::salvaging::Salvaging;
@@ -43,6 +44,9 @@ pub enum FileCommand<'a> {
     /// That file is created, or emptied if it is there, only once it is known that there are such a
     /// block and such an end; one that can't be, and the recording itself, are refused as a file.
     Export(Extract<'a>),
+    /// `page` writes a part of a recording as a page that plays it in a browser, and prints how many
+    /// messages it has. Its file is as that of `export`.
+    Page(Paging<'a>),
     /// `migrate` writes a recording of format 1 again in format 2, and prints how many messages it
     /// has. The new file is created only once it is known that the recording can be migrated; one
     /// with bytes is refused, and stays as it is.
@@ -68,6 +72,7 @@ impl<'a> FileCommand<'a> {
             FileCommand::Picture(_) => "picture",
             FileCommand::Frames(_) => "frames",
             FileCommand::Export(_) => "export",
+            FileCommand::Page(_) => "page",
             FileCommand::Migrate(_) => "migrate",
             FileCommand::Salvage(_) => "salvage",
             FileCommand::FbsCheck(_) => "fbs-check",
@@ -88,6 +93,7 @@ impl<'a> FileCommand<'a> {
             FileCommand::Picture(what) => work.picture(what),
             FileCommand::Frames(what) => work.frames(what),
             FileCommand::Export(what) => work.export(what),
+            FileCommand::Page(what) => work.page(what),
             FileCommand::Migrate(what) => work.migrate(what),
             FileCommand::Salvage(what) => work.salvage(what),
             FileCommand::FbsCheck(path) => work.fbs_check(path),
