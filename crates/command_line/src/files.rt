@@ -4,7 +4,7 @@ use crate::numbers::{if_given, number, within};
 use crate::wrong::{MOMENT, NUMBER, Wrong, word};
 use clap::ArgMatches;
 use file_commands::{
-    Chaining, Extract, FileCommand, Filming, Migration, Moment, Paging, Salvaging, Scene, Timing,
+    Chaining, Extract, FileCommand, Filming, Migration, Moment, Salvaging, Scene, Timing,
 };
 use hex::FromHex;
 use pictures::PictureFormat;
@@ -14,15 +14,15 @@ fn extract<'a>(matches: &ArgMatches<'a>) -> Result<Extract<'a>, Wrong> {
     Ok(Extract {
         recording: word(matches, "PATH")?,
         from_block: number(word(matches, "FROM")?).ok_or(Wrong::Value("FROM", NUMBER))?,
-        to: number(word(matches, "TO")?).ok_or(Wrong::Value("TO", NUMBER))?,
+        to: Some(number(word(matches, "TO")?).ok_or(Wrong::Value("TO", NUMBER))?),
         out: word(matches, "OUT")?,
     })
 }
 
-fn paging<'a>(matches: &ArgMatches<'a>) -> Result<Paging<'a>, Wrong> {
+fn page<'a>(matches: &ArgMatches<'a>) -> Result<Extract<'a>, Wrong> {
     let from = if_given(matches.get_str("BLOCK").map(number)).ok_or(Wrong::Value("BLOCK", NUMBER))?;
     let to = if_given(matches.get_str("COUNT").map(number)).ok_or(Wrong::Value("COUNT", NUMBER))?;
-    Ok(Paging {
+    Ok(Extract {
         recording: word(matches, "PATH")?,
         from_block: from.unwrap_or(0),
         to,
@@ -138,7 +138,7 @@ pub fn on_files<'a>(name: &str, matches: &ArgMatches<'a>) -> Result<FileCommand<
         "migrate" => migration(matches).map(FileCommand::Migrate),
         "salvage" => salvaging(matches).map(FileCommand::Salvage),
         "export" => extract(matches).map(FileCommand::Export),
-        "page" => paging(matches).map(FileCommand::Page),
+        "page" => page(matches).map(FileCommand::Page),
         "fbs-check" => word(matches, "PATH").map(FileCommand::FbsCheck),
         _ => Err(Wrong::Words("there is no such command")),
     }

@@ -36,7 +36,7 @@ struct CommandWords {
     arguments: &'static [Argument],
 }
 
-const COMMANDS: [CommandWords; 15] = [
+const COMMANDS: [CommandWords; 16] = [
     CommandWords {
         name: "drill",
         about: "Runs the drill script on standard input, and answers each of its lines",

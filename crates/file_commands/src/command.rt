@@ -5,7 +5,6 @@ use crate::chaining::Chaining;
 use crate::exporting::Extract;
 use crate::framing::Filming;
 use crate::migrating::Migration;
-use crate::paging::Paging;
 use crate::picturing::Scene;
 use crate::refusing::{Ended, LeftOut, answer};
 use crate::salvaging::Salvaging;
@@ -46,7 +45,7 @@ pub enum FileCommand<'a> {
     Export(Extract<'a>),
     /// `page` writes a part of a recording as a page that plays it in a browser, and prints how many
     /// messages it has. Its file is as that of `export`.
-    Page(Paging<'a>),
+    Page(Extract<'a>),
     /// `migrate` writes a recording of format 1 again in format 2, and prints how many messages it
     /// has. The new file is created only once it is known that the recording can be migrated; one
     /// with bytes is refused, and stays as it is.

@@ -1,4 +1,4 @@
-use Rattle.std.proofs.Common.{List, ℕ, Option, sym, subst, ◌++◌}
+use Rattle.std.proofs.Common.{sym, subst, ◌++◌}
 use Rattle.std.specs.Io.KnownBytes.{Keeps, append_known}
 use Rattle.base64.specs.GeneralPurpose.{encode_of}
 use Rattle.recording_page.proofs.Pages.{append_then}
