@@ -79,15 +79,16 @@ pub fn live(
     let begin_moment = folder.moments();
     let mut ends = Vec::new(alloc);
     let mut done = begin(alloc, folder, source.header(alloc)?);
-    let mut number = 0;
-    while done.is_done {
-        ends.push(done.folder.moments())?;
-        let Some(stamped) = source.messages.get(number) else {
+    for (number, stamped) in source.messages.iter().enumerate() {
+        if !done.is_done {
             break;
-        };
+        }
+        ends.push(done.folder.moments())?;
         let Done { folder, is_done: _ } = done;
         done = go_on(alloc, folder, number as u64, stamped);
-        number += 1;
+    }
+    if done.is_done {
+        ends.push(done.folder.moments())?;
     }
     Ok(Life {
         folder: done.folder,
@@ -134,6 +135,7 @@ impl Life {
         path: Chosen,
         draft: Chosen,
     ) -> io::Result<bool> {
+        let moment = moment.min(self.folder.moments());
         let mut folder = MemoryFolder::new(alloc);
         if let Some(bytes) = self.folder.left_at(moment, PATH, path)? {
             put_file(&mut folder, PATH, &bytes)?;
@@ -152,6 +154,7 @@ impl Life {
         moment: usize,
         chosen: Chosen,
     ) -> io::Result<Left> {
+        let moment = moment.min(self.folder.moments());
         let steps = self.ends.iter().filter(|end| **end <= moment).count();
         let found = self.folder.left_at(moment, PATH, chosen)?;
         let left = self.judged(alloc, source, steps, found);

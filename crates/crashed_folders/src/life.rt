@@ -74,6 +74,16 @@ fn written(alloc: Global, folder: MemoryFolder, file: MemoryFile, header: Header
     }
 }
 
+// Gives a draft its recording's name, if it is this file still. Whether that succeeded.
+fn named<S: SystemFolder>(folder: &mut S, file: &S::LockedFile) -> bool {
+    match (folder.look_up(DRAFT), folder.identify(file)) {
+        (Ok(Some(named)), Ok(opened)) if named.identity == opened.identity => {
+            publish(folder, file, DRAFT, PATH).is_ok()
+        }
+        _ => false,
+    }
+}
+
 // Makes a recording, as a recorder does that finds none.
 fn make(alloc: Global, folder: MemoryFolder, header: Header) -> Done {
     let mut folder = folder;
@@ -85,7 +95,7 @@ fn make(alloc: Global, folder: MemoryFolder, header: Header) -> Done {
     };
     let mut done = written(alloc, folder, file, header);
     if done.is_done {
-        done.is_done = publish(&mut done.folder, &file, DRAFT, PATH).is_ok();
+        done.is_done = named(&mut done.folder, &file);
     } else {
         let _removed = done.folder.remove(DRAFT);
     }
