@@ -1,6 +1,6 @@
 -- The recordings that tests begin with.
 use Rattle.std.specs.Prelude.{◌≡◌}
-use Rattle.pixel_format.specs.declared.kind.Format.TheVariants.{One}
+use Rattle.terms.specs.declared.format.Format.TheVariants.{One}
 use Rattle.gated_journal.specs.Recording.{Head}
 
 -- a recording of a screen of one pixel, in format 1

@@ -33,7 +33,7 @@ pub trait Mark {
 
 impl Mark for Brand {
     ghost use Rattle.std.specs.Prelude.{[]};
-    ghost use Rattle.pixel_format.specs.declared.kind.Format.TheVariants.{One};
+    ghost use Rattle.terms.specs.declared.format.Format.TheVariants.{One};
     ghost use Rattle.book_tokens.specs.History.{no_book};
     ghost use Rattle.book_tokens.specs.Numbers.{no_table};
 

@@ -5,9 +5,10 @@ ghost use Rattle.book_tokens.specs.Numbers.{giver, holder, times, IsHolder, both
 
 use crate::mark::Mark;
 use atomic_table::{Join, Play, Seat, Split, Table, TableRule};
-use std::alloc::{AllocError, Global};
+use std::alloc::Global;
 use std::collections::LinkedList;
 use std::marker::{Model, PhantomData};
+use terms::NoMemory;
 
 /// What a seat knows: whether it gives numbers, the next one, and those that it holds. No value of it
 /// is made.
@@ -95,7 +96,7 @@ pub struct Counter {
 
 impl Counter {
     /// One that gives 0 first; its one word takes memory.
-    pub fn new(alloc: Global) -> Result<Counter, AllocError> {
+    pub fn new(alloc: Global) -> Result<Counter, NoMemory> {
         let (table, seat) = Table::of_words(alloc, &[0], &())?;
         Ok(Counter { table, seat })
     }

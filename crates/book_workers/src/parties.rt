@@ -1,7 +1,7 @@
 //! Those that the workers work for: what gives a host's messages, and what takes receipts.
 
 ghost use Rattle.std.specs.Prelude.{◌≡◌, ◌<◌, ◌^◌, ◌+◌, IfSome, length, true, false};
-ghost use Rattle.shared_book.specs.Receipts.{IsOfSize, has_start};
+ghost use Rattle.shared_book.specs.Receipts.{IsOfScreen, IsOfSize, has_start};
 ghost use Rattle.book_workers.specs.Accounts.{IsSettled, after_next, after_ticket};
 ghost use Rattle.book_workers.specs.Wishes.{fresh_after, position_after};
 
@@ -27,16 +27,11 @@ pub trait Turnstile {
 /// What gives a host's messages, each with its time in milliseconds, and takes their tickets. One in
 /// memory may keep account of both, and is modelled then; what stands over a socket isn't.
 pub trait HostSource<T>: Drop {
-    ghost use Rattle.std.specs.Prelude.{ℕ};
-    ghost use Rattle.pixel_format.specs.declared.kind.Format.{Format};
+    ghost use Rattle.terms.specs.declared.format.RecordedScreen.{RecordedScreen};
     ghost use Rattle.shared_book.specs.Receipts.{Accepted};
     ghost use Rattle.book_workers.specs.Accounts.{Account};
 
-    ghost format: { Self → Format };
-
-    ghost width: { Self → ℕ };
-
-    ghost height: { Self → ℕ };
+    ghost screen: { Self → RecordedScreen };
 
     ghost is_modelled: { Type 0 };
 
@@ -48,14 +43,14 @@ pub trait HostSource<T>: Drop {
     /// before the ticket of each message that was given is told.
     fn next(&mut self) -> Option<Stamped>
         requires settled { is_modelled → IsSettled (account self.old) }
-        ensures sized { IfSome result (λ r. (r.message.format ≡ format self.old) × (r.message.width ≡ width self.old) × (r.message.height ≡ height self.old)) }
-        ensures screen { (format self.new ≡ format self.old) × (width self.new ≡ width self.old) × (height self.new ≡ height self.old) }
+        ensures sized { IfSome result (λ r. IsOfScreen (screen self.old) r.message) }
+        ensures stays { screen self.new ≡ screen self.old }
         ensures given { is_modelled → account self.new ≡ after_next result (account self.old) };
 
     /// Takes the ticket of the message that was given last.
     fn accepted(&mut self, ticket: T)
         requires settled { is_modelled → IsSettled (after_ticket (ticket_of ticket) (account self.old)) }
-        ensures screen { (format self.new ≡ format self.old) × (width self.new ≡ width self.old) × (height self.new ≡ height self.old) }
+        ensures stays { screen self.new ≡ screen self.old }
         ensures told { is_modelled → account self.new ≡ after_ticket (ticket_of ticket) (account self.old) };
 }
 
@@ -114,11 +109,10 @@ pub enum ViewerWish {
 /// ending says that the sink has all.
 pub trait ViewerSink<T, E>: Drop {
     ghost use Rattle.std.specs.Prelude.{ℕ, Bool};
+    ghost use Rattle.terms.specs.declared.screen_size.ScreenSize.{ScreenSize};
     ghost use Rattle.replay.specs.declared.slice.Slice.{Slice};
 
-    ghost width: { Self → ℕ };
-
-    ghost height: { Self → ℕ };
+    ghost size: { Self → ScreenSize };
 
     ghost position: { Self → ℕ };
 
@@ -137,23 +131,23 @@ pub trait ViewerSink<T, E>: Drop {
     /// Takes word of its seat, at first and at each `Newest`: it stands after so many messages
     /// then, without a screen.
     fn seated(&mut self, count: u64)
-        ensures size { (width self.new ≡ width self.old) × (height self.new ≡ height self.old) }
+        ensures size { size self.new ≡ size self.old }
         ensures moved { position self.new ≡ count }
         ensures bare { fresh self.new ≡ true };
 
     /// What it wants. At `Seek` it stands after so many messages from then on, without a screen.
     fn wish(&mut self) -> ViewerWish
-        ensures size { (width self.new ≡ width self.old) × (height self.new ≡ height self.old) }
+        ensures size { size self.new ≡ size self.old }
         ensures moved { position self.new ≡ position_after result (position self.old) }
         ensures bare { fresh self.new ≡ fresh_after result (fresh self.old) };
 
     /// Takes a receipt, and stands at its end then, with a screen.
     fn slice(&mut self, receipt: T)
-        requires sized { IsOfSize (width self.old) (height self.old) (slice_of receipt) }
+        requires sized { IsOfSize (size self.old) (slice_of receipt) }
         requires stands { (slice_of receipt).first ≡ position self.old }
         requires start { has_start (slice_of receipt) ≡ fresh self.old }
         requires room { (slice_of receipt).first + length (slice_of receipt).messages.items < 2 ^ 64 }
-        ensures size { (width self.new ≡ width self.old) × (height self.new ≡ height self.old) }
+        ensures size { size self.new ≡ size self.old }
         ensures moved { position self.new ≡ (slice_of receipt).first + length (slice_of receipt).messages.items }
         ensures shown { fresh self.new ≡ false };
 
@@ -163,20 +157,20 @@ pub trait ViewerSink<T, E>: Drop {
     fn end(&mut self, ending: E)
         requires all { count_of ending ≡ position self.old }
         requires shown { fresh self.old ≡ false }
-        ensures size { (width self.new ≡ width self.old) × (height self.new ≡ height self.old) }
+        ensures size { size self.new ≡ size self.old }
         ensures stays { (position self.new ≡ position self.old) × (fresh self.new ≡ fresh self.old) };
 
     /// Takes word that memory ran out, so that nothing is handed to it; it is asked again a
     /// little later.
     fn shortage(&mut self)
-        ensures size { (width self.new ≡ width self.old) × (height self.new ≡ height self.old) }
+        ensures size { size self.new ≡ size self.old }
         ensures stays { (position self.new ≡ position self.old) × (fresh self.new ≡ fresh self.old) }
     {}
 
     /// Takes word that the device failed, so that nothing is handed to it: whether it is asked
     /// again. Its worker ends if it isn't.
     fn device_failed(&mut self) -> bool
-        ensures size { (width self.new ≡ width self.old) × (height self.new ≡ height self.old) }
+        ensures size { size self.new ≡ size self.old }
         ensures stays { (position self.new ≡ position self.old) × (fresh self.new ≡ fresh self.old) }
     {
         false

@@ -1,12 +1,12 @@
 //! The seats of a desk.
 
 ghost use Rattle.std.specs.Prelude.{◌≡◌, ◌<◌, List, Option, IfSome, MatchOption, Some, None, length};
-ghost use Rattle.pixel_format.specs.Limits.{limits};
+ghost use Rattle.terms.specs.Limits.{limits};
 
 use crate::seat::Cursor;
 use arrayvec::ArrayVec;
-use pixel_format::Format;
 use std::marker::Model;
+use terms::Format;
 
 // The most seats that any format allows: written out, since a type's length takes no call.
 const MOST_SEATS: usize = 256;

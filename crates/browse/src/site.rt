@@ -6,13 +6,13 @@ use crate::answer::{Head, write_failure, write_fault, write_head, write_text};
 use crate::lobby::Lobby;
 use crate::page::{PAGE, SCRIPT, STYLE};
 use crate::request::{Asked, Judged};
-use file_commands::{Ended, Moment, Stretch, StretchSink, SurveyFault, screen_of, survey};
+use file_commands::{Ended, Moment, Stretch, StretchSink, screen_of, survey};
 use file_disk::FileDisk;
 use key_index::Indexed;
 use painter::Screen;
 use pictures::{PictureFormat, png_length, write_picture};
 use refusals::Refusal;
-use replay::ReplayFault;
+use replay::{OutputFault, ReplayFault};
 use sockets::Bell;
 use std::alloc::Global;
 use std::io;
@@ -59,7 +59,7 @@ impl<W: Write> StretchSink for Members<'_, W> {
 
 // What a page has to know of a recording, as JSON: its size, how many messages it has, its length
 // and how long a stretch is, both in milliseconds, and each stretch in which something came.
-fn write_times<W: Write>(index: &mut Indexed<FileDisk>, out: &mut W) -> Result<(), SurveyFault> {
+fn write_times<W: Write>(index: &mut Indexed<FileDisk>, out: &mut W) -> Result<(), OutputFault> {
     let ScreenSize { width, height } = index.header().size();
     let (messages, end) = (index.committed(), index.last_time());
     let every = end / MOST_STRETCHES + 1;

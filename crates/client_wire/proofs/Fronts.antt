@@ -2,9 +2,9 @@
 use Rattle.std.proofs.Common.{◌≡◌, ℕ, ◌*◌, List, drop, refl, slice_index}
 use Rattle.std.specs.Prelude.{Option, Result, Ok, Err}
 use Rattle.terms.proofs.Readings.{bind_got}
-use Rattle.terms.specs.declared.format_fault.FormatFault.{FormatFault}
+use Rattle.terms.specs.declared.pixel_format_fault.PixelFormatFault.{PixelFormatFault}
 use Rattle.pixel_format.specs.Format.{Format}
-use Rattle.terms.specs.Reading.{Got, More, Bad, field}
+use Rattle.terms.specs.Reading.{Got, More, field}
 use Rattle.pixel_format.specs.Written.{format_at, is_flag}
 use Rattle.terms.specs.Area.{area_at}
 use Rattle.terms.specs.Number.{u16_at, u32_at}
@@ -100,7 +100,7 @@ unless_memory_map (faults.BadFormat e) P Q m p = m p
 unless_memory_map faults.NoMemory P Q m p = tt
 
 -- no input message is a format, a list of encodings or a request
-judged_never : (r : Result Format FormatFault) (after : List ℕ) (type : ClientMessageType) (rest : List ℕ) → judged r after ≡ Got (messages.Input type) rest → ⊥
+judged_never : (r : Result Format PixelFormatFault) (after : List ℕ) (type : ClientMessageType) (rest : List ℕ) → judged r after ≡ Got (messages.Input type) rest → ⊥
 judged_never (Ok f) after type rest e = absurd (cc)
 judged_never (Err g) after type rest e = absurd (cc)
 

@@ -4,7 +4,7 @@ use Rattle.std.specs.Prelude.{Option, Some, None, Result, Ok, Err, ◌++◌}
 use Rattle.terms.specs.Reading.{Reading, Got, ◌>>=◌, field, Extends, IsLocal}
 use Rattle.pixel_format.specs.Format.{Format}
 use Rattle.pixel_format.specs.Written.{format_at, is_flag}
-use Rattle.terms.specs.declared.format_fault.FormatFault.{FormatFault}
+use Rattle.terms.specs.declared.pixel_format_fault.PixelFormatFault.{PixelFormatFault}
 use Rattle.terms.proofs.Readings.{field_local, bind_local}
 use Rattle.terms.specs.Area.{area_at}
 use Rattle.terms.specs.Number.{u16_at, u32_at}
@@ -16,7 +16,7 @@ use Rattle.terms.specs.declared.wire_fault.WireFault.{WireFault}
 use Rattle.client_wire.specs.MessageType.{type_of}
 use Rattle.client_wire.specs.Grammar.{judged, set_pixel_format_at, numbers_of, encodings_at, set_encodings_at, request_at, input_at, cut_text_at, body_at, typed_at, message_at}
 
-judged_local : (r : Result Format FormatFault) (rest more : List ℕ) → Extends (judged r rest) more (judged r (rest ++ more))
+judged_local : (r : Result Format PixelFormatFault) (rest more : List ℕ) → Extends (judged r rest) more (judged r (rest ++ more))
 judged_local (Ok f) rest more = refl
 judged_local (Err e) rest more = refl
 

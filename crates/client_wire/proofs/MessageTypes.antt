@@ -1,5 +1,5 @@
 -- Types and their numbers.
-use Rattle.std.proofs.Common.{◌≡◌, ℕ, nat_eq, inl, inr, eqb-true, Option, Some, refl, sym, ap, ◌∙◌}
+use Rattle.std.proofs.Common.{◌≡◌, ℕ, nat_eq, inl, inr, eqb-true, Some, refl, sym, ap, ◌∙◌}
 use Rattle.terms.proofs.Readings.{true_or_false}
 use Rattle.client_wire.specs.declared.message_type.ClientMessageType.{ClientMessageType}
 use Rattle.client_wire.specs.declared.message_type.ClientMessageType.TheVariants as types

@@ -7,7 +7,7 @@ use Rattle.terms.proofs.Readings.{bind_got, field_got, field-whole, field_front,
 use Rattle.pixel_format.proofs.Valid.{accepted_is, is_accepted, flag_some}
 use Rattle.pixel_format.specs.Format.{Format}
 use Rattle.pixel_format.specs.Written.{format_at, is_flag}
-use Rattle.terms.specs.declared.format_fault.FormatFault.{FormatFault}
+use Rattle.terms.specs.declared.pixel_format_fault.PixelFormatFault.{PixelFormatFault}
 use Rattle.terms.specs.declared.area.Area.{Area}
 use Rattle.terms.specs.Area.{area_at}
 use Rattle.terms.specs.Number.{u16_at, u32_at}
@@ -28,7 +28,7 @@ last_field n bytes f rest e none =
     let is = field_front n bytes f rest (field_got n bytes f rest e) in
     (is.0 ∙ ap (λ z. f ++ z) none ∙ append-nil f, is.1)
 
-judged_got : (r : Result Format FormatFault) (rest : List ℕ) (m : ClientMessage) → judged r rest ≡ Got m []
+judged_got : (r : Result Format PixelFormatFault) (rest : List ℕ) (m : ClientMessage) → judged r rest ≡ Got m []
     → (f : Format) × (r ≡ Ok f) × (messages.SetPixelFormat f ≡ m) × (rest ≡ [])
 judged_got (Ok f) rest m e =
     let is : messages.SetPixelFormat f ≡ m = cc in

@@ -5,7 +5,7 @@ use Rattle.std.specs.Prelude.{ℕ, ℤ, ◌*◌, List, [], ◌∷◌, drop, slic
 use Rattle.terms.specs.Reading.{Reading, Got, Bad, ◌>>=◌, field}
 use Rattle.pixel_format.specs.Format.{Format}
 use Rattle.pixel_format.specs.Written.{format_at, is_flag}
-use Rattle.terms.specs.declared.format_fault.FormatFault.{FormatFault}
+use Rattle.terms.specs.declared.pixel_format_fault.PixelFormatFault.{PixelFormatFault}
 use Rattle.terms.specs.Area.{area_at}
 use Rattle.terms.specs.Number.{u16_at, u32_at}
 use Rattle.terms.specs.Number.{signed}
@@ -18,7 +18,7 @@ use Rattle.terms.specs.declared.wire_fault.WireFault.TheVariants as faults
 use Rattle.client_wire.specs.MessageType.{type_of}
 
 -- a format that is valid, or the first test that it fails
-abbrev pub judged : Result Format FormatFault → List ℕ → Reading ClientMessage WireFault
+abbrev pub judged : Result Format PixelFormatFault → List ℕ → Reading ClientMessage WireFault
 judged (Ok f) rest = Got (messages.SetPixelFormat f) rest
 judged (Err e) rest = Bad (faults.BadFormat e)
 

@@ -8,8 +8,8 @@ ghost use Rattle.client_wire.specs.Grammar.{judged, numbers_of};
 
 use crate::message::{ClientMessage, Encodings};
 use pixel_format::PixelFormat;
-use std::alloc::{AllocError, Global};
-use terms::{Area, WireFault, read_u32};
+use std::alloc::Global;
+use terms::{Area, NoMemory, WireFault, read_u32};
 
 /// The message of the field after the type of a SetPixelFormat (RFC 6143, section 7.5.1).
 pub fn pixel_format_in(field: &[u8]) -> Result<ClientMessage, WireFault>
@@ -28,7 +28,7 @@ pub fn pixel_format_in(field: &[u8]) -> Result<ClientMessage, WireFault>
 }
 
 /// The numbers of the encodings of a SetEncodings (RFC 6143, section 7.5.2).
-pub fn encodings_in(alloc: Global, field: &[u8]) -> Result<Encodings, AllocError>
+pub fn encodings_in(alloc: Global, field: &[u8]) -> Result<Encodings, NoMemory>
     ensures { IfOk result (λ e. e ≡ numbers_of field.now) }
 {
     let mut numbers = Vec::new(alloc);

@@ -4,12 +4,12 @@ use crate::numbers::{if_given, number, thousandths, within};
 use crate::wrong::{MOMENT, SECONDS, Wrong, word};
 use browse::Browsing;
 use clap::ArgMatches;
-use pixel_format::Format;
 use playing::Pace;
 use reception::Stop;
 use serve_plan::{Audience, Origin, Plan, Playing};
 use spelling::moment;
 use telling::Told;
+use terms::Format;
 
 fn stop(matches: &ArgMatches<'_>) -> Result<Stop, Wrong> {
     let after = if_given(matches.get_str("SECONDS").map(number));

@@ -2,6 +2,7 @@
 
 ghost use Rattle.std.specs.Prelude.{◌≡◌, ◌<◌, [], None, IfNone, IfSome, length};
 ghost use Rattle.host_stream.specs.Streams.{HasRead, GivesAll, GivesNext};
+ghost use Rattle.shared_book.specs.Receipts.{IsOfScreen, screen_of};
 
 use crate::clock::Stopwatch;
 use crate::limits::{HANDSHAKE, REQUEST};
@@ -10,7 +11,6 @@ use book_workers::HostSource;
 use host_session::HostFault;
 use host_stream::{HostEnd, HostStream, Next};
 use key_index::Stamped;
-use pixel_format::Format;
 use rfb_wire::HostMessage;
 use shared_book::{Mark, Ticket};
 use sockets::{pause, time_left, watch_over, write_within};
@@ -20,7 +20,7 @@ use std::sync::{Mutex, Wait};
 use std::time::{Clock, Instant};
 use std::{io, thread};
 use telling::{Event, Telling};
-use terms::ScreenSize;
+use terms::{Format, ScreenSize};
 use thiserror::Error;
 
 /// How many bytes are read at a time.
@@ -269,12 +269,9 @@ impl<'a, M: Mark, R: Clock + Wait> Messages<'a, M, R> {
 
 impl<'a, M: Mark, R: Clock + Wait> HostSource<Ticket<M>> for Messages<'a, M, R> {
     ghost use Rattle.std.specs.Prelude.{[], false};
+    ghost use Rattle.shared_book.specs.Receipts.{IsOfScreen, screen_of};
 
-    ghost format = { λ m. M.head.format };
-
-    ghost width = { λ m. M.head.width };
-
-    ghost height = { λ m. M.head.height };
+    ghost screen = { λ m. screen_of M.head };
 
     ghost is_modelled = { ⊥ };
 
@@ -283,8 +280,8 @@ impl<'a, M: Mark, R: Clock + Wait> HostSource<Ticket<M>> for Messages<'a, M, R> 
     ghost ticket_of = { λ t. t };
 
     fn next(&mut self) -> Option<Stamped>
-        ensures sized { IfSome result (λ r. (r.message.format ≡ M.head.format) × (r.message.width ≡ M.head.width) × (r.message.height ≡ M.head.height)) }
-        ensures screen { (M.head.format ≡ M.head.format) × (M.head.width ≡ M.head.width) × (M.head.height ≡ M.head.height) }
+        ensures sized { IfSome result (λ r. IsOfScreen (screen_of M.head) r.message) }
+        ensures stays { screen_of M.head ≡ screen_of M.head }
         ensures next { IfSome result (λ r. GivesNext self.old.host.value.stream self.new.host.value.stream r.message) }
     {
         match self.host.next(self.rt, self.room) {

@@ -1,11 +1,11 @@
 //! What the threads of a recorder share beside its book.
 
 ghost use Rattle.std.specs.Prelude.{◌≡◌, ◌<◌, ◌^◌, IsTrue, length};
+ghost use Rattle.shared_book.specs.Receipts.{IsOfRecording, screen_of, size_of};
 
 use crate::guest::Guest;
 use broadcast::Start;
 use file_disk::LastError;
-use pixel_format::RecordedScreen;
 use playing::Program;
 use reception::{Arrival, Backlog, Reason, Reception, Term};
 use rfb_wire::HostMessage;
@@ -18,6 +18,7 @@ use std::sync::atomic::{AtomicBool, AtomicU64, Ordering};
 use std::sync::{Condvar, Mutex, Wait};
 use std::time::{Clock, Duration, Instant};
 use telling::{Answering, Event, Silence, Telling};
+use terms::RecordedScreen;
 
 /// The position at which viewers begin in a recording that is open, and how it is played.
 #[derive(Clone, Copy, Debug, PartialEq, Eq)]
@@ -249,7 +250,7 @@ pub struct Room<M: Mark> {
     is_unreadable: AtomicBool,
     is_stopped: AtomicBool,
     of: PhantomData<M>,
-    ghost sized: { (screen.format ≡ M.head.format) × (screen.size.width ≡ M.head.width) × (screen.size.height ≡ M.head.height) },
+    ghost sized: { screen ≡ screen_of M.head },
     ghost named: { length name.items < 2 ^ 32 },
 }
 
@@ -269,7 +270,7 @@ impl<M: Mark> Room<M> {
         device: Device,
         committed: u64,
     ) -> Room<M>
-        requires sized { (screen.format ≡ M.head.format) × (screen.size.width ≡ M.head.width) × (screen.size.height ≡ M.head.height) }
+        requires sized { screen ≡ screen_of M.head }
         requires named { length name.items < 2 ^ 32 }
     {
         Room {
@@ -298,14 +299,14 @@ impl<M: Mark> Room<M> {
 
     /// Whether a message is for this recording: of its size and format.
     pub fn is_for(&self, message: &HostMessage) -> bool
-        ensures { IsTrue result → (message.now.format ≡ M.head.format) × (message.now.width ≡ M.head.width) × (message.now.height ≡ M.head.height) }
+        ensures { IsTrue result → IsOfRecording M.head message.now }
     {
         message.size() == self.screen.size && message.format() == self.screen.format
     }
 
     /// Whether a guest was told of the recording's size.
     pub fn fits<C: Connection>(&self, guest: &Guest<C>) -> bool
-        ensures { IsTrue result → (guest.now.size.width ≡ M.head.width) × (guest.now.size.height ≡ M.head.height) }
+        ensures { IsTrue result → guest.now.size ≡ size_of M.head }
     {
         guest.size == self.screen.size
     }

@@ -1,7 +1,7 @@
 //! A viewer, which two threads share.
 
 ghost use Rattle.std.specs.Prelude.{◌≡◌, ◌<◌, ◌^◌, ◌+◌, length};
-ghost use Rattle.shared_book.specs.Receipts.{IsOfSize};
+ghost use Rattle.shared_book.specs.Receipts.{IsOfSize, size_of};
 
 use crate::guest::Guest;
 use crate::limits::{ANSWER, FAREWELL, HANDSHAKE};
@@ -72,7 +72,7 @@ impl<M: Mark> Talk<M> {
 
     // Goes on by a slice that begins at the session's position, or has a start: whether it does.
     fn advance(&mut self, slice: &Slice) -> bool
-        requires sized { IsOfSize M.head.width M.head.height slice.now }
+        requires sized { IsOfSize (size_of M.head) slice.now }
         requires room { slice.now.first + length slice.now.messages.items < 2 ^ 64 }
     {
         if slice.start.is_none() && slice.first != self.session.position() {
@@ -144,7 +144,7 @@ impl<M: Mark, C: Connection> Viewer<M, C> {
     /// The viewer that a guest becomes, whose handshake is whole, and who was told of the recording's
     /// size.
     pub fn of(guest: Guest<C>) -> Viewer<M, C>
-        requires size { (guest.size.width ≡ M.head.width) × (guest.size.height ≡ M.head.height) }
+        requires size { guest.size ≡ size_of M.head }
     {
         let Guest {
             alloc,
@@ -198,7 +198,7 @@ impl<M: Mark, C: Connection> Viewer<M, C> {
 
     /// Goes on by a slice, and answers what is due.
     pub fn show<R: Clock + Wait>(&self, rt: &R, slice: &Slice)
-        requires sized { IsOfSize M.head.width M.head.height slice.now }
+        requires sized { IsOfSize (size_of M.head) slice.now }
         requires room { slice.now.first + length slice.now.messages.items < 2 ^ 64 }
     {
         let mut talk = self.talk.lock(rt);

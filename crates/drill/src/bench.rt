@@ -9,11 +9,10 @@ use drill_script::{Line, LineFault, read_line};
 use flusher_core::Book;
 use gated_journal::{CreateFault, Header, Refused};
 use key_index::IndexFault;
-use pixel_format::Format;
 use std::alloc::{AllocError, Global};
 use std::io::{BufRead, BufReader, Read, Write};
 use std::{io, mem};
-use terms::ScreenSize;
+use terms::{Format, ScreenSize};
 
 /// What a drill has: nothing before the first `new`, then a disk, and a desk on it unless `new` or
 /// `open` was refused. The desk is boxed, since it is large.

@@ -64,7 +64,7 @@ fn step_of(alloc: Global, desk: &Desk<FusedDisk>, line: DeskLine) -> Result<Step
         DeskLine::Host { time, bytes } => {
             match HostMessage::from_bytes_in(alloc, desk.header().screen(), &bytes) {
                 Ok(message) => Step::Host(time, message),
-                Err(fault) => return Err(Answer::Refused("bytes", u64::from(fault.number()))),
+                Err(fault) => return Err(Answer::Refused("bytes", fault.number())),
             }
         }
         DeskLine::Take => Step::Take,

@@ -4,8 +4,8 @@ use Rattle.std.specs.Char.{is_ascii_digit, IsAsciiDigit}
 use Rattle.std.specs.List.{AllByRecursion, concat, list_all, list_any}
 use Rattle.std.proofs.lemmas.Bool.{lt-ltb, ne_eqb, or_from}
 use Rattle.std.proofs.lemmas.Bool.Decides.{nat_tests}
-use Rattle.pixel_format.specs.declared.kind.Format.{Format}
-use Rattle.pixel_format.specs.declared.kind.Format.TheVariants.{One, Two}
+use Rattle.terms.specs.declared.format.Format.{Format}
+use Rattle.terms.specs.declared.format.Format.TheVariants.{One, Two}
 use Rattle.drill_script.specs.Grammar.{Command, NewCommand, HostCommand, TakeCommand, BodyCommand, GateCommand, OpenCommand, PixelCommand, FailCommand, StopCommand, JoinCommand, NextCommand, SeekCommand, LeaveCommand, IsNumber, IsName, IsHex, IsFill, IsStart, Says}
 use Rattle.terms.specs.Decimal.{decimal, number_of}
 use Rattle.drill_script.specs.Reading.{number_at, name_at, joined_at, hex_at, kind_by, new_at, host_at, pixel_at, fill_of, start_of, read_at, one_at, two_at, command_at}

@@ -16,8 +16,8 @@ use Rattle.drill_script.specs.declared.line.Start.TheVariants as starts
 use Rattle.hex.specs.declared.error.FromHexError.{FromHexError}
 use Rattle.drill_script.specs.declared.words.Kind.{Kind}
 use Rattle.drill_script.specs.declared.words.Kind.TheVariants as kind
-use Rattle.pixel_format.specs.declared.kind.Format.{Format}
-use Rattle.pixel_format.specs.declared.kind.Format.TheVariants.{One, Two}
+use Rattle.terms.specs.declared.format.Format.{Format}
+use Rattle.terms.specs.declared.format.Format.TheVariants.{One, Two}
 use Rattle.drill_script.specs.Grammar.{Command, new_word, NewCommand, HostCommand, TakeCommand, BodyCommand, GateCommand, OpenCommand, PixelCommand, FailCommand, StopCommand, JoinCommand, NextCommand, SeekCommand, LeaveCommand, IsNumber, IsName, IsHex, IsFill, IsStart, Says}
 use Rattle.terms.specs.Decimal.{decimal, number_of}
 use Rattle.drill_script.specs.Reading.{◌>>=◌, word_at, number_at, name_at, joined_at, spelled_by, hex_at, kind_by, kind_among, kinds, keyword, new_at, host_at, pixel_at, byte_told, fill_of, start_of, read_at, one_at, two_at, rest_at, ended, command_at}

@@ -4,8 +4,8 @@ use Rattle.std.specs.List.{AllByRecursion, before_first, concat, join_with_byte}
 use Rattle.std.specs.Char.{IsAsciiDigit}
 use Rattle.hex.specs.Hex.{decode_of, decode_sized}
 use Rattle.terms.specs.Decimal.{decimal}
-use Rattle.pixel_format.specs.declared.kind.Format.{Format}
-use Rattle.pixel_format.specs.declared.kind.Format.TheVariants.{One, Two}
+use Rattle.terms.specs.declared.format.Format.{Format}
+use Rattle.terms.specs.declared.format.Format.TheVariants.{One, Two}
 use Rattle.drill_script.specs.declared.line.Fill.{Fill}
 use Rattle.drill_script.specs.declared.line.Fill.TheVariants as fill
 use Rattle.drill_script.specs.declared.line.Start.{Start}

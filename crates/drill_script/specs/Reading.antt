@@ -15,8 +15,8 @@ use Rattle.drill_script.specs.declared.line.Start.TheVariants as starts
 use Rattle.drill_script.specs.declared.line.Line.{Line}
 use Rattle.drill_script.specs.Grammar.{Command, command_of, NewCommand, HostCommand, TakeCommand, BodyCommand, GateCommand, OpenCommand, PixelCommand, FailCommand, StopCommand, JoinCommand, NextCommand, SeekCommand, LeaveCommand}
 use Rattle.terms.specs.Decimal.{number_of}
-use Rattle.pixel_format.specs.declared.kind.Format.{Format}
-use Rattle.pixel_format.specs.declared.kind.Format.TheVariants.{One, Two}
+use Rattle.terms.specs.declared.format.Format.{Format}
+use Rattle.terms.specs.declared.format.Format.TheVariants.{One, Two}
 
 -- What a call that takes no memory answered, seen by view, and the words that it left, are what
 -- reading gives.

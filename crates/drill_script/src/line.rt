@@ -1,7 +1,6 @@
 //! What a line says.
 
-use pixel_format::Format;
-use terms::ScreenSize;
+use terms::{Format, ScreenSize};
 
 /// What a stop leaves of the bytes that were not synced.
 #[derive(Clone, Copy, Debug, PartialEq, Eq)]

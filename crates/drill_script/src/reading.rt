@@ -9,9 +9,8 @@ ghost use Rattle.drill_script.specs.Reading.{parts, Reads, ReadsInMemory, GivesL
 use crate::fault::LineFault;
 use crate::line::{DeskLine, Fill, Line, Start};
 use crate::words::{Kind, Words, kind_of};
-use pixel_format::Format;
 use std::alloc::Global;
-use terms::{ScreenSize, decimal_number};
+use terms::{Format, ScreenSize, decimal_number};
 
 #[tactic(auto, unfolding(crate::specs::Reading::read_at))]
 fn u64_word(words: &mut Words) -> Result<u64, LineFault>

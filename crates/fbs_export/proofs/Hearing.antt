@@ -7,7 +7,7 @@ use Rattle.terms.proofs.Readings.{field-short}
 use Rattle.terms.proofs.Lacks.{unless_other}
 use Rattle.client_wire.specs.Stream.{Part, bytes_of, IsPart, Reads, FaultOf, Goes, Stops, StandsFor, given_of}
 use Rattle.client_wire.proofs.Streams.{flat_append, all_append, gives_none, waits_begins_none, empty_list}
-use Rattle.pixel_format.specs.declared.kind.Format.TheVariants.{Two}
+use Rattle.terms.specs.declared.format.Format.TheVariants.{Two}
 use Rattle.rfb_wire.specs.Grammar.{message_at, message_limit, Message}
 use Rattle.rfb_wire.specs.Host.{Host}
 use Rattle.rfb_wire.specs.Reader.{Reader}

@@ -5,8 +5,8 @@ use Rattle.std.proofs.lemmas.Bool.{cases_lt, le-ltb}
 use Rattle.std.proofs.lemmas.List.{drop-append-le}
 use Rattle.terms.specs.Reading.{Reading, Got, More, Bad, ◌>>=◌, field, guard, IsLocal}
 use Rattle.terms.specs.Number.{u16_at, u32_at}
-use Rattle.pixel_format.specs.declared.kind.Format.TheVariants.{Two}
-use Rattle.pixel_format.specs.Limits.{limits, is_size}
+use Rattle.terms.specs.declared.format.Format.TheVariants.{Two}
+use Rattle.terms.specs.Limits.{limits, is_size}
 use Rattle.terms.proofs.Readings.{bind_got, bind_local, field-whole, field_got, field_local, guard_local}
 use Rattle.terms.specs.declared.wire_fault.WireFault.{WireFault}
 use Rattle.std.specs.Str.{bytes_eq}

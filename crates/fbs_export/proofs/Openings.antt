@@ -9,9 +9,9 @@ use Rattle.terms.specs.Number.{u16_at, u16_bytes}
 use Rattle.terms.specs.Number.{u32_bytes}
 use Rattle.gated_journal.specs.Recording.{Head, IsHead}
 use Rattle.fbs_export.specs.declared.fault.FbsFault.{FbsFault}
-use Rattle.pixel_format.specs.declared.kind.Format.TheVariants.{Two}
-use Rattle.pixel_format.specs.Limits.{limits, IsSize}
-use Rattle.pixel_format.proofs.Sizes.{size_is, size_in_two}
+use Rattle.terms.specs.declared.format.Format.TheVariants.{Two}
+use Rattle.terms.specs.Limits.{limits, IsSize}
+use Rattle.terms.proofs.Sizes.{size_is, size_in_two}
 use Rattle.fbs_export.specs.Opening.{opening_at, security_then, size_then, format_then, name_at, named, is_host, version}
 use Rattle.fbs_export.specs.Export.{opening_text}
 use Rattle.fbs_export.proofs.Blocks.{number_again}

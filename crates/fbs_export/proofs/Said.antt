@@ -8,7 +8,7 @@ use Rattle.std.specs.List.{flat_map, AllByRecursion}
 use Rattle.terms.specs.Reading.{Got}
 use Rattle.pixel_format.specs.Canvas.{Picture}
 use Rattle.client_wire.specs.Stream.{Part, IsPart, bytes_of}
-use Rattle.pixel_format.specs.declared.kind.Format.TheVariants.{Two}
+use Rattle.terms.specs.declared.format.Format.TheVariants.{Two}
 use Rattle.rfb_wire.specs.Grammar.{message_at, message_limit, Message, Recorded}
 use Rattle.rfb_wire.specs.Host.{host_of}
 use Rattle.rfb_wire.specs.declared.message.Rectangle.{Rectangle}

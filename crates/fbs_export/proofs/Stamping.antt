@@ -7,7 +7,7 @@ use Rattle.std.proofs.Math.Seq.{drop-append-add}
 use Rattle.terms.specs.Reading.{More}
 use Rattle.client_wire.specs.Stream.{Part, bytes_of, IsPart, BeginsNone, given_of}
 use Rattle.client_wire.proofs.Streams.{waits_begins_none}
-use Rattle.pixel_format.specs.declared.kind.Format.TheVariants.{Two}
+use Rattle.terms.specs.declared.format.Format.TheVariants.{Two}
 use Rattle.rfb_wire.specs.Grammar.{message_at, message_limit, Message}
 use Rattle.rfb_wire.specs.Host.{Host}
 use Rattle.rfb_wire.specs.Stream.{given}

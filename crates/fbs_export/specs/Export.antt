@@ -4,7 +4,7 @@ use Rattle.std.specs.Prelude.{map}
 use Rattle.rfb_wire.specs.Host.{Host}
 use Rattle.fbs_export.specs.Summary.{Said}
 use Rattle.pixel_format.specs.declared.Color.{Color}
-use Rattle.pixel_format.specs.declared.kind.Format.TheVariants.{Two}
+use Rattle.terms.specs.declared.format.Format.TheVariants.{Two}
 use Rattle.pixel_format.specs.Canvas.{Picture}
 use Rattle.pixel_format.specs.Format.{host_format}
 use Rattle.pixel_format.specs.Written.{format_bytes}

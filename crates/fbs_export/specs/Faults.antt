@@ -6,6 +6,8 @@ use Rattle.fbs_export.specs.declared.fault.ExportFault.{ExportFault}
 use Rattle.fbs_export.specs.declared.fault.ExportFault.TheVariants as export
 use Rattle.fbs_export.specs.declared.fault.Stop.{Stop}
 use Rattle.fbs_export.specs.declared.fault.Stop.TheVariants as stops
+use Rattle.block_walk.specs.declared.faults.ReadFault.{ReadFault}
+use Rattle.block_walk.specs.declared.faults.ReadFault.TheVariants as read
 
 abbrev pub fbs_number : FbsFault → ℕ
 fbs_number fbs.NotFbs = 1
@@ -26,3 +28,8 @@ abbrev pub fault_of : Stop → ExportFault
 fault_of stops.Device = export.Device
 fault_of stops.NoMemory = export.NoMemory
 fault_of stops.Write = export.Write
+
+-- what ends an export, of which a message isn't read
+abbrev pub stop_of_read : ReadFault → Stop
+stop_of_read read.Device = stops.Device
+stop_of_read read.NoMemory = stops.NoMemory

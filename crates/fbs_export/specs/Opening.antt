@@ -6,8 +6,8 @@ use Rattle.std.specs.Str.{bytes_eq}
 use Rattle.terms.specs.Reading.{Reading, Got, ◌>>=◌, field, guard}
 use Rattle.pixel_format.specs.Written.{is_flag}
 use Rattle.terms.specs.Number.{u16_at, u32_at}
-use Rattle.pixel_format.specs.Limits.{limits, is_size}
-use Rattle.pixel_format.specs.declared.kind.Format.TheVariants.{Two}
+use Rattle.terms.specs.Limits.{limits, is_size}
+use Rattle.terms.specs.declared.format.Format.TheVariants.{Two}
 use Rattle.fbs_export.specs.declared.fault.FbsFault.{FbsFault}
 use Rattle.fbs_export.specs.declared.fault.FbsFault.TheVariants as faults
 

@@ -8,7 +8,7 @@ use Rattle.terms.specs.Reading.{Got, More, Bad}
 use Rattle.client_wire.specs.Stream.{Part, bytes_of, IsPart, Goes}
 use Rattle.terms.specs.declared.wire_fault.WireFault.TheVariants as wire
 use Rattle.terms.specs.declared.wire_fault.WireFault.{WireFault}
-use Rattle.pixel_format.specs.declared.kind.Format.TheVariants.{Two}
+use Rattle.terms.specs.declared.format.Format.TheVariants.{Two}
 use Rattle.rfb_wire.specs.Grammar.{message_at, message_limit, Message}
 use Rattle.rfb_wire.specs.Host.{Host}
 use Rattle.rfb_wire.specs.Reader.{Reader}

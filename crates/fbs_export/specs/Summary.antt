@@ -4,7 +4,7 @@ use Rattle.std.specs.Prelude.{◌≡◌, ◌≢◌, ◌⊎◌, ℕ, ◌-◌, Lis
 use Rattle.terms.specs.Reading.{Got, More, Bad}
 use Rattle.client_wire.specs.Stream.{Part, Reads, FaultOf}
 use Rattle.terms.specs.declared.wire_fault.WireFault.{WireFault}
-use Rattle.pixel_format.specs.declared.kind.Format.TheVariants.{Two}
+use Rattle.terms.specs.declared.format.Format.TheVariants.{Two}
 use Rattle.rfb_wire.specs.Grammar.{message_at, message_limit, Message}
 use Rattle.rfb_wire.specs.Host.{Host}
 use Rattle.rfb_wire.specs.Stream.{given}

@@ -16,7 +16,6 @@ use crate::judge::{NONE, VERSION};
 use crate::writing::{write_block, write_bytes};
 use client_wire::write_update_head;
 use disk::Disk;
-use gated_journal::ReadFault;
 use key_index::{Indexed, Stamped};
 use painter::Screen;
 use pixel_format::PixelFormat;
@@ -124,11 +123,7 @@ fn message_at<D: Disk>(index: &mut Indexed<D>, number: u64) -> Result<Stamped, S
     ensures only { OnlyReads D.is_modelled D.history index.old index.new }
     ensures cause { D.is_modelled → HasCause (D.failures index.old.disk) (D.failures index.new.disk) (IsErrOf result Stop.Device) }
 {
-    let mut messages = match index.read_from(number, 1) {
-        Ok(messages) => messages,
-        Err(ReadFault::Device) => return Err(Stop::Device),
-        Err(ReadFault::NoMemory) => return Err(Stop::NoMemory),
-    };
+    let mut messages = index.read_from(number, 1)?;
     let Some(stamped) = messages.pop() else {
         unreachable!()
     };

@@ -1,10 +1,11 @@
 //! Why nothing is exported, or nothing read, with the numbers that programs print.
 
 ghost use Rattle.std.specs.Prelude.{◌≡◌};
-ghost use Rattle.fbs_export.specs.Faults.{export_faults, fault_of, fbs_number};
+ghost use Rattle.fbs_export.specs.Faults.{export_faults, fault_of, fbs_number, stop_of_read};
 ghost use Rattle.fbs_export.specs.declared.fault.FbsFault.TheVariants.{NoMemory as FbsNoMemory};
 ghost use Rattle.fbs_export.specs.declared.fault.Stop.TheVariants.{NoMemory as StopNoMemory};
 
+use gated_journal::ReadFault;
 use std::alloc::AllocError;
 use terms::WireFault;
 use thiserror::Error;
@@ -43,7 +44,7 @@ pub enum FbsFault {
 
 impl FbsFault {
     /// The number that programs print.
-    pub fn number(self) -> u8
+    pub fn number(self) -> u64
         ensures { result ≡ fbs_number self }
     {
         match self {
@@ -92,10 +93,10 @@ impl ExportFault {
     ghost use Rattle.terms.specs.Fault.{IsNumber};
 
     /// The number that programs print.
-    pub fn number(self) -> u8
+    pub fn number(self) -> u64
         ensures { IsNumber export_faults self result }
     {
-        self as u8
+        self as u64
     }
 }
 
@@ -115,6 +116,17 @@ impl From<Stop> for ExportFault {
             Stop::Device => ExportFault::Device,
             Stop::NoMemory => ExportFault::NoMemory,
             Stop::Write => ExportFault::Write,
+        }
+    }
+}
+
+impl From<ReadFault> for Stop {
+    ghost from_gives = { λ read stop. stop ≡ stop_of_read read };
+
+    fn from(fault: ReadFault) -> Stop {
+        match fault {
+            ReadFault::Device => Stop::Device,
+            ReadFault::NoMemory => Stop::NoMemory,
         }
     }
 }

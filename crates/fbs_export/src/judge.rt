@@ -5,8 +5,7 @@ ghost use Rattle.fbs_export.specs.Judged.{IsJudged};
 ghost use Rattle.fbs_export.specs.Opening.{is_host, name_at, format_then, size_then, security_then, opening_at};
 
 use crate::fault::FbsFault;
-use pixel_format::Format;
-use terms::{ScreenSize, read_u16, read_u32};
+use terms::{Format, ScreenSize, read_u16, read_u32};
 
 /// The version of a file's stream.
 pub const VERSION: [u8; 12] = *b"RFB 003.003\n";

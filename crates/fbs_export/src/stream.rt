@@ -14,10 +14,9 @@ ghost use Rattle.rfb_wire.specs.Grammar.{message_at, message_limit};
 use crate::fault::FbsFault;
 use crate::opening::OpeningReader;
 use crate::tally::Tally;
-use pixel_format::{Format, RecordedScreen};
 use rfb_wire::{HostMessage, ServerReader};
 use std::alloc::Global;
-use terms::{NoMemory, ScreenSize, WireFault};
+use terms::{Format, NoMemory, RecordedScreen, ScreenSize, WireFault};
 
 /// What is read of a stream: its opening, and once this is whole, the messages after it, in format
 /// 2, which a tally is told. Those of the block that comes wait for its time.

@@ -7,11 +7,11 @@ use block_walk::{Hidden, hidden_after};
 use file_disk::FileDisk;
 use gated_journal::Header;
 use key_index::Indexed;
-use pixel_format::Format;
 use refusals::Refusal;
 use std::fmt;
 use std::fs::File;
 use std::rt::Files;
+use terms::Format;
 
 /// What follows the end of a recording, and doesn't count. Its text says how many bytes, and in
 /// format 2 if blocks among them go on with the digests.

@@ -4,12 +4,11 @@ use crate::command::Work;
 use crate::recording::open_recording;
 use crate::refusing::Ended;
 use crate::source_file::open_source;
-use pixel_format::Format;
 use spelling::Escaped;
 use std::fs::{File, TryLockError};
 use std::io::Write;
 use std::rt::Files;
-use terms::ScreenSize;
+use terms::{Format, ScreenSize};
 
 // Whether a recorder has a file locked, to write it. The lock that tells is given back at once.
 fn is_being_written(file: &File) -> bool {

@@ -32,5 +32,5 @@ pub use picturing::{Moment, Scene, screen_of};
 pub use recording::open_path;
 pub use refusing::{Ended, LeftOut, Refused, answer, refuse};
 pub use salvaging::Salvaging;
-pub use surveying::{Stretch, StretchSink, SurveyFault, survey};
+pub use surveying::{Stretch, StretchSink, survey};
 pub use timing::Timing;

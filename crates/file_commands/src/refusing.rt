@@ -1,11 +1,10 @@
 //! Why a command is refused, what the system said of it, and how that is told.
 
 use crate::file_fault::FileFault;
-use crate::surveying::SurveyFault;
 use file_disk::SystemError;
-use key_index::{IndexFault, Numbered};
-use pictures::FilmFault;
+use key_index::IndexFault;
 use refusals::{Refusal, write_refusal};
+use replay::OutputFault;
 use spelling::Escaped;
 use std::io::Write;
 use std::{fmt, io};
@@ -66,8 +65,8 @@ impl fmt::Display for LeftOut {
             after,
             fault,
         } = self;
-        let fault = Numbered(*fault);
-        write!(f, "left out {bytes} bytes after time {after}: {fault}")
+        let name = Refusal::Recording(*fault).name();
+        write!(f, "left out {bytes} bytes after time {after}: {name}")
     }
 }
 
@@ -122,20 +121,11 @@ impl From<io::Error> for Ended<'_> {
     }
 }
 
-impl From<SurveyFault> for Ended<'_> {
-    fn from(fault: SurveyFault) -> Self {
+impl From<OutputFault> for Ended<'_> {
+    fn from(fault: OutputFault) -> Self {
         match fault {
-            SurveyFault::Read(fault) => Ended::from(Refusal::Screen(fault)),
-            SurveyFault::Write(error) => Ended::Failed(error),
-        }
-    }
-}
-
-impl From<FilmFault> for Ended<'_> {
-    fn from(fault: FilmFault) -> Self {
-        match fault {
-            FilmFault::Read(fault) => Ended::from(Refusal::Screen(fault)),
-            FilmFault::Write(error) => Ended::Failed(error),
+            OutputFault::Read(fault) => Ended::from(Refusal::Screen(fault)),
+            OutputFault::Write(error) => Ended::Failed(error),
         }
     }
 }

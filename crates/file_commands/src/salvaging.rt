@@ -12,7 +12,6 @@ use crate::source_file::open_source;
 use block_walk::WholeBlocks;
 use file_disk::{DiskOfFile, FileDisk, OsFile, OsFolder, Progress, ShownFile};
 use key_index::IndexFault;
-use pixel_format::Format;
 use recording_bytes::OPEN_GATE;
 use recording_name::settle;
 use refusals::{DigestFault, Refusal};
@@ -21,6 +20,7 @@ use std::alloc::Global;
 use std::fs::File;
 use std::io::Write;
 use std::rt::Files;
+use terms::Format;
 
 /// Which recording is salvaged, and to which file.
 #[derive(Clone, Copy)]

@@ -5,9 +5,8 @@ ghost use Rattle.std.specs.Prelude.{◌≡◌, ◌<◌, length};
 use file_disk::FileDisk;
 use gated_journal::ReadFault;
 use key_index::{Indexed, Stamped};
-use replay::ReplayFault;
+use replay::OutputFault;
 use std::io;
-use thiserror::Error;
 
 /// What came in a stretch of a recording's time.
 #[derive(Clone, Copy, Debug, PartialEq, Eq)]
@@ -60,29 +59,6 @@ impl Stretch {
     }
 }
 
-/// Why a recording isn't surveyed to its end.
-#[derive(Debug, Drop, Error)]
-pub enum SurveyFault {
-    /// It isn't read.
-    #[error("the recording isn't read: {0}")]
-    Read(#[source] ReplayFault),
-    /// A stretch can't be written.
-    #[error("a stretch can't be written: {0}")]
-    Write(#[source] io::Error),
-}
-
-impl From<ReadFault> for SurveyFault {
-    fn from(fault: ReadFault) -> SurveyFault {
-        SurveyFault::Read(fault.into())
-    }
-}
-
-impl From<io::Error> for SurveyFault {
-    fn from(error: io::Error) -> SurveyFault {
-        SurveyFault::Write(error)
-    }
-}
-
 // The messages of a block.
 fn block_messages(index: &mut Indexed<FileDisk>, block: u64) -> Result<Vec<Stamped>, ReadFault>
     requires { block < length index.old.numbers.starts }
@@ -125,7 +101,7 @@ pub fn survey<S: StretchSink>(
     index: &mut Indexed<FileDisk>,
     span: u32,
     sink: &mut S,
-) -> Result<(), SurveyFault>
+) -> Result<(), OutputFault>
     requires { 0 < span }
 {
     let mut current = None;

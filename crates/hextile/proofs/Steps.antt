@@ -1,5 +1,5 @@
 -- What follows from a whole field.
-use Rattle.std.proofs.Common.{◌≡◌, ℕ, suc, ◌+◌, ◌-◌, ◌*◌, ◌<◌, ◌≤◌, ◌⊎◌, inl, inr, mul-zero, zero-mul, Bool, true, false, List, [], ◌∷◌, ◌++◌, length, take, drop, Option, Some, None, Ok, Err, refl, sym, ap, ◌∙◌, arith, append_assoc}
+use Rattle.std.proofs.Common.{◌≡◌, ℕ, suc, ◌+◌, ◌-◌, ◌*◌, ◌<◌, ◌≤◌, ◌⊎◌, inl, inr, mul-zero, zero-mul, Bool, true, false, List, [], ◌∷◌, ◌++◌, length, take, drop, Option, Some, refl, sym, ap, ◌∙◌, arith, append_assoc}
 use Rattle.std.specs.Prelude.{slice_index, is_some}
 use Rattle.std.proofs.lemmas.Bool.{le-ltb}
 use Rattle.std.proofs.lemmas.List.{take-append-drop, take_at, take_rest, length-drop, length-append, append-nil}
@@ -16,7 +16,7 @@ use Rattle.hextile.specs.declared.measuring.Measuring.TheVariants as stages
 use Rattle.hextile.specs.Tiles.{tiles_across, tile_count}
 use Rattle.hextile.specs.Grammar.{Tile, Raw, Parts, Fault, Refused, mask_of, is_allowed, pixel_if, color_if, head_bytes, subrectangle_bytes, background_in, foreground_in, count_in, subrectangle_of, is_inside, subrectangle_at, subrectangles_at, raw_at, parts_at, body_at, tile_at, named_with, tiles_at, colors_of, data_at}
 use Rattle.hextile.specs.Measuring.{named_by, width_of, height_of, wants_of, following, body_left, parts_left, resume, go_on}
-use Rattle.terms.specs.Measuring.{judged, measured}
+use Rattle.terms.specs.Measuring.{judged}
 
 -- ---- readings
 

@@ -1,5 +1,5 @@
 -- What is left of data that are judged field by field.
-use Rattle.std.specs.Prelude.{ℕ, suc, ◌-◌, ◌*◌, List, Option, Some, None, Result, Bool, ◌||◌}
+use Rattle.std.specs.Prelude.{ℕ, suc, ◌-◌, ◌*◌, List, Option, Some, None, Bool, ◌||◌}
 use Rattle.pixel_format.specs.Format.{Format, pixel_bytes}
 use Rattle.terms.specs.Reading.{Reading, Got, ◌>>=◌, field}
 use Rattle.hextile.specs.declared.fields.Mask.{Mask}

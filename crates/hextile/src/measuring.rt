@@ -5,7 +5,7 @@ ghost use Rattle.std.specs.Prelude.{◌≡◌, ◌<◌, ◌≤◌, ◌||◌, tru
 use crate::fields::{Mask, Named, is_part_inside, may_stand, pixel_size, read_count, read_mask};
 use crate::position::{Position, TileHead, count_tiles};
 use pixel_format::PixelFormat;
-use terms::{NoLength, whole_length};
+use terms::{NoLength, WholeFields};
 
 /// Which field of a rectangle's data comes next: what stands for the part that is judged. Data that
 /// come in pieces are judged by [`run`](Measuring::run), from [`start`](Measuring::start) on, and no
@@ -66,18 +66,17 @@ fn next_part(tile: Position, colored: bool, count: u16) -> Option<Measuring>
 }
 
 // Judges the whole subrectangles of a tile that the bytes begin with, the first of which is there.
-// Answers how many bytes they have, and what comes next.
 fn judge_parts(
     format: &PixelFormat,
     tile: Position,
     colored: bool,
     others: u8,
     bytes: &[u8],
-) -> Result<(usize, Option<Measuring>), NoLength>
+) -> Result<WholeFields<Measuring>, NoLength>
     requires { subrectangle_bytes format.now colored ≤ length bytes.now }
-    ensures taken { IfOk result (λ x. (subrectangle_bytes format.now colored ≤ x.0) × (x.0 ≤ length bytes.now)) }
-    ensures goes { IfOk result (λ x. (more : List ℕ)
-        → parts_left format.now tile colored (suc others) (take x.0 bytes.now ++ more) ≡ go_on format.now x.1 more) }
+    ensures taken { IfOk result (λ fields. (subrectangle_bytes format.now colored ≤ fields.taken) × (fields.taken ≤ length bytes.now)) }
+    ensures goes { IfOk result (λ fields. (more : List ℕ)
+        → parts_left format.now tile colored (suc others) (take fields.taken bytes.now ++ more) ≡ go_on format.now fields.next more) }
     ensures refused { IfErr result (λ _. (more : List ℕ)
         → parts_left format.now tile colored (suc others) (bytes.now ++ more) ≡ Bad Refused) }
     ensures only { IfErr result (λ fault. fault ≡ NoLength.Bad) }
@@ -94,7 +93,10 @@ fn judge_parts(
         left -= 1;
         rest = following;
     }
-    Ok((bytes.len() - rest.len(), next_part(tile, colored, left)))
+    Ok(WholeFields {
+        taken: bytes.len() - rest.len(),
+        next: next_part(tile, colored, left),
+    })
 }
 
 // The tile, once it has named the colours of its mask.
@@ -167,16 +169,15 @@ impl Measuring {
         }
     }
 
-    // Judges the field, or the subrectangles of its tile, if the bytes begin with it whole. Answers
-    // how many bytes were judged, and what comes next.
+    // Judges the field, or the subrectangles of its tile, if the bytes begin with it whole.
     fn front(
         self,
         format: &PixelFormat,
         bytes: &[u8],
-    ) -> Result<Option<(usize, Option<Measuring>)>, NoLength>
-        ensures taken { IfOk result (λ o. IfSome o (λ x. (0 < x.0) × (wants_of format.now self ≤ x.0) × (x.0 ≤ length bytes.now))) }
-        ensures goes { IfOk result (λ o. IfSome o (λ x. (more : List ℕ)
-            → resume format.now self (take x.0 bytes.now ++ more) ≡ go_on format.now x.1 more)) }
+    ) -> Result<Option<WholeFields<Measuring>>, NoLength>
+        ensures taken { IfOk result (λ o. IfSome o (λ fields. (0 < fields.taken) × (wants_of format.now self ≤ fields.taken) × (fields.taken ≤ length bytes.now))) }
+        ensures goes { IfOk result (λ o. IfSome o (λ fields. (more : List ℕ)
+            → resume format.now self (take fields.taken bytes.now ++ more) ≡ go_on format.now fields.next more)) }
         ensures waits { result ≡ Ok None → length bytes.now < wants_of format.now self }
         ensures refused { IfErr result (λ _. (more : List ℕ)
             → resume format.now self (bytes.now ++ more) ≡ Bad Refused) }
@@ -193,13 +194,19 @@ impl Measuring {
                 if !may_stand(tile.named, field[0], mask) {
                     return Err(NoLength::Bad);
                 }
-                Ok(Some((wants, next_field(tile, mask))))
+                Ok(Some(WholeFields {
+                    taken: wants,
+                    next: next_field(tile, mask),
+                }))
             }
-            Measuring::Pixels(tile) => Ok(Some((wants, next_tile(tile)))),
+            Measuring::Pixels(tile) => Ok(Some(WholeFields {
+                taken: wants,
+                next: next_tile(tile),
+            })),
             Measuring::Head(head) => {
                 let count = read_count(format, head.mask, field);
                 let next = next_part(head.tile, head.mask.colored, count as u16);
-                Ok(Some((wants, next)))
+                Ok(Some(WholeFields { taken: wants, next }))
             }
             Measuring::Subrectangle {
                 tile,
@@ -212,19 +219,14 @@ impl Measuring {
         }
     }
 
-    /// Judges the whole fields that the bytes begin with. Answers how many bytes they have, and the
-    /// field after them, which isn't whole in the bytes, `None` if the data end; and `NoLength::Bad`
-    /// if one of them is a mask that may not stand there, or a subrectangle that leaves its tile.
-    pub fn run(
-        self,
-        format: &PixelFormat,
-        bytes: &[u8],
-    ) -> Result<(usize, Option<Measuring>), NoLength>
-        ensures taken { IfOk result (λ x. x.0 ≤ length bytes.now) }
-        ensures first { IfOk result (λ x. wants_of format.now self ≤ length bytes.now → wants_of format.now self ≤ x.0) }
-        ensures goes { IfOk result (λ x. (more : List ℕ)
-            → resume format.now self (take x.0 bytes.now ++ more) ≡ go_on format.now x.1 more) }
-        ensures waits { IfOk result (λ x. IfSome x.1 (λ next. length bytes.now < x.0 + wants_of format.now next)) }
+    /// Judges the whole fields that the bytes begin with, and answers them; or `NoLength::Bad` if
+    /// one of them is a mask that may not stand there, or a subrectangle that leaves its tile.
+    pub fn run(self, format: &PixelFormat, bytes: &[u8]) -> Result<WholeFields<Measuring>, NoLength>
+        ensures taken { IfOk result (λ fields. fields.taken ≤ length bytes.now) }
+        ensures first { IfOk result (λ fields. wants_of format.now self ≤ length bytes.now → wants_of format.now self ≤ fields.taken) }
+        ensures goes { IfOk result (λ fields. (more : List ℕ)
+            → resume format.now self (take fields.taken bytes.now ++ more) ≡ go_on format.now fields.next more) }
+        ensures waits { IfOk result (λ fields. IfSome fields.next (λ next. length bytes.now < fields.taken + wants_of format.now next)) }
         ensures refused { IfErr result (λ _. (more : List ℕ)
             → resume format.now self (bytes.now ++ more) ≡ Bad Refused) }
         ensures only { IfErr result (λ fault. fault ≡ NoLength.Bad) }
@@ -232,13 +234,16 @@ impl Measuring {
         let mut rest = bytes;
         let mut next = Some(self);
         while let Some(stage) = next {
-            let Some((taken, following)) = stage.front(format, rest)? else {
+            let Some(fields) = stage.front(format, rest)? else {
                 break;
             };
-            rest = &rest[taken..];
-            next = following;
+            rest = &rest[fields.taken..];
+            next = fields.next;
         }
-        Ok((bytes.len() - rest.len(), next))
+        Ok(WholeFields {
+            taken: bytes.len() - rest.len(),
+            next,
+        })
     }
 }
 
@@ -249,8 +254,8 @@ fn measure_by_fields(format: &PixelFormat, w: u16, h: u16, bytes: &[u8]) -> Resu
     let Some(first) = Measuring::start(w, h) else {
         return Ok(0);
     };
-    let (taken, following) = first.run(format, bytes)?;
-    whole_length(taken, following)
+    let fields = first.run(format, bytes)?;
+    fields.length()
 }
 
 /// The length of the data of a rectangle of w by h that begin the bytes (RFC 6143, section 7.7.4);

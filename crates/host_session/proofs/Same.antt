@@ -1,7 +1,7 @@
 -- A stream is one conversation.
 use Rattle.std.proofs.Common.{◌≡◌, ℕ, List, ◌++◌, refl, sym, ap, ◌∙◌, subst}
 use Rattle.std.specs.Prelude.{Option, None, Some}
-use Rattle.pixel_format.specs.declared.kind.Format.{Format}
+use Rattle.terms.specs.declared.format.Format.{Format}
 use Rattle.terms.specs.Reading.{Reading, More, Bad}
 use Rattle.terms.specs.Talk.{Talk}
 use Rattle.terms.specs.declared.wire_fault.WireFault.{WireFault}

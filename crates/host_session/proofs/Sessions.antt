@@ -2,7 +2,7 @@
 use Rattle.std.proofs.Common.{◌≡◌, ℕ, List, [], ◌++◌, take, drop, refl, sym, ap, ◌∙◌, subst, append_assoc, arith, length-append}
 use Rattle.std.specs.Prelude.{Result, Ok, Err, OnOk, IfErr, Option, None, Some}
 use Rattle.std.proofs.lemmas.List.{append-nil, take-append-drop, append_cancel_left}
-use Rattle.pixel_format.specs.declared.kind.Format.{Format}
+use Rattle.terms.specs.declared.format.Format.{Format}
 use Rattle.terms.specs.Reading.{Reading, More}
 use Rattle.terms.specs.Talk.{say, silent}
 use Rattle.terms.proofs.Readings.{field-short}

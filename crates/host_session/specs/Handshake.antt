@@ -10,7 +10,7 @@ use Rattle.host_session.specs.declared.fault.HostFault.{HostFault}
 use Rattle.host_session.specs.declared.fault.HostFault.TheVariants as faults
 use Rattle.terms.specs.Talk.{Talk, silent, say, hear}
 use Rattle.terms.specs.Number.{u16_at, u32_at}
-use Rattle.pixel_format.specs.Limits.{limits, is_size}
+use Rattle.terms.specs.Limits.{limits, is_size}
 use Rattle.terms.specs.declared.screen_size.ScreenSize.{ScreenSize}
 use Rattle.host_session.specs.declared.expected.ExpectedScreen.{ExpectedScreen}
 

@@ -2,7 +2,7 @@
 -- screen and the messages are judged by the limits of the recording's format.
 use Rattle.std.specs.Prelude.{◌≡◌, ℕ, ◌+◌, List, [], ◌++◌, length, true, Option, None, Some, if◌then◌else◌}
 use Rattle.std.specs.List.{flat_map}
-use Rattle.pixel_format.specs.declared.kind.Format.{Format}
+use Rattle.terms.specs.declared.format.Format.{Format}
 use Rattle.terms.specs.Reading.{More, Bad}
 use Rattle.terms.specs.declared.wire_fault.WireFault.{WireFault}
 use Rattle.client_wire.specs.Stream.{Gives, StandsFor}

@@ -9,9 +9,9 @@ use crate::fault::HostFault;
 use crate::handshake::Handshake;
 use crate::listening::listen;
 use crate::request::write_first_requests;
-use pixel_format::RecordedScreen;
 use rfb_wire::{HostMessage, ServerReader};
 use std::alloc::Global;
+use terms::RecordedScreen;
 
 /// How far a session is in the stream: in the handshake, or after it.
 #[derive(Drop)]

@@ -1,7 +1,6 @@
 //! The screen that a host is to have.
 
-use pixel_format::Format;
-use terms::ScreenSize;
+use terms::{Format, ScreenSize};
 
 /// What is expected of a host's screen.
 #[derive(Clone, Copy)]

@@ -10,11 +10,10 @@ ghost use Rattle.host_session.specs.Session.{IsAfter, Fed, Stopped, expected_of,
 use crate::exchange::Exchange;
 use crate::expected::ExpectedScreen;
 use crate::fault::HostFault;
-use pixel_format::Format;
 use rfb_wire::HostMessage;
 use std::alloc::Global;
 use std::marker::Model;
-use terms::{NoMemory, ScreenSize, WireFault};
+use terms::{Format, NoMemory, ScreenSize, WireFault};
 
 // Makes due what was said in a piece, of which this came; nothing of it if memory ran out.
 fn make_due(heard: Result<(), HostFault>, said: &[u8], due: &mut Vec<u8>) -> Result<(), HostFault>

@@ -3,7 +3,7 @@ use Rattle.std.specs.Prelude.{◌≡◌, ◌≢◌, ℕ, List, [], ◌∷◌, �
 use Rattle.rfb_wire.specs.Host.{Host}
 use Rattle.host_session.specs.declared.fault.HostFault.{HostFault}
 use Rattle.host_session.specs.Fault.{UnlessMemory}
-use Rattle.host_session.specs.Session.{Session, IsAfter, AreGiven, EndsAfter, expected_of}
+use Rattle.host_session.specs.Session.{Session, IsAfter, AreGiven, EndsAfter, expected_of, size_of, told_by}
 use Rattle.host_stream.specs.declared.end.HostEnd.{HostEnd}
 use Rattle.host_stream.specs.declared.stream.Next.{Next}
 use Rattle.host_stream.specs.declared.stream.Next.TheVariants.{Message, Read, Ended}
@@ -29,6 +29,14 @@ Holds (Some f) s bytes messages sent = IsRefusedAfter s bytes messages sent f
 pub record HasGiven (s : Stream) (bytes : List ℕ) (given : List Host) : Type 0 where
   pub sent : List ℕ
   pub holds : Holds s.session.fault s.session bytes (given ++ s.waiting) sent
+
+-- A message is of the session's format, and of the size that the host has told.
+abbrev pub IsOfHost : Session → Host → Type 0
+IsOfHost s m = (m.format ≡ s.format) × (size_of (told_by s.reader s.kept) ≡ Some (record { width = m.width; height = m.height }))
+
+-- A session still has its recording's format, and the size expected of its host, if one is.
+abbrev pub IsForSame : Session → Session → Type 0
+IsForSame old new = (new.format ≡ old.format) × (new.expected ≡ old.expected)
 
 -- what is to be done next: what waits is given, whatever else there is; then the end is told, of the
 -- stream or of the recorder; else the host is read from

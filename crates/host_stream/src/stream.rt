@@ -4,17 +4,17 @@ ghost use Rattle.std.specs.Prelude.{◌≡◌, ◌≢◌, ◌++◌, ◌∷◌, �
 ghost use Rattle.std.specs.Io.KnownBytes.{Consumes, IsAtEnd};
 ghost use Rattle.rfb_wire.specs.Host.{Host};
 ghost use Rattle.host_session.specs.declared.fault.HostFault.{HostFault as Fault};
-ghost use Rattle.host_stream.specs.Streams.{HasGiven, after_next, next_of};
+ghost use Rattle.host_session.specs.Session.{name_of, reason_in, size_of, told_by, unfinished_in};
+ghost use Rattle.host_stream.specs.Streams.{HasGiven, IsForSame, after_next, next_of};
 
 use crate::end::HostEnd;
 use host_session::HostSession;
-use pixel_format::Format;
 use rfb_wire::HostMessage;
 use std::alloc::Global;
 use std::io;
 use std::io::Read;
 use std::marker::Model;
-use terms::{NoMemory, ScreenSize};
+use terms::{Format, NoMemory, ScreenSize};
 
 /// What is to be done next for a host's stream.
 #[derive(Drop)]
@@ -56,6 +56,8 @@ impl HostStream {
         ensures nothing { HasGiven result [] [] }
         ensures none { result.waiting ≡ [] }
         ensures goes_on { result.end ≡ None }
+        ensures format { result.session.format ≡ format }
+        ensures expected { result.session.expected ≡ expected }
     {
         HostStream {
             alloc,
@@ -91,6 +93,7 @@ impl HostStream {
             → HasGiven self.old bytes given → HasGiven self.new (bytes ++ piece.now) given }
         ensures fault { (f : Fault) → self.new.session.fault ≡ Some f → self.new.end ≡ Some (HostEnd.Fault f) }
         ensures goes_on { self.new.session.fault ≡ None → self.new.end ≡ None }
+        ensures same { IsForSame self.old.session self.new.session }
     {
         let mut came = Vec::new(self.alloc);
         let heard = self.session.feed(piece, &mut came);
@@ -111,7 +114,9 @@ impl HostStream {
         ensures given { (bytes : List ℕ) → (given : List Host) → HasGiven self.old bytes given
             → (piece : List ℕ) × HasGiven self.new (bytes ++ piece) given × Consumes (S.remaining source.old) (S.remaining source.new) piece }
         ensures closed { (unfinished : ℕ) → self.new.end ≡ Some (HostEnd.Closed unfinished) → IsAtEnd (S.remaining source.new) }
+        ensures unfinished { (unfinished : ℕ) → self.new.end ≡ Some (HostEnd.Closed unfinished) → unfinished ≡ unfinished_in self.new.session.reader }
         ensures broken { OnErr result (self.new.end ≡ Some HostEnd.Socket) }
+        ensures same { IsForSame self.old.session self.new.session }
     {
         let count = match source.read(buffer) {
             Ok(count) => count,
@@ -135,6 +140,7 @@ impl HostStream {
         ensures given { (bytes : List ℕ) → (given : List Host) → HasGiven self.old bytes given → HasGiven self.new bytes given }
         ensures waiting { self.new.waiting ≡ self.old.waiting }
         ensures end { self.new.end ≡ self.old.end }
+        ensures same { IsForSame self.old.session self.new.session }
         ensures refused { OnErr result ((out.new.items ≡ out.old.items) × (self.new ≡ self.old)) }
     {
         self.session.out(out)?;
@@ -142,17 +148,23 @@ impl HostStream {
     }
 
     /// The size of the host's screen, once its handshake is whole.
-    pub fn size(&self) -> Option<ScreenSize> {
+    pub fn size(&self) -> Option<ScreenSize>
+        ensures { result ≡ size_of (told_by self.now.session.reader self.now.session.kept) }
+    {
         self.session.size()
     }
 
     /// The host's name, once its handshake is whole.
-    pub fn name(&self) -> &[u8] {
+    pub fn name(&self) -> &[u8]
+        ensures { result.now ≡ name_of (told_by self.now.session.reader self.now.session.kept) }
+    {
         self.session.name()
     }
 
     /// The reason that the host gave for its refusal; empty if it gave none.
-    pub fn reason(&self) -> &[u8] {
+    pub fn reason(&self) -> &[u8]
+        ensures { result.now ≡ reason_in self.now.session.fault self.now.session.kept }
+    {
         self.session.reason()
     }
 

@@ -2,11 +2,11 @@
 
 use crate::end::HostEnd;
 use crate::stream::{HostStream, Next};
-use pixel_format::Format;
 use std::io;
 use std::io::Read;
 use std::rt::HostRuntime;
 use std::test::Fail;
+use terms::Format;
 
 /// A handshake of a host of one pixel and three bells (RFC 6143, sections 7.1, 7.3.2 and 7.6.3).
 const THREE_BELLS: [u8; 46] = *b"RFB 003.008\n\x01\x01\0\0\0\0\0\x01\0\x01\

@@ -4,9 +4,9 @@ use Rattle.std.proofs.lemmas.List.{append-nil}
 use Rattle.pixel_format.specs.declared.Color.{Color}
 use Rattle.pixel_format.specs.Format.{Format, host_format, pixel_bytes}
 use Rattle.pixel_format.specs.Pixel.{converted}
-use Rattle.pixel_format.specs.Limits.{limits}
-use Rattle.pixel_format.specs.declared.kind.Format.{Format as RecordingFormat}
-use Rattle.pixel_format.proofs.Sizes.{are_limits}
+use Rattle.terms.specs.Limits.{limits}
+use Rattle.terms.specs.declared.format.Format.{Format as RecordingFormat}
+use Rattle.terms.proofs.Sizes.{are_limits}
 use Rattle.terms.specs.Appending.{Appends}
 use Rattle.terms.specs.declared.area.Area.{Area}
 use Rattle.terms.specs.declared.screen_size.ScreenSize.{ScreenSize}

@@ -2,8 +2,8 @@
 use Rattle.std.proofs.Common.{◌≡◌, ℕ, ◌+◌, ◌-◌, ◌*◌, ◌/◌, ◌%◌, ◌≤◌, List, [], ◌∷◌, ◌++◌, length, take, inl, refl, sym, ap, subst, ◌∙◌, arith}
 use Rattle.std.specs.Prelude.{slice_range}
 use Rattle.std.proofs.lemmas.List.{append-nil, drop_at, take_all}
-use Rattle.pixel_format.proofs.Sizes.{are_limits}
-use Rattle.pixel_format.specs.declared.kind.Format.{Format}
+use Rattle.terms.proofs.Sizes.{are_limits}
+use Rattle.terms.specs.declared.format.Format.{Format}
 use Rattle.pixel_format.specs.declared.Color.{Color}
 use Rattle.pixel_format.specs.Format.{host_format}
 use Rattle.pixel_format.specs.Canvas.{Picture}

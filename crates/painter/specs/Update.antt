@@ -2,7 +2,7 @@
 use Rattle.std.specs.Prelude.{◌≡◌, ℕ, List, [], ◌∷◌}
 use Rattle.pixel_format.specs.declared.Color.{Color}
 use Rattle.pixel_format.specs.Canvas.{Picture}
-use Rattle.pixel_format.specs.declared.kind.Format.{Format}
+use Rattle.terms.specs.declared.format.Format.{Format}
 use Rattle.terms.specs.declared.area.Area.{Area}
 use Rattle.rect_codec.specs.Update.{HasColors}
 use Rattle.rfb_wire.specs.declared.message.Rectangle.{Rectangle}

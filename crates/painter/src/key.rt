@@ -1,16 +1,16 @@
 //! Key screens: a screen as one message.
 
 ghost use Rattle.std.specs.Prelude.{◌≡◌, ◌↔◌, ◌+◌, ◌*◌, ◌≤◌, length, IfOk, IsTrue};
-ghost use Rattle.pixel_format.specs.Limits.{limits};
+ghost use Rattle.terms.specs.Limits.{limits};
 ghost use Rattle.painter.specs.Framebuffer.{SameSize, color_at};
 ghost use Rattle.painter.specs.Key.{IsKey, IsWhole};
 
 use crate::screen::Screen;
 use crate::update::ScreenPart;
-use pixel_format::{Format, PixelFormat, RecordedScreen};
+use pixel_format::PixelFormat;
 use rfb_wire::{Encoding, HostMessage, Rectangle};
 use std::alloc::{AllocError, Global};
-use terms::{Area, NoMemory, ScreenSize};
+use terms::{Area, Format, NoMemory, RecordedScreen, ScreenSize};
 
 // Whether the rectangle is one of all pixels of a screen of this size, in an encoding that doesn't
 // look at what stood there.

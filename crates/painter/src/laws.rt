@@ -2,7 +2,7 @@
 
 ghost use Rattle.std.specs.Prelude.{ℕ, ◌≤◌, List, length};
 ghost use Rattle.pixel_format.specs.Format.{host_format};
-ghost use Rattle.pixel_format.specs.declared.kind.Format.{Format};
+ghost use Rattle.terms.specs.declared.format.Format.{Format};
 ghost use Rattle.terms.specs.Area.{LiesWithin};
 ghost use Rattle.rect_codec.specs.Parts.{IsUpdateFor};
 ghost use Rattle.rfb_wire.specs.Grammar.{message_limit};

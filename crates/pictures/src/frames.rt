@@ -8,19 +8,14 @@ ghost use Rattle.painter.specs.Framebuffer.{color_at};
 ghost use Rattle.pictures.specs.Frames.{frame_moment, AreFirstFrames, IsVideo, IsVideoEnd, Writes};
 ghost use Rattle.replay.specs.Moments.{IsShownAt};
 ghost use Rattle.pictures.specs.Pictures.{picture_text};
-ghost use Rattle.pictures.specs.declared.frames.FilmFault.TheVariants.{Read as FilmRead, Write as FilmWrite};
-ghost use Rattle.replay.specs.Faults.{fault_of_read};
 ghost use Rattle.replay.specs.Screens.{IsScreenAt};
 
 use crate::picture::{PictureFormat, write_picture};
 use disk::Disk;
-use gated_journal::ReadFault;
 use key_index::Indexed;
-use replay::{Replay, ReplayFault, count_at, from_count};
+use replay::{OutputFault, Replay, ReplayFault, count_at, from_count};
 use std::alloc::Global;
-use std::io;
 use std::io::Write;
-use thiserror::Error;
 
 /// Which frames of a recording make a video. Moments are in milliseconds of the recording.
 #[derive(Clone, Copy, Debug)]
@@ -69,41 +64,6 @@ pub fn video_end(from: u32, rate: u8, last: u32) -> u32
     moment.min(u64::from(u32::MAX)) as u32
 }
 
-/// Why the frames aren't written.
-#[derive(Debug, Drop, Error)]
-pub enum FilmFault {
-    /// The recording isn't read.
-    #[error("the recording isn't read: {0}")]
-    Read(#[source] ReplayFault),
-    /// They can't be written, or memory for a picture runs out.
-    #[error("the frames can't be written: {0}")]
-    Write(#[source] io::Error),
-}
-
-impl From<ReplayFault> for FilmFault {
-    ghost from_gives = { λ read fault. fault ≡ FilmRead read };
-
-    fn from(fault: ReplayFault) -> FilmFault {
-        FilmFault::Read(fault)
-    }
-}
-
-impl From<ReadFault> for FilmFault {
-    ghost from_gives = { λ read fault. fault ≡ FilmRead (fault_of_read read) };
-
-    fn from(fault: ReadFault) -> FilmFault {
-        FilmFault::Read(fault.into())
-    }
-}
-
-impl From<io::Error> for FilmFault {
-    ghost from_gives = { λ error fault. fault ≡ FilmWrite error };
-
-    fn from(error: io::Error) -> FilmFault {
-        FilmFault::Write(error)
-    }
-}
-
 // Plays a recording forward until so many messages are painted, each once. An error is that of a
 // message that isn't read; those before it are painted then.
 fn play_to<D: Disk>(
@@ -137,7 +97,7 @@ fn show<D: Disk>(
     index: &mut Indexed<D>,
     count: u64,
     picture: &mut Vec<u8>,
-) -> Result<(), FilmFault>
+) -> Result<(), OutputFault>
     requires width { replay.old.screen.width ≡ index.old.head.width }
     requires height { replay.old.screen.height ≡ index.old.head.height }
     requires painted { D.is_modelled → IsScreenAt index.old.head (messages_in index.old.blocks) replay.old.position replay.old.screen }
@@ -149,8 +109,8 @@ fn show<D: Disk>(
     ensures height { replay.new.screen.height ≡ replay.old.screen.height }
     ensures picture { OnOk result (picture.new.items ≡ picture_text PictureFormat.Ppm replay.new.screen.width replay.new.screen.height (color_at replay.new.screen)) }
     ensures only { OnlyReads D.is_modelled D.history index.old index.new }
-    ensures cause { D.is_modelled → HasCause (D.failures index.old.disk) (D.failures index.new.disk) (IsErrOf result (FilmFault.Read ReplayFault.Device)) }
-    ensures never { result ≢ Err (FilmFault.Read ReplayFault.NotCommitted) }
+    ensures cause { D.is_modelled → HasCause (D.failures index.old.disk) (D.failures index.new.disk) (IsErrOf result (OutputFault.Read ReplayFault.Device)) }
+    ensures never { result ≢ Err (OutputFault.Read ReplayFault.NotCommitted) }
 {
     if !picture.is_empty() && replay.position() >= count {
         return Ok(());
@@ -170,17 +130,17 @@ fn write_each<D: Disk, W: Write>(
     film: &Film,
     picture: &mut Vec<u8>,
     out: &mut W,
-) -> Result<(), FilmFault>
+) -> Result<(), OutputFault>
     requires width { replay.old.screen.width ≡ index.old.head.width }
     requires height { replay.old.screen.height ≡ index.old.head.height }
     requires painted { D.is_modelled → IsScreenAt index.old.head (messages_in index.old.blocks) replay.old.position replay.old.screen }
     requires following { D.is_modelled → (n : ℕ) → IsShownAt (frame_moment film.now.from film.now.rate 0) (messages_in index.old.blocks) n → replay.old.position ≤ n }
     requires picture { picture.old.items ≡ [] }
     ensures video { D.is_modelled → OnOk result (Writes (W.contents out.old) (W.contents out.new) (IsVideo index.old.head (messages_in index.old.blocks) film.now.from film.now.to film.now.rate)) }
-    ensures left { D.is_modelled → (fault : ReplayFault) → IsErrOf result (FilmFault.Read fault) → Writes (W.contents out.old) (W.contents out.new) (AreFirstFrames index.old.head (messages_in index.old.blocks) film.now.from film.now.to film.now.rate) }
+    ensures left { D.is_modelled → (fault : ReplayFault) → IsErrOf result (OutputFault.Read fault) → Writes (W.contents out.old) (W.contents out.new) (AreFirstFrames index.old.head (messages_in index.old.blocks) film.now.from film.now.to film.now.rate) }
     ensures only { OnlyReads D.is_modelled D.history index.old index.new }
-    ensures cause { D.is_modelled → HasCause (D.failures index.old.disk) (D.failures index.new.disk) (IsErrOf result (FilmFault.Read ReplayFault.Device)) }
-    ensures never { result ≢ Err (FilmFault.Read ReplayFault.NotCommitted) }
+    ensures cause { D.is_modelled → HasCause (D.failures index.old.disk) (D.failures index.new.disk) (IsErrOf result (OutputFault.Read ReplayFault.Device)) }
+    ensures never { result ≢ Err (OutputFault.Read ReplayFault.NotCommitted) }
 {
     for frame in 0..film.frames() {
         let count = count_at(index, film.moment(frame))?;
@@ -200,12 +160,12 @@ pub fn write_frames<D: Disk, W: Write>(
     index: &mut Indexed<D>,
     film: &Film,
     out: &mut W,
-) -> Result<(), FilmFault>
+) -> Result<(), OutputFault>
     ensures video { D.is_modelled → OnOk result (Writes (W.contents out.old) (W.contents out.new) (IsVideo index.old.head (messages_in index.old.blocks) film.now.from film.now.to film.now.rate)) }
-    ensures left { D.is_modelled → (fault : ReplayFault) → IsErrOf result (FilmFault.Read fault) → Writes (W.contents out.old) (W.contents out.new) (AreFirstFrames index.old.head (messages_in index.old.blocks) film.now.from film.now.to film.now.rate) }
+    ensures left { D.is_modelled → (fault : ReplayFault) → IsErrOf result (OutputFault.Read fault) → Writes (W.contents out.old) (W.contents out.new) (AreFirstFrames index.old.head (messages_in index.old.blocks) film.now.from film.now.to film.now.rate) }
     ensures only { OnlyReads D.is_modelled D.history index.old index.new }
-    ensures cause { D.is_modelled → HasCause (D.failures index.old.disk) (D.failures index.new.disk) (IsErrOf result (FilmFault.Read ReplayFault.Device)) }
-    ensures never { result ≢ Err (FilmFault.Read ReplayFault.NotCommitted) }
+    ensures cause { D.is_modelled → HasCause (D.failures index.old.disk) (D.failures index.new.disk) (IsErrOf result (OutputFault.Read ReplayFault.Device)) }
+    ensures never { result ≢ Err (OutputFault.Read ReplayFault.NotCommitted) }
 {
     let first = count_at(index, film.from)?;
     let mut replay = from_count(alloc, index, first)?;

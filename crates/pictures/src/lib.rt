@@ -9,7 +9,7 @@ mod picture;
 mod plain;
 mod png;
 
-pub use frames::{Film, FilmFault, video_end, write_frames};
+pub use frames::{Film, video_end, write_frames};
 pub use laws::{png_is_by_rules, published_checksums};
 pub use picture::{PictureFormat, write_picture};
 pub use png::png_length;

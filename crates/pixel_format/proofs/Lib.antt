@@ -4,5 +4,4 @@ pub mod Covering
 pub mod PixelsLaid
 pub mod Eights
 pub mod Numbers
-pub mod Sizes
 pub mod Voting

@@ -6,8 +6,8 @@ use Rattle.std.proofs.Math.Nat.{pow-le-pow_right}
 use Rattle.std.proofs.lemmas.Nat.{pow_pos, pow-add, mul-le}
 use Rattle.std.proofs.lemmas.Bool.{cases_lt, eqb-true, ne_eqb, lt-ltb, le-ltb, ltb-true}
 use Rattle.pixel_format.specs.Format.{Channel, Format, IsChannel, IsValid, mask}
-use Rattle.terms.specs.declared.format_fault.FormatFault.{FormatFault}
-use Rattle.terms.specs.declared.format_fault.FormatFault.TheVariants as faults
+use Rattle.terms.specs.declared.pixel_format_fault.PixelFormatFault.{PixelFormatFault}
+use Rattle.terms.specs.declared.pixel_format_fault.PixelFormatFault.TheVariants as faults
 use Rattle.pixel_format.specs.Written.{unless, is_ones, is_flag, flag, has_bits, has_maxima, lies_inside, has_fields_inside, are_apart, has_fields_apart, format_of, format_at, format_bytes}
 use Rattle.terms.proofs.Readings.{true_or_false}
 
@@ -166,7 +166,7 @@ fields_apart-valid : (f : Format) → IsValid f → has_fields_apart f ≡ true
 fields_apart-valid f v = rw (v.red_and_green, v.red_and_blue, v.green_and_blue) refl
 
 -- an accepted format
-ok_is : (f g : Format) → ◌≡◌ {A = Result Format FormatFault} (Ok f) (Ok g) → f ≡ g
+ok_is : (f g : Format) → ◌≡◌ {A = Result Format PixelFormatFault} (Ok f) (Ok g) → f ≡ g
 ok_is f g e = cc
 
 -- a format that is written is read again
@@ -208,7 +208,7 @@ max_small bits c v =
     omega (arith, v.full.2)
 
 -- what is accepted passed each test
-pub unless_ok : (b : Bool) (fault : FormatFault) (next : Result Format FormatFault) (f : Format) → unless b fault next ≡ Ok f → (b ≡ true) × (next ≡ Ok f)
+pub unless_ok : (b : Bool) (fault : PixelFormatFault) (next : Result Format PixelFormatFault) (f : Format) → unless b fault next ≡ Ok f → (b ≡ true) × (next ≡ Ok f)
 unless_ok true fault next f e = (refl, e)
 unless_ok false fault next f e = absurd (cc)
 

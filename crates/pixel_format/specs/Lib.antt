@@ -3,4 +3,3 @@ pub mod Pixel
 pub mod Canvas
 pub mod Written
 pub mod Number
-pub mod Limits

@@ -2,8 +2,8 @@
 -- the true-color flag, three maxima of two bytes, three shifts, and three bytes of padding.
 use Rattle.std.specs.Prelude.{ℕ, zero, suc, ◌+◌, ◌*◌, ◌/◌, ◌%◌, ◌^◌, List, [], ◌∷◌, slice_index, Bool, not, ◌&&◌, ◌||◌, nat_eq, nat_lt, bit_and, Result, Ok, Err, if◌then◌else◌}
 use Rattle.pixel_format.specs.Format.{Channel, Format, mask}
-use Rattle.terms.specs.declared.format_fault.FormatFault.{FormatFault}
-use Rattle.terms.specs.declared.format_fault.FormatFault.TheVariants as faults
+use Rattle.terms.specs.declared.pixel_format_fault.PixelFormatFault.{PixelFormatFault}
+use Rattle.terms.specs.declared.pixel_format_fault.PixelFormatFault.TheVariants as faults
 
 -- a flag is true when it isn't 0
 abbrev pub is_flag : ℕ → Bool
@@ -53,11 +53,11 @@ abbrev pub has_fields_apart : Format → Bool
 has_fields_apart f = are_apart f.red f.green && are_apart f.red f.blue && are_apart f.green f.blue
 
 -- the fault, unless the test is passed
-abbrev pub unless : Bool → FormatFault → Result Format FormatFault → Result Format FormatFault
+abbrev pub unless : Bool → PixelFormatFault → Result Format PixelFormatFault → Result Format PixelFormatFault
 unless passed fault next = if passed then next else Err fault
 
 -- what 16 bytes are: a format, or the first test that they fail
-unfoldable pub format_at : List ℕ → Result Format FormatFault
+unfoldable pub format_at : List ℕ → Result Format PixelFormatFault
 format_at bytes =
     unless (has_bits (format_of bytes)) faults.BadBits
     (unless (is_flag (slice_index bytes 3)) faults.NoTrueColor

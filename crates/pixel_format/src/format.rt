@@ -12,7 +12,7 @@ use crate::Color;
 use byteorder::{BigEndian, ByteOrder, LittleEndian};
 use std::marker::Model;
 use std::simd::prelude::*;
-use terms::{FormatFault, read_u16, two_bytes};
+use terms::{PixelFormatFault, read_u16, two_bytes};
 
 // How many colours are converted together.
 const TOGETHER: usize = 8;
@@ -89,25 +89,25 @@ impl PixelFormat {
 
     /// The format that 16 bytes say (RFC 6143, section 7.4), or the first test that they fail. A
     /// flag is true when it is not 0; depth is kept and plays no part.
-    pub fn read(bytes: &[u8; 16]) -> Result<PixelFormat, FormatFault>
+    pub fn read(bytes: &[u8; 16]) -> Result<PixelFormat, PixelFormatFault>
         ensures { result ≡ format_at bytes.now }
     {
         let bits = bytes[0];
         let channels = Channels::at(bytes);
         if !is_pixel_width(bits) {
-            return Err(FormatFault::BadBits);
+            return Err(PixelFormatFault::BadBits);
         }
         if bytes[3] == 0 {
-            return Err(FormatFault::NoTrueColor);
+            return Err(PixelFormatFault::NoTrueColor);
         }
         if !channels.are_full() {
-            return Err(FormatFault::BadMax);
+            return Err(PixelFormatFault::BadMax);
         }
         if !channels.are_inside(bits) {
-            return Err(FormatFault::FieldOutside);
+            return Err(PixelFormatFault::FieldOutside);
         }
         if !channels.are_apart() {
-            return Err(FormatFault::FieldsOverlap);
+            return Err(PixelFormatFault::FieldsOverlap);
         }
         Ok(PixelFormat {
             bits,

@@ -6,7 +6,6 @@ mod appending;
 mod canvas;
 mod colors;
 mod format;
-mod kind;
 mod laws;
 mod pixels;
 mod runs;
@@ -15,11 +14,9 @@ mod votes;
 pub use canvas::Canvas;
 pub use colors::same;
 pub use format::{PixelFormat, host_pixel};
-pub use kind::{Format, Limits, RecordedScreen};
 pub use laws::{valid_formats, written_as_read};
 pub use pixels::Pixels;
 pub use runs::end_of_number;
-pub use terms::FormatFault;
 pub use votes::most_voted;
 
 /// A colour: how much of red, green and blue, each from 0 to its channel's maximum. A colour of a

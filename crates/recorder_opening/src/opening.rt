@@ -2,14 +2,13 @@
 
 use crate::beginning::beginning_of;
 use crate::reading::Reading;
-use crate::recording::Found;
+use crate::recording::{Found, OpenRecording};
 use broadcast::Desk;
 use connections::{Beginning, ConnectFault, Host, HostOnClock, Stopwatch};
 use disk::Disk;
 use file_disk::{FileDisk, LastError, Written};
 use flusher_core::Book;
 use gated_journal::Header;
-use pixel_format::Format;
 use recording_name::Identity;
 use refusals::{Refusal, Stopped};
 use serve_plan::Plan;
@@ -21,6 +20,7 @@ use std::rt::Files;
 use std::sync::Wait;
 use std::time::Clock;
 use telling::{Event, Telling};
+use terms::Format;
 
 /// What a recorder is begun with: the system, what is asked for, and what tells of failures.
 #[derive(Drop)]
@@ -137,11 +137,7 @@ impl<
     }
 
     // The recording that was found, read, or a new one for a host.
-    fn recording(
-        &self,
-        found: Found,
-        host: Option<&Host>,
-    ) -> Result<(Box<Book<FileDisk>>, Identity), Stopped> {
+    fn recording(&self, found: Found, host: Option<&Host>) -> Result<OpenRecording, Stopped> {
         // A file without bytes stays locked until the recording has replaced it.
         let _empty = match found {
             Found::Recording(unread) => return Ok(self.read(unread)?),
@@ -206,7 +202,7 @@ impl<
     /// Reads the recording, which may take long, or makes it if there is none.
     pub fn finish(&self, begun: Begun) -> Result<Box<Opened>, Stopped> {
         let Begun { found, host } = begun;
-        let (mut book, identity) = self.recording(found, host.as_deref())?;
+        let OpenRecording { mut book, identity } = self.recording(found, host.as_deref())?;
         self.tell_position(&book);
         let source = self.source(host, book.last_time())?;
         let beginning = beginning_of(&mut book, self.plan).map_err(Refusal::from)?;

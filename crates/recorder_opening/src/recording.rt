@@ -9,7 +9,6 @@ use file_disk::{FileDisk, LastError, LockedFile, OsFolder, Written};
 use flusher_core::Book;
 use gated_journal::{CreateFault, Header};
 use key_index::IndexFault;
-use pixel_format::Format;
 use recording_name::{
     Access, DraftFault, Identity, PublishFault, Standing, StandingFault, SystemFolder, make_draft,
     publish, stand_at,
@@ -22,6 +21,7 @@ use std::sync::Wait;
 use std::time::{Clock, Duration};
 use std::{io, thread};
 use telling::Event;
+use terms::Format;
 
 /// How often a lock is tried, and for how many milliseconds it waits between two tries.
 const TRIES: u32 = 5;
@@ -43,6 +43,13 @@ pub fn is_still_at<R: AllocGlobal + Files<File = File>>(
         Ok(Some(found)) => found.identity == identity && found.length >= length,
         Ok(None) | Err(_) => false,
     }
+}
+
+/// A recording that is open.
+#[derive(Drop)]
+pub struct OpenRecording {
+    pub book: Box<Book<FileDisk>>,
+    pub identity: Identity,
 }
 
 /// A recording of which only the header is read: its file, open and locked.
@@ -192,7 +199,7 @@ impl<'a, R: AllocGlobal + Clock + Eprint + Files<File = File> + Wait> Opening<'a
 
     /// Reads a recording that was found. One that is to be written is refused if blocks after its
     /// end go on with the digests and the plan doesn't give them up.
-    pub fn read(&self, unread: Unread) -> Result<(Box<Book<FileDisk>>, Identity), Refusal> {
+    pub fn read(&self, unread: Unread) -> Result<OpenRecording, Refusal> {
         let is_written = self.plan.host.is_some();
         let Unread {
             header,
@@ -204,7 +211,7 @@ impl<'a, R: AllocGlobal + Clock + Eprint + Files<File = File> + Wait> Opening<'a
         if is_written && !self.plan.overwrites {
             self.demand_end(&book, self.again(&file)?)?;
         }
-        Ok((book, identity))
+        Ok(OpenRecording { book, identity })
     }
 
     /// Finds the recording at the plan's path, for a host to be written, else only to be read; locks
@@ -308,7 +315,7 @@ impl<'a, R: AllocGlobal + Clock + Eprint + Files<File = File> + Wait> Opening<'a
     /// Makes a recording at the plan's path if there is none, or no byte. It appears there whole:
     /// it is made under a name beside, with `.new` after it, and renamed once its header and first
     /// gate are on the device.
-    pub fn create(&self, header: Header) -> Result<(Box<Book<FileDisk>>, Identity), Refusal> {
+    pub fn create(&self, header: Header) -> Result<OpenRecording, Refusal> {
         let no_memory = Refusal::Create(CreateFault::NoMemory);
         let (last_error, written) = self.notes().ok_or(no_memory)?;
         let path = self.plan.file;
@@ -320,6 +327,9 @@ impl<'a, R: AllocGlobal + Clock + Eprint + Files<File = File> + Wait> Opening<'a
         let disk = FileDisk::new(self.again(&file)?).noting(last_error, written);
         let book = self.make_book(header, disk, &mut folder, draft)?;
         self.publish(&mut folder, &file, draft, path)?;
-        Ok((book, found.identity))
+        Ok(OpenRecording {
+            book,
+            identity: found.identity,
+        })
     }
 }

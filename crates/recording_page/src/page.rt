@@ -198,6 +198,9 @@ function pixelOf(message) {
   return color(bytes[0], bytes[1], bytes[2]);
 }
 
+// How many pixels the screens that are kept have together, at most; two are kept in any case.
+const MOST_KEPT = 1 << 25;
+
 // The screens of a film. Some that were painted are kept, so that going back doesn't begin anew: no
 // more than 32, as far apart as the film is long.
 class Screens {
@@ -206,13 +209,14 @@ class Screens {
     this.painter = new Painter(width, height);
     this.count = 0;
     this.kept = [];
+    this.most = Math.max(2, Math.min(32, Math.floor(MOST_KEPT / (width * height))));
     this.every = 1;
   }
   keep() {
     const last = this.kept.length ? this.kept[this.kept.length - 1].count : 0;
     if (this.count < last + this.every) return;
     this.kept.push({ count: this.count, pixels: this.painter.pixels.slice() });
-    if (this.kept.length > 32) {
+    if (this.kept.length > this.most) {
       this.kept = this.kept.filter((_, index) => index % 2 === 1);
       this.every *= 2;
     }

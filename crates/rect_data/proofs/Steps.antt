@@ -17,10 +17,8 @@ use Rattle.terms.proofs.Readings.{field-whole, field-short}
 use Rattle.terms.specs.declared.area.Area.{Area}
 use Rattle.terms.specs.declared.wire_fault.WireFault.{WireFault}
 use Rattle.terms.specs.declared.wire_fault.WireFault.TheVariants as faults
-use Rattle.rre.specs.Grammar as rre
 use Rattle.rre.specs.Measuring as rre_measuring
 use Rattle.rre.proofs.Steps as rre_steps
-use Rattle.hextile.specs.Grammar as hextile
 use Rattle.hextile.specs.Measuring as hextile_measuring
 use Rattle.hextile.proofs.Steps as hextile_steps
 use Rattle.rect_data.specs.declared.judging.Judging.{Judging}

@@ -8,7 +8,7 @@ ghost use Rattle.rect_data.specs.Judging.{wants_of, resume, go_on, HasBytes};
 use crate::encoding::Encoding;
 use crate::fields::{lies_inside, source_at};
 use pixel_format::PixelFormat;
-use terms::{Area, ScreenSize, WireFault};
+use terms::{Area, ScreenSize, WholeFields, WireFault};
 
 /// Which field of a rectangle's data comes next: what stands for the part that is judged. Data that
 /// come in pieces are judged by [`run`](Judging::run), from [`start`](Judging::start) on, and no
@@ -37,22 +37,25 @@ fn rre_run(
     h: u16,
     stage: rre::Measuring,
     bytes: &[u8],
-) -> Result<(usize, Option<Judging>), WireFault>
-    ensures taken { IfOk result (λ x. x.0 ≤ length bytes.now) }
-    ensures first { IfOk result (λ x. let field = wants_of format.now (Judging.Rre w h stage) in field ≤ length bytes.now → field ≤ x.0) }
-    ensures goes { IfOk result (λ x. (width height : ℕ) → (more : List ℕ)
-        → resume format.now width height (Judging.Rre w h stage) (take x.0 bytes.now ++ more) ≡ go_on format.now width height x.1 more) }
-    ensures waits { IfOk result (λ x. IfSome x.1 (λ next. length bytes.now < x.0 + wants_of format.now next)) }
+) -> Result<WholeFields<Judging>, WireFault>
+    ensures taken { IfOk result (λ fields. fields.taken ≤ length bytes.now) }
+    ensures first { IfOk result (λ fields. let field = wants_of format.now (Judging.Rre w h stage) in field ≤ length bytes.now → field ≤ fields.taken) }
+    ensures goes { IfOk result (λ fields. (width height : ℕ) → (more : List ℕ)
+        → resume format.now width height (Judging.Rre w h stage) (take fields.taken bytes.now ++ more) ≡ go_on format.now width height fields.next more) }
+    ensures waits { IfOk result (λ fields. IfSome fields.next (λ next. length bytes.now < fields.taken + wants_of format.now next)) }
     ensures refused { IfErr result (λ fault. (width height : ℕ) → (more : List ℕ)
         → resume format.now width height (Judging.Rre w h stage) (bytes.now ++ more) ≡ Bad fault) }
 {
-    let Ok((taken, next)) = stage.run(format, w, h, bytes) else {
+    let Ok(WholeFields { taken, next }) = stage.run(format, w, h, bytes) else {
         return Err(WireFault::BadRre);
     };
     let Some(next) = next else {
-        return Ok((taken, None));
+        return Ok(WholeFields { taken, next: None });
     };
-    Ok((taken, Some(Judging::Rre { w, h, next })))
+    Ok(WholeFields {
+        taken,
+        next: Some(Judging::Rre { w, h, next }),
+    })
 }
 
 // The whole fields of a Hextile rectangle's data that the bytes begin with.
@@ -60,22 +63,25 @@ fn hextile_run(
     format: &PixelFormat,
     stage: hextile::Measuring,
     bytes: &[u8],
-) -> Result<(usize, Option<Judging>), WireFault>
-    ensures taken { IfOk result (λ x. x.0 ≤ length bytes.now) }
-    ensures first { IfOk result (λ x. let field = wants_of format.now (Judging.Hextile stage) in field ≤ length bytes.now → field ≤ x.0) }
-    ensures goes { IfOk result (λ x. (width height : ℕ) → (more : List ℕ)
-        → resume format.now width height (Judging.Hextile stage) (take x.0 bytes.now ++ more) ≡ go_on format.now width height x.1 more) }
-    ensures waits { IfOk result (λ x. IfSome x.1 (λ next. length bytes.now < x.0 + wants_of format.now next)) }
+) -> Result<WholeFields<Judging>, WireFault>
+    ensures taken { IfOk result (λ fields. fields.taken ≤ length bytes.now) }
+    ensures first { IfOk result (λ fields. let field = wants_of format.now (Judging.Hextile stage) in field ≤ length bytes.now → field ≤ fields.taken) }
+    ensures goes { IfOk result (λ fields. (width height : ℕ) → (more : List ℕ)
+        → resume format.now width height (Judging.Hextile stage) (take fields.taken bytes.now ++ more) ≡ go_on format.now width height fields.next more) }
+    ensures waits { IfOk result (λ fields. IfSome fields.next (λ next. length bytes.now < fields.taken + wants_of format.now next)) }
     ensures refused { IfErr result (λ fault. (width height : ℕ) → (more : List ℕ)
         → resume format.now width height (Judging.Hextile stage) (bytes.now ++ more) ≡ Bad fault) }
 {
-    let Ok((taken, next)) = stage.run(format, bytes) else {
+    let Ok(WholeFields { taken, next }) = stage.run(format, bytes) else {
         return Err(WireFault::BadHextile);
     };
     let Some(next) = next else {
-        return Ok((taken, None));
+        return Ok(WholeFields { taken, next: None });
     };
-    Ok((taken, Some(Judging::Hextile(next))))
+    Ok(WholeFields {
+        taken,
+        next: Some(Judging::Hextile(next)),
+    })
 }
 
 impl Judging {
@@ -113,10 +119,9 @@ impl Judging {
         }
     }
 
-    /// Judges the whole fields that the bytes begin with, on a screen of this size. Answers how
-    /// many bytes they have, and the field after them, which isn't whole in the bytes, `None` if
-    /// the data end; or the fault of the first field that is refused: `SourceOutside` at the source
-    /// of a CopyRect rectangle, `BadRre` at a subrectangle that leaves an RRE rectangle, and
+    /// Judges the whole fields that the bytes begin with, on a screen of this size, and answers
+    /// them; or the fault of the first field that is refused: `SourceOutside` at the source of a
+    /// CopyRect rectangle, `BadRre` at a subrectangle that leaves an RRE rectangle, and
     /// `BadHextile` at a mask that may not stand in a Hextile rectangle and at a subrectangle that
     /// leaves its tile.
     pub fn run(
@@ -124,12 +129,12 @@ impl Judging {
         format: &PixelFormat,
         size: ScreenSize,
         bytes: &[u8],
-    ) -> Result<(usize, Option<Judging>), WireFault>
-        ensures taken { IfOk result (λ x. x.0 ≤ length bytes.now) }
-        ensures first { IfOk result (λ x. wants_of format.now self ≤ length bytes.now → wants_of format.now self ≤ x.0) }
-        ensures goes { IfOk result (λ x. (more : List ℕ)
-            → resume format.now size.width size.height self (take x.0 bytes.now ++ more) ≡ go_on format.now size.width size.height x.1 more) }
-        ensures waits { IfOk result (λ x. IfSome x.1 (λ next. length bytes.now < x.0 + wants_of format.now next)) }
+    ) -> Result<WholeFields<Judging>, WireFault>
+        ensures taken { IfOk result (λ fields. fields.taken ≤ length bytes.now) }
+        ensures first { IfOk result (λ fields. wants_of format.now self ≤ length bytes.now → wants_of format.now self ≤ fields.taken) }
+        ensures goes { IfOk result (λ fields. (more : List ℕ)
+            → resume format.now size.width size.height self (take fields.taken bytes.now ++ more) ≡ go_on format.now size.width size.height fields.next more) }
+        ensures waits { IfOk result (λ fields. IfSome fields.next (λ next. length bytes.now < fields.taken + wants_of format.now next)) }
         ensures refused { IfErr result (λ fault. (more : List ℕ)
             → resume format.now size.width size.height self (bytes.now ++ more) ≡ Bad fault) }
     {
@@ -137,19 +142,31 @@ impl Judging {
             Judging::Pixels(_) => {
                 let length = self.wants(format);
                 if bytes.len() < length {
-                    return Ok((0, Some(self)));
+                    return Ok(WholeFields {
+                        taken: 0,
+                        next: Some(self),
+                    });
                 }
-                Ok((length, None))
+                Ok(WholeFields {
+                    taken: length,
+                    next: None,
+                })
             }
             Judging::Source(area) => {
                 if bytes.len() < 4 {
-                    return Ok((0, Some(self)));
+                    return Ok(WholeFields {
+                        taken: 0,
+                        next: Some(self),
+                    });
                 }
                 let (source, _) = bytes.split_at(4);
                 if !lies_inside(source_at(area, source), size) {
                     return Err(WireFault::SourceOutside);
                 }
-                Ok((4, None))
+                Ok(WholeFields {
+                    taken: 4,
+                    next: None,
+                })
             }
             Judging::Rre { w, h, next } => rre_run(format, w, h, next, bytes),
             Judging::Hextile(next) => hextile_run(format, next, bytes),

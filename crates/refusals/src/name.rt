@@ -11,7 +11,7 @@ pub enum Detail {
     /// The number of the block that the fault is of.
     Block(u64),
     /// The number of the fault of a host's message in an FBS file, one of `wire`.
-    Wire(u8),
+    Wire(u64),
 }
 
 /// The name of a refusal. Its text is the area and the number, as `recorderd explain` takes them, and

@@ -128,7 +128,7 @@ fn name_of_fbs(fault: FbsFault) -> Name
     };
     Name {
         area: Area::Fbs,
-        number: u64::from(fault.number()),
+        number: fault.number(),
         detail,
     }
 }
@@ -147,11 +147,11 @@ impl Refusal {
             Refusal::Device => plain(Area::Journal, OpenFault::Device.number()),
             Refusal::Screen(fault) => plain(Area::Replay, fault.number()),
             Refusal::Digest(fault) => plain(Area::Digest, fault.number()),
-            Refusal::Export(fault) => plain(Area::Export, u64::from(fault.number())),
+            Refusal::Export(fault) => plain(Area::Export, fault.number()),
             Refusal::Migrate(fault) => plain(Area::Migrate, fault.number()),
             Refusal::Salvage(fault) => plain(Area::Salvage, fault.number()),
             Refusal::Fbs(fault) => name_of_fbs(fault),
-            Refusal::Host(fault) => plain(Area::Host, u64::from(fault.number())),
+            Refusal::Host(fault) => plain(Area::Host, fault.number()),
             Refusal::Book(refusal) => plain(Area::Book, refusal.number()),
             Refusal::Net => plain(Area::Net, 1),
             Refusal::Thread => plain(Area::Thread, 1),
@@ -161,9 +161,6 @@ impl Refusal {
 
 impl From<ReadFault> for Refusal {
     fn from(fault: ReadFault) -> Refusal {
-        Refusal::Recording(match fault {
-            ReadFault::NoMemory => IndexFault::NoMemory,
-            ReadFault::Device => IndexFault::Journal(OpenFault::Device),
-        })
+        Refusal::Recording(fault.into())
     }
 }

@@ -8,7 +8,7 @@ mod playing;
 mod screens;
 mod slice;
 
-pub use fault::ReplayFault;
+pub use fault::{OutputFault, ReplayFault};
 pub use moment::count_at;
 pub use playing::{Replay, from_block, from_count};
 pub use screens::screen_at;

@@ -5,8 +5,8 @@ use Rattle.std.proofs.lemmas.List.{take_all, take_at, length-take, get_or-take}
 use Rattle.std.proofs.lemmas.Bool.{ltb-true, ltb-false}
 use Rattle.terms.specs.Reading.{Got, More, Bad, field, within}
 use Rattle.terms.proofs.Readings.{true_or_false, within-short, within-long}
-use Rattle.pixel_format.proofs.Sizes.{are_limits}
-use Rattle.pixel_format.specs.declared.kind.Format.{Format}
+use Rattle.terms.proofs.Sizes.{are_limits}
+use Rattle.terms.specs.declared.format.Format.{Format}
 use Rattle.rfb_wire.specs.declared.message.Rectangle.{Rectangle}
 use Rattle.terms.specs.declared.wire_fault.WireFault.{WireFault}
 use Rattle.terms.specs.declared.wire_fault.WireFault.TheVariants as faults

@@ -5,7 +5,7 @@ use Rattle.std.proofs.lemmas.List.{length-replicate, append-nil}
 use Rattle.terms.specs.Reading.{Got, More, ◌>>=◌, field}
 use Rattle.terms.proofs.Readings.{bind_got, skip_more, skip_whole, skip_waits, true_or_false}
 use Rattle.terms.specs.Number.{u16_at}
-use Rattle.pixel_format.specs.declared.kind.Format.{Format}
+use Rattle.terms.specs.declared.format.Format.{Format}
 use Rattle.rfb_wire.specs.declared.partial_message.Over.{Over}
 use Rattle.rfb_wire.specs.declared.partial_message.PartialMessage.{PartialMessage}
 use Rattle.rfb_wire.specs.Grammar.{message_limit, Recorded, ReadOver, message_at, update_at, rectangles_at, read_over}

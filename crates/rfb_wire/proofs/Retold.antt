@@ -1,8 +1,8 @@
 -- A message that is recorded in a format can be recorded in format 2.
 use Rattle.std.proofs.Common.{ℕ, inl, inr, refl, arith}
-use Rattle.pixel_format.specs.declared.kind.Format.{Format}
-use Rattle.pixel_format.specs.declared.kind.Format.TheVariants.{Two}
-use Rattle.pixel_format.proofs.Sizes.{message_in_two}
+use Rattle.terms.specs.declared.format.Format.{Format}
+use Rattle.terms.specs.declared.format.Format.TheVariants.{Two}
+use Rattle.terms.proofs.Sizes.{message_in_two}
 use Rattle.rfb_wire.specs.Grammar.{message_limit}
 use Rattle.rfb_wire.specs.Host.{Host, IsRecorded}
 use Rattle.rfb_wire.specs.Stream.{IsFor}

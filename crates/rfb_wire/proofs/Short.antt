@@ -5,8 +5,8 @@ use Rattle.terms.specs.Reading.{Got, ◌>>=◌, field, within}
 use Rattle.terms.proofs.Readings.{bind_got, within_got, true_or_false}
 use Rattle.terms.specs.declared.wire_fault.WireFault.{WireFault}
 use Rattle.terms.specs.declared.wire_fault.WireFault.TheVariants as faults
-use Rattle.pixel_format.proofs.Sizes.{are_limits}
-use Rattle.pixel_format.specs.declared.kind.Format.{Format}
+use Rattle.terms.proofs.Sizes.{are_limits}
+use Rattle.terms.specs.declared.format.Format.{Format}
 use Rattle.rfb_wire.specs.declared.message.Rectangle.{Rectangle}
 use Rattle.rfb_wire.specs.declared.partial_message.Over.{Over}
 use Rattle.rfb_wire.specs.declared.partial_message.PartialMessage.{PartialMessage}

@@ -2,7 +2,7 @@
 use Rattle.std.proofs.Common.{◌≡◌, ℕ, List, [], ◌∷◌, ◌++◌, refl, sym, ap, ◌∙◌}
 use Rattle.std.proofs.lemmas.List.{append-nil}
 use Rattle.terms.specs.Reading.{Got}
-use Rattle.pixel_format.specs.declared.kind.Format.{Format}
+use Rattle.terms.specs.declared.format.Format.{Format}
 use Rattle.client_wire.specs.Stream.{Part, Reads}
 use Rattle.rfb_wire.specs.Grammar.{message_at, message_limit, Message, Recorded}
 use Rattle.rfb_wire.specs.Host.{Host}

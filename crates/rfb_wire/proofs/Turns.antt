@@ -4,7 +4,7 @@ use Rattle.std.specs.Prelude.{if◌then◌else◌}
 use Rattle.std.proofs.lemmas.List.{append-nil, drop_all, drop-append-le, take_at, take-append-drop, length-drop}
 use Rattle.pixel_format.specs.Format.{host_format}
 use Rattle.rect_data.proofs.Steps.{field_waits as data_waits}
-use Rattle.pixel_format.specs.declared.kind.Format.{Format}
+use Rattle.terms.specs.declared.format.Format.{Format}
 use Rattle.rfb_wire.specs.Host.{host_of, IsRecorded}
 use Rattle.terms.specs.Reading.{Reading, Got, More, Bad, ◌>>=◌, field, within}
 use Rattle.terms.proofs.Readings.{field-whole, field-short, within-short, within-long}

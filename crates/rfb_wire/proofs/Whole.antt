@@ -2,7 +2,7 @@
 use Rattle.std.proofs.Common.{◌≡◌, ℕ, ◌+◌, List, [], ◌∷◌, ◌++◌, length, refl, sym, ap, subst, ◌∙◌, arith, append_assoc, length-append}
 use Rattle.std.specs.List.{flat_map, AllByRecursion}
 use Rattle.std.proofs.lemmas.List.{append-nil}
-use Rattle.pixel_format.specs.declared.kind.Format.{Format}
+use Rattle.terms.specs.declared.format.Format.{Format}
 use Rattle.terms.specs.Reading.{Got, More, Bad}
 use Rattle.terms.proofs.Readings.{field-short}
 use Rattle.terms.specs.declared.wire_fault.WireFault.{WireFault}

@@ -3,8 +3,8 @@
 -- that is met.
 use Rattle.std.specs.Prelude.{ℕ, nat_lt, zero, suc, ◌+◌, ◌-◌, ◌*◌, List, [], ◌∷◌, length, slice_index, nat_eq, Option, Some, None, if◌then◌else◌}
 use Rattle.pixel_format.specs.Format.{host_format}
-use Rattle.pixel_format.specs.Limits.{limits}
-use Rattle.pixel_format.specs.declared.kind.Format.{Format}
+use Rattle.terms.specs.Limits.{limits}
+use Rattle.terms.specs.declared.format.Format.{Format}
 use Rattle.terms.specs.Reading.{Reading, Got, Bad, ◌>>=◌, field, guard, within}
 use Rattle.terms.specs.Area.{area_at}
 use Rattle.terms.specs.Number.{u16_at, u32_at}

@@ -1,7 +1,7 @@
 -- One recorded message of a host.
 use Rattle.std.specs.Prelude.{◌≡◌, ℕ, ◌≤◌, Bool, false, nat_eq, List, [], ◌∷◌, length, slice_range}
 use Rattle.pixel_format.specs.Format.{host_format}
-use Rattle.pixel_format.specs.declared.kind.Format.{Format}
+use Rattle.terms.specs.declared.format.Format.{Format}
 use Rattle.terms.specs.Area.{LiesWithin}
 use Rattle.terms.specs.Reading.{Got}
 use Rattle.rfb_wire.specs.declared.message.Rectangle.{Rectangle}

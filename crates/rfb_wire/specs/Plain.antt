@@ -1,7 +1,7 @@
 -- What a function that reads from the front of bytes answers, by the grammar.
 use Rattle.std.specs.Prelude.{◌≡◌, ◌≤◌, ℕ, Bool, true, false, List, [], ◌++◌, length, drop, Option, Some, None, Result, Ok, Err}
 use Rattle.terms.specs.Reading.{Reading, Got, More, Bad}
-use Rattle.pixel_format.specs.declared.kind.Format.{Format}
+use Rattle.terms.specs.declared.format.Format.{Format}
 use Rattle.terms.specs.declared.wire_fault.WireFault.{WireFault}
 use Rattle.rfb_wire.specs.declared.plain.Front.{Front}
 use Rattle.rfb_wire.specs.declared.plain.Front.TheVariants as fronts

@@ -1,6 +1,6 @@
 -- What contracts see of a reader of a host's stream.
 use Rattle.std.specs.Prelude.{◌≡◌, ℕ, ◌<◌, ◌≤◌, List, [], ◌++◌, length, false, Option, None}
-use Rattle.pixel_format.specs.declared.kind.Format.{Format}
+use Rattle.terms.specs.declared.format.Format.{Format}
 use Rattle.terms.specs.Reading.{Got}
 use Rattle.terms.specs.declared.wire_fault.WireFault.{WireFault}
 use Rattle.rfb_wire.specs.Grammar.{ReadOver, message_at}

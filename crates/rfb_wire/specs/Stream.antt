@@ -1,6 +1,6 @@
 -- What is given of a stream of a host's messages.
 use Rattle.std.specs.Prelude.{◌≡◌, ℕ, List, [], ◌∷◌}
-use Rattle.pixel_format.specs.declared.kind.Format.{Format}
+use Rattle.terms.specs.declared.format.Format.{Format}
 use Rattle.rfb_wire.specs.Grammar.{Message, Recorded, ReadOver}
 use Rattle.rfb_wire.specs.Host.{Host, host_of, IsRecorded}
 

@@ -1,6 +1,6 @@
 -- What reading bytes as one message answers (RFC 6143, section 7.6).
 use Rattle.std.specs.Prelude.{◌≡◌, ℕ, List, Result, Err, IfOk, MatchResult}
-use Rattle.pixel_format.specs.declared.kind.Format.{Format}
+use Rattle.terms.specs.declared.format.Format.{Format}
 use Rattle.terms.specs.Fault.{UnlessMemory}
 use Rattle.terms.specs.declared.wire_fault.WireFault.{WireFault}
 use Rattle.terms.specs.declared.wire_fault.WireFault.TheVariants as faults

@@ -19,7 +19,7 @@ pub enum BytesFault {
 
 impl BytesFault {
     /// The fault's number, by which it is printed: 0 for `NotOne`, else the reader's fault's.
-    pub fn number(&self) -> u8
+    pub fn number(&self) -> u64
         ensures { result ≡ bytes_number self.now }
     {
         match self {

@@ -5,11 +5,10 @@ ghost use Rattle.std.specs.Prelude.{◌≡◌, ◌↔◌, ◌≤◌, All, IsTrue
 use crate::fault::BytesFault;
 use crate::message_type::HostMessageType;
 use crate::reader::ServerReader;
-use pixel_format::{Format, RecordedScreen};
 use rect_data::Encoding;
 use std::alloc::Global;
 use std::marker::Model;
-use terms::{Area, NoMemory, ScreenSize, WireFault};
+use terms::{Area, Format, NoMemory, RecordedScreen, ScreenSize, WireFault};
 
 /// A rectangle of an update: its area of the screen, and the offsets in the message's bytes at
 /// which its data begin and end.
@@ -53,7 +52,7 @@ impl Model for HostMessage {
 }
 
 impl HostMessage {
-    ghost use Rattle.pixel_format.specs.Limits.{limits, AreLimits};
+    ghost use Rattle.terms.specs.Limits.{limits, AreLimits};
     ghost use Rattle.rfb_wire.specs.Grammar.{message_limit};
     ghost use Rattle.rfb_wire.specs.Host.{host_of, is_update, IsRecorded, IsPlaced};
     ghost use Rattle.rfb_wire.specs.Message.{IsUpdate};

@@ -2,8 +2,8 @@
 
 ghost use Rattle.std.specs.Prelude.{◌≡◌, ℕ, ◌<◌, ◌≤◌, ◌^◌, ◌+◌, ◌++◌, ◌⊎◌, [], ◌∷◌, List, length, take, max, vec_capacity, IfOk, OnOk, IfErr, OnErr, Ok, Err, None};
 ghost use Rattle.terms.specs.Appending.{room_for};
-ghost use Rattle.pixel_format.specs.Limits.{limits, AreLimits};
-ghost use Rattle.pixel_format.specs.declared.kind.Format.{Format};
+ghost use Rattle.terms.specs.Limits.{limits, AreLimits};
+ghost use Rattle.terms.specs.declared.format.Format.{Format};
 ghost use Rattle.std.specs.Option.{option_to_list};
 ghost use Rattle.terms.specs.Reading.{Got, Bad};
 ghost use Rattle.rfb_wire.specs.Grammar.{message_at, Recorded, message_limit};
@@ -15,10 +15,10 @@ ghost use Rattle.rfb_wire.specs.Stream.{given};
 
 use crate::message::{HostMessage, Rectangle};
 use crate::step::{run, step};
-use pixel_format::{Format, PixelFormat, RecordedScreen};
+use pixel_format::PixelFormat;
 use rect_data::{Encoding, Judging};
 use std::alloc::Global;
-use terms::{Area, WireFault, append_come};
+use terms::{Area, Format, RecordedScreen, WireFault, append_come};
 
 /// The greatest number of bytes of an update that is recorded in this format.
 pub fn message_limit(format: Format) -> usize

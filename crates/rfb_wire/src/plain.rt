@@ -9,10 +9,10 @@ use crate::message::{HostMessage, Rectangle};
 use crate::message_type::HostMessageType;
 use crate::partial_message::message_limit;
 use crate::step::{TEXT_LIMIT, judge_header};
-use pixel_format::{PixelFormat, RecordedScreen};
+use pixel_format::PixelFormat;
 use rect_data::measure;
 use std::alloc::Global;
-use terms::{ScreenSize, WireFault, field, read_u16, read_u32};
+use terms::{RecordedScreen, ScreenSize, WireFault, field, read_u16, read_u32};
 
 /// The message that bytes begin with.
 #[derive(Drop)]

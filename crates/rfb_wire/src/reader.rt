@@ -10,10 +10,9 @@ ghost use Rattle.rfb_wire.specs.Stream.{given};
 
 use crate::message::HostMessage;
 use crate::partial_message::{PartialMessage, message_limit};
-use pixel_format::{Format, RecordedScreen};
 use std::alloc::Global;
 use std::marker::Model;
-use terms::{NoMemory, ScreenSize, WireFault};
+use terms::{Format, NoMemory, RecordedScreen, ScreenSize, WireFault};
 
 /// Reads a host's messages from its stream, which comes in pieces of any length (RFC 6143, section
 /// 7.6), for a screen of one size. Each byte is looked at once, and memory is taken for bytes that

@@ -227,7 +227,10 @@ pub fn run(
         → resume size.width size.height (Stage.Data at begun current others) (bytes.now ++ more) ≡ Bad f) }
 {
     match current.run(&PixelFormat::host(), size, bytes) {
-        Ok((taken, next)) => Ok((taken, next_data(at + taken, begun, next, others))),
+        Ok(fields) => {
+            let next = next_data(at + fields.taken, begun, fields.next, others);
+            Ok((fields.taken, next))
+        }
         Err(fault) => Err(fault),
     }
 }

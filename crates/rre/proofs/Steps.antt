@@ -1,5 +1,5 @@
 -- What follows from a whole field.
-use Rattle.std.proofs.Common.{◌≡◌, ℕ, suc, ◌+◌, ◌-◌, ◌<◌, ◌≤◌, true, false, List, [], ◌∷◌, ◌++◌, ◌∙◌, length, take, drop, Option, Some, None, Ok, Err, refl, sym, ap, arith, append_assoc}
+use Rattle.std.proofs.Common.{◌≡◌, ℕ, suc, ◌+◌, ◌-◌, ◌<◌, true, false, List, [], ◌∷◌, ◌++◌, ◌∙◌, length, take, drop, Option, Some, refl, sym, ap, arith, append_assoc}
 use Rattle.std.proofs.Math.Seq.{take-append-add}
 use Rattle.std.proofs.lemmas.List.{take-append-drop, length-drop, append-nil}
 use Rattle.pixel_format.specs.Format.{Format}
@@ -12,7 +12,7 @@ use Rattle.rre.specs.declared.measuring.Measuring.{Measuring}
 use Rattle.rre.specs.declared.measuring.Measuring.TheVariants as stages
 use Rattle.rre.specs.Grammar.{Fault, Outside, head_bytes, subrectangle_bytes, subrectangle_of, is_inside, subrectangle_at, subrectangles_at, data_at}
 use Rattle.rre.specs.Measuring.{wants_of, resume, go_on}
-use Rattle.terms.specs.Measuring.{judged, measured}
+use Rattle.terms.specs.Measuring.{judged}
 
 -- what is made of a value plays no part in how its bytes are judged
 judged_of : {A B : Type 0} (g : A → B) (r : Reading A Fault) → judged (r >>= λ x after. Got (g x) after) ≡ judged r

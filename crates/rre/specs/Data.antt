@@ -1,6 +1,6 @@
 -- What the data of an RRE rectangle are (RFC 6143, section 7.7.3): a relation between a pixel
 -- format, the rectangle's size, bytes, and the background and subrectangles that they say.
-use Rattle.std.specs.Prelude.{◌≡◌, ℕ, ◌+◌, ◌<◌, ◌≤◌, List, [], ◌∷◌, ◌++◌, length}
+use Rattle.std.specs.Prelude.{◌≡◌, ℕ, ◌<◌, List, [], ◌∷◌, ◌++◌, length}
 use Rattle.pixel_format.specs.Format.{Format, pixel_bytes}
 use Rattle.pixel_format.specs.Pixel.{pixel_color}
 use Rattle.terms.specs.Area as areas

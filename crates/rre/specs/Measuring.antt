@@ -1,7 +1,7 @@
 -- What is left of data that are judged field by field.
-use Rattle.std.specs.Prelude.{ℕ, suc, List, Option, Some, None, Result}
+use Rattle.std.specs.Prelude.{ℕ, suc, List, Option, Some, None}
 use Rattle.pixel_format.specs.Format.{Format}
-use Rattle.terms.specs.Reading.{Reading, Got, ◌>>=◌}
+use Rattle.terms.specs.Reading.{Reading, Got}
 use Rattle.terms.specs.Measuring.{judged}
 use Rattle.rre.specs.declared.measuring.Measuring.{Measuring}
 use Rattle.rre.specs.declared.measuring.Measuring.TheVariants as stages

@@ -7,7 +7,7 @@ ghost use Rattle.rre.specs.Grammar.{Outside, subrectangle_bytes, subrectangles_a
 
 use crate::data::{is_part_inside, read_count};
 use pixel_format::PixelFormat;
-use terms::{NoLength, whole_length};
+use terms::{NoLength, WholeFields};
 
 /// Which field of a rectangle's data comes next: what stands for the part that is judged. Data that
 /// come in pieces are judged by [`run`](Measuring::run), from `Head` on, and no byte twice: bytes
@@ -41,21 +41,20 @@ fn next_of(count: u64) -> Option<Measuring>
     }
 }
 
-// Judges the whole subrectangles that the bytes begin with, so many at most. Answers how many bytes
-// they have, and what comes next.
+// Judges the whole subrectangles that the bytes begin with, so many at most.
 fn judge_parts(
     format: &PixelFormat,
     w: u16,
     h: u16,
     count: u64,
     bytes: &[u8],
-) -> Result<(usize, Option<Measuring>), NoLength>
+) -> Result<WholeFields<Measuring>, NoLength>
     requires { count ≤ 2 ^ 32 }
-    ensures taken { IfOk result (λ x. x.0 ≤ length bytes.now) }
-    ensures first { IfOk result (λ x. 0 < count → subrectangle_bytes format.now ≤ length bytes.now → subrectangle_bytes format.now ≤ x.0) }
-    ensures goes { IfOk result (λ x. (more : List ℕ)
-        → judged (subrectangles_at format.now w h count (take x.0 bytes.now ++ more)) ≡ go_on format.now w h x.1 more) }
-    ensures waits { IfOk result (λ x. IfSome x.1 (λ next. length bytes.now < x.0 + wants_of format.now next)) }
+    ensures taken { IfOk result (λ fields. fields.taken ≤ length bytes.now) }
+    ensures first { IfOk result (λ fields. 0 < count → subrectangle_bytes format.now ≤ length bytes.now → subrectangle_bytes format.now ≤ fields.taken) }
+    ensures goes { IfOk result (λ fields. (more : List ℕ)
+        → judged (subrectangles_at format.now w h count (take fields.taken bytes.now ++ more)) ≡ go_on format.now w h fields.next more) }
+    ensures waits { IfOk result (λ fields. IfSome fields.next (λ next. length bytes.now < fields.taken + wants_of format.now next)) }
     ensures refused { IfErr result (λ _. (more : List ℕ)
         → judged (subrectangles_at format.now w h count (bytes.now ++ more)) ≡ Bad Outside) }
     ensures only { IfErr result (λ fault. fault ≡ NoLength.Bad) }
@@ -71,7 +70,10 @@ fn judge_parts(
         left -= 1;
         rest = following;
     }
-    Ok((bytes.len() - rest.len(), next_of(left)))
+    Ok(WholeFields {
+        taken: bytes.len() - rest.len(),
+        next: next_of(left),
+    })
 }
 
 impl Measuring {
@@ -87,21 +89,20 @@ impl Measuring {
         }
     }
 
-    /// Judges the whole fields that the bytes begin with, in a rectangle of w by h. Answers how
-    /// many bytes they have, and the field after them, which isn't whole in the bytes, `None` if
-    /// the data end; and `NoLength::Bad` if one of them is a subrectangle that leaves the rectangle.
+    /// Judges the whole fields that the bytes begin with, in a rectangle of w by h, and answers
+    /// them; or `NoLength::Bad` if one of them is a subrectangle that leaves the rectangle.
     pub fn run(
         self,
         format: &PixelFormat,
         w: u16,
         h: u16,
         bytes: &[u8],
-    ) -> Result<(usize, Option<Measuring>), NoLength>
-        ensures taken { IfOk result (λ x. x.0 ≤ length bytes.now) }
-        ensures first { IfOk result (λ x. wants_of format.now self ≤ length bytes.now → wants_of format.now self ≤ x.0) }
-        ensures goes { IfOk result (λ x. (more : List ℕ)
-            → resume format.now w h self (take x.0 bytes.now ++ more) ≡ go_on format.now w h x.1 more) }
-        ensures waits { IfOk result (λ x. IfSome x.1 (λ next. length bytes.now < x.0 + wants_of format.now next)) }
+    ) -> Result<WholeFields<Measuring>, NoLength>
+        ensures taken { IfOk result (λ fields. fields.taken ≤ length bytes.now) }
+        ensures first { IfOk result (λ fields. wants_of format.now self ≤ length bytes.now → wants_of format.now self ≤ fields.taken) }
+        ensures goes { IfOk result (λ fields. (more : List ℕ)
+            → resume format.now w h self (take fields.taken bytes.now ++ more) ≡ go_on format.now w h fields.next more) }
+        ensures waits { IfOk result (λ fields. IfSome fields.next (λ next. length bytes.now < fields.taken + wants_of format.now next)) }
         ensures refused { IfErr result (λ _. (more : List ℕ)
             → resume format.now w h self (bytes.now ++ more) ≡ Bad Outside) }
         ensures only { IfErr result (λ fault. fault ≡ NoLength.Bad) }
@@ -110,11 +111,17 @@ impl Measuring {
             Measuring::Head => {
                 let head = 4 + format.bytes();
                 if bytes.len() < head {
-                    return Ok((0, Some(self)));
+                    return Ok(WholeFields {
+                        taken: 0,
+                        next: Some(self),
+                    });
                 }
                 let (front, body) = bytes.split_at(head);
-                let (taken, next) = judge_parts(format, w, h, read_count(front) as u64, body)?;
-                Ok((head + taken, next))
+                let parts = judge_parts(format, w, h, read_count(front) as u64, body)?;
+                Ok(WholeFields {
+                    taken: head + parts.taken,
+                    next: parts.next,
+                })
             }
             Measuring::Subrectangle { more } => judge_parts(format, w, h, more as u64 + 1, bytes),
         }
@@ -125,8 +132,8 @@ impl Measuring {
 fn measure_by_fields(format: &PixelFormat, w: u16, h: u16, bytes: &[u8]) -> Result<usize, NoLength>
     ensures { result ≡ measured (length bytes.now) (data_at format.now w h bytes.now) }
 {
-    let (taken, following) = Measuring::Head.run(format, w, h, bytes)?;
-    whole_length(taken, following)
+    let fields = Measuring::Head.run(format, w, h, bytes)?;
+    fields.length()
 }
 
 /// The length of the data of a rectangle of w by h that begin the bytes (RFC 6143, section 7.7.3).

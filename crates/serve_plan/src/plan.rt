@@ -1,9 +1,9 @@
 //! What is to be served, and for how long.
 
-use pixel_format::Format;
 use playing::Pace;
 use reception::{Stop, Term};
 use telling::Told;
+use terms::Format;
 
 /// How many viewers are served.
 #[derive(Clone, Copy, Debug, PartialEq, Eq)]

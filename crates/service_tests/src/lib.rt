@@ -3,10 +3,10 @@
 
 ghost use Rattle.std.specs.Prelude.{◌≡◌};
 
-use pixel_format::Format;
 use reception::Stop;
 use serve_plan::{Audience, Origin, Plan};
 use telling::Told;
+use terms::Format;
 
 /// A plan of a test: what it serves, to whom, and the position at which they begin. It ends with
 /// its viewers.

@@ -7,7 +7,7 @@ use Rattle.showing.specs.declared.situation.Situation.{Situation}
 use Rattle.showing.specs.declared.next.Next.{Next}
 use Rattle.showing.specs.declared.next.Next.TheVariants.{Want, Wait, WaitUntilAsked, HoldBack, Newest, Seek, Begin, Sleep, Show, Rest, Stop}
 use Rattle.showing.specs.Table.{next_of, most, is_owed, may_go_on, is_live, leaps, is_far, goes_on, stands_before_start, starts_at_position, starts_at_newest, is_unread, leaps_now, keeps_up, is_held_back, takes_more}
-use Rattle.showing.specs.Run.{Watch, Event, Commits, Tells, Asks, Closes, Ends, Leaves, Works, Lacks, answered, answered_if_due, moved_to, taken_to, asking, done, lacked, happens, happens_to, run, comes_after, count_up, BeginsWith}
+use Rattle.showing.specs.Run.{Watch, Event, Commits, Tells, Asks, Closes, Ends, Leaves, Works, Lacks, Fails, answered, answered_if_due, moved_to, taken_to, asking, done, lacked, failed, is_read, happens, happens_to, run, comes_after, count_up, BeginsWith}
 use Rattle.showing.proofs.Says.{Says, says}
 use Rattle.showing.proofs.Means.{coming_means, one_means, live_means, before_means, owed_there, going, taking}
 use Rattle.std.proofs.lemmas.Bool.{cases_lt, and_parts}
@@ -66,8 +66,8 @@ Stands n u w = IsComing n w ⊎ (IsShown n u w ⊎ (IsOwed n u w ⊎ IsPassed n 
 
 pub record InOrder (n u : ℕ) (w : Watch) : Type 0 where
   pub begins : w.sees.begins ≡ After n u
-  pub reads : w.sees.has_failed ≡ false
-  pub stands : w.sees.is_closing ≡ false → Stands n u w
+  pub reads : w.unread ≡ false → w.sees.has_failed ≡ false
+  pub stands : w.sees.is_closing ≡ false → w.unread ≡ false → Stands n u w
 
 -- it is sent the next screen
 sent_next : (n u : ℕ) (w : Watch) → w.sees.position ≡ w.view → w.shown ++ w.view ∷ [] ≡ count_up n (suc (w.view - n)) → n ≤ w.view → w.view ≤ u
@@ -454,6 +454,7 @@ coming_to n u w Ends within begins reads stays c = inl (coming_same n w _ c refl
 coming_to n u w Leaves within begins reads stays c = inl (coming_same n w _ c refl refl refl refl refl refl refl refl)
 coming_to n u w (Works more changes_all) within begins reads stays c = coming_done n u w more changes_all (next_of w.sees) within begins reads stays c (says w.sees)
 coming_to n u w Lacks within begins reads stays c = coming_lacked n u w (next_of w.sees) within begins reads stays c (says w.sees)
+coming_to n u w Fails within begins reads stays c = either (Stands n u) (is_read (next_of w.sees)) (failed w) w (λ _. inl (coming_same n w _ c refl refl refl refl refl refl refl refl)) (λ _. inl c)
 
 shown_to : (n u : ℕ) (w : Watch) (e : Event) → w.sees.begins ≡ After n u → w.sees.has_failed ≡ false → w.sees.is_closing ≡ false → IsShown n u w → Stands n u (happens_to w e)
 shown_to n u w Commits begins reads stays b = either (Stands n u) w.ended _ _ (λ _. inr (inl b)) (λ _. inr (inl (shown_same n u w _ b refl refl refl refl refl refl)))
@@ -464,6 +465,7 @@ shown_to n u w Ends begins reads stays b = inr (inl (shown_same n u w _ b refl r
 shown_to n u w Leaves begins reads stays b = inr (inl (shown_same n u w _ b refl refl refl refl refl refl))
 shown_to n u w (Works more changes_all) begins reads stays b = shown_done n u w more changes_all (next_of w.sees) begins reads stays b (says w.sees)
 shown_to n u w Lacks begins reads stays b = shown_lacked n u w (next_of w.sees) begins reads b (says w.sees)
+shown_to n u w Fails begins reads stays b = either (Stands n u) (is_read (next_of w.sees)) (failed w) w (λ _. inr (inl (shown_same n u w _ b refl refl refl refl refl refl))) (λ _. inr (inl b))
 
 owed_to : (n u : ℕ) (w : Watch) (e : Event) → w.sees.begins ≡ After n u → w.sees.has_failed ≡ false → w.sees.is_closing ≡ false → IsOwed n u w → Stands n u (happens_to w e)
 owed_to n u w Commits begins reads stays o = either (Stands n u) w.ended _ _ (λ _. inr (inr (inl o))) (λ _. inr (inr (inl (owed_same n u w _ o refl refl refl refl refl refl refl refl))))
@@ -474,6 +476,7 @@ owed_to n u w Ends begins reads stays o = inr (inr (inl (owed_same n u w _ o ref
 owed_to n u w Leaves begins reads stays o = inr (inr (inl (owed_same n u w _ o refl refl refl refl refl refl refl refl)))
 owed_to n u w (Works more changes_all) begins reads stays o = owed_done n u w more changes_all (next_of w.sees) begins reads stays o (says w.sees)
 owed_to n u w Lacks begins reads stays o = owed_lacked n u w (next_of w.sees) begins reads stays o (says w.sees)
+owed_to n u w Fails begins reads stays o = either (Stands n u) (is_read (next_of w.sees)) (failed w) w (λ _. inr (inr (inl (owed_same n u w _ o refl refl refl refl refl refl refl refl)))) (λ _. inr (inr (inl o)))
 
 stands_on : (n u : ℕ) (w : Watch) (e : Event) → n ≤ u → w.sees.begins ≡ After n u → w.sees.has_failed ≡ false → w.sees.is_closing ≡ false → Stands n u w → Stands n u (happens w e)
 stands_on n u w e within begins reads stays (inl c) = either (Stands n u) w.gone w (happens_to w e) (λ _. inl c) (λ _. coming_to n u w e within begins reads stays c)
@@ -485,8 +488,11 @@ in_order_on : (n u : ℕ) (w : Watch) (e : Event) → n ≤ u → InOrder n u w 
 in_order_on n u w e within o =
     let l = later w e in record {
       begins = l.begins ∙ o.begins;
-      reads = l.reads o.reads;
-      stands = λ closing. let before = l.closing closing in stands_on n u w e within o.begins o.reads before (o.stands before);
+      reads = λ unread. l.reads unread (o.reads (l.unread unread));
+      stands = λ closing unread.
+          let before = l.closing closing in
+          let read = l.unread unread in
+          stands_on n u w e within o.begins (o.reads read) before (o.stands before read);
     }
 
 pub in_order_run : (n u : ℕ) (events : List Event) (w : Watch) → n ≤ u → InOrder n u w → InOrder n u (run events w)
@@ -496,8 +502,8 @@ in_order_run n u (e ∷ events) w within o = in_order_run n u events (happens w 
 pub comes_in_order : (n key stored told : ℕ) (alone : Bool) → key ≤ n → InOrder n (max n told) (comes_after n key stored told alone)
 comes_in_order n key stored told alone before = record {
   begins = refl;
-  reads = refl;
-  stands = λ _. inl (record {
+  reads = λ _. refl;
+  stands = λ _ _. inl (record {
     bare = record { none = refl; before = before; from = refl; owed = λ at f. cc; shows = λ d. cc; at = λ f. cc };
     unasked = λ at d. refl;
     unanswered = refl;
@@ -507,16 +513,16 @@ comes_in_order n key stored told alone before = record {
 head_listed : (n view : ℕ) → n < view → count_up n (view - n) ≡ n ∷ count_up (suc n) (view - suc n)
 head_listed n view l = let some : view - n ≡ suc (view - suc n) = omega arith in rw some refl
 
-pub first_shown : (n u : ℕ) (w : Watch) → InOrder n u w → w.sees.is_closing ≡ false → (count : ℕ) (rest : List ℕ) → w.shown ≡ count ∷ rest → count ≡ n
-first_shown n u w o closing count rest e = elim (o.stands closing) [
+pub first_shown : (n u : ℕ) (w : Watch) → InOrder n u w → w.sees.is_closing ≡ false → w.unread ≡ false → (count : ℕ) (rest : List ℕ) → w.shown ≡ count ∷ rest → count ≡ n
+first_shown n u w o closing unread count rest e = elim (o.stands closing unread) [
   | inl c ↦ let none = c.bare.none in cc
   | inr (inl b) ↦ let some = b.shown in cc
   | inr (inr (inl d)) ↦ let listed = head_listed n w.view d.after in let shown = d.shown in cc
   | inr (inr (inr p)) ↦ let begun = p.1 in cc
 ]
 
-pub shown_in_order : (n u : ℕ) (w : Watch) → InOrder n u w → w.sees.is_closing ≡ false → BeginsWith w.shown (count_up n (suc (u - n))) ⊎ BeginsWith (count_up n (suc (u - n))) w.shown
-shown_in_order n u w o closing = elim (o.stands closing) [
+pub shown_in_order : (n u : ℕ) (w : Watch) → InOrder n u w → w.sees.is_closing ≡ false → w.unread ≡ false → BeginsWith w.shown (count_up n (suc (u - n))) ⊎ BeginsWith (count_up n (suc (u - n))) w.shown
+shown_in_order n u w o closing unread = elim (o.stands closing unread) [
   | inl c ↦ inr (count_up n (suc (u - n)), rw c.bare.none refl)
   | inr (inl b) ↦ inr (rw b.shown (count_up-begins n (suc (w.view - n)) (suc (u - n)) (let until = b.until in omega arith)))
   | inr (inr (inl d)) ↦ inr (rw d.shown (count_up-begins n (w.view - n) (suc (u - n)) (let until = d.until in omega arith)))

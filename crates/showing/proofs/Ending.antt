@@ -288,5 +288,5 @@ ends_shown_all ts w s ended left alone short reads l =
     let within = size_below w.sees.is_at_end (w.stored - w.sees.position) w.sees.is_fresh w.sees.has_waited w.due in
     let v = run (turns ts) w in
     let e = ends_by_turns w.stored ts w s a (omega arith) in
-    let all = shown_all v e.sound e.gone (attended_over v.sees e.attended.stays e.attended.hosted e.attended.has_memory) in
+    let all = shown_all v e.sound e.gone (attended_over v.sees e.attended.stays e.attended.hosted e.attended.has_memory) e.attended.reads in
     (e.gone, all.0 ∙ e.attended.same, subst (EndsWith v.shown) e.attended.same all.2)

@@ -6,6 +6,7 @@ pub mod Kept
 pub mod Each
 pub mod Sound
 pub mod Waits
+pub mod Passing
 pub mod Turns
 pub mod Ending
 pub mod Reached

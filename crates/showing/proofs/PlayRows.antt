@@ -1,6 +1,7 @@
 -- Just one row of the played one's table applies, and what is done next says which.
 use Rattle.std.proofs.Common.{◌≡◌, ℕ, ◌⊎◌, Bool, true, false, not, ◌&&◌, ◌||◌, List, [], ◌∷◌, refl, sym, ap, ◌∙◌, subst, inl, inr, Some, ◌≤◌, ◌<◌, nat_lt, ◌-◌, ◌+◌, arith}
 use Rattle.std.specs.Prelude.{if◌then◌else◌, is_some}
+use Rattle.std.proofs.lemmas.Bool.{and_parts}
 use Rattle.std.proofs.lemmas.Bool.Decides.{nat_tests}
 use Rattle.showing.specs.declared.playback.Playback.{Playback}
 use Rattle.showing.specs.declared.next.Next.{Next}
@@ -55,7 +56,7 @@ Says s Rest = has_played s ≡ true
 Says s Stop = is_cut_off s ≡ true
 Says s Show = is_due s ≡ true
 Says s (Sleep time) = ((is_early s ≡ true) × (time ≡ time_left s.due s.played)) ⊎ (stands_still s ≡ true)
-Says s (Seek count) = plays_again s ≡ true
+Says s (Seek count) = (plays_again s ≡ true) × (count ≡ s.from)
 Says s (Want limit) = Unit {0}
 Says s Begin = begins_now s ≡ true
 Says s Wait = waits s ≡ true
@@ -78,7 +79,7 @@ say s (r ∷ rows) one each = row_says s r.applies r.next rows one each.0 (λ o.
 
 says_if : (s : Playback) (next : Next) → next_of s ≡ next → Says s next
 says_if s next e = subst (Says s) e (say s (table s) (one_played_row s)
-    (λ e. e, (λ e. inl (e, refl), (λ e. e, (λ e. e, (λ e. inr e, (λ e. e, (λ e. tt, (λ e. tt, (λ e. e, (λ e. tt, (λ e. e, tt))))))))))))
+    (λ e. e, (λ e. inl (e, refl), (λ e. e, (λ e. e, (λ e. inr e, (λ e. (e, refl), (λ e. tt, (λ e. tt, (λ e. e, (λ e. tt, (λ e. e, tt))))))))))))
 
 none_left : (due played : ℕ) → nat_lt 0 (due - played) ≡ false → due ≤ played
 none_left due played e = grind (arith, nat_tests)
@@ -124,3 +125,18 @@ none_more s e = grind (arith, nat_tests)
 
 pub played_waits : (s : Playback) → next_of s ≡ Wait → (s.committed ≤ s.position) × (s.is_at_end ≡ false) × (s.has_left ≡ false) × (s.is_closing ≡ false)
 played_waits s e = let parts = wait_parts s (says_if s Wait e) in (none_more s parts.0, parts.1, parts.2, parts.3)
+
+-- what is played again
+below_then : (a b : ℕ) → nat_lt a b ≡ true → a < b
+below_then a b e = grind (arith, nat_tests)
+
+repeats_then : (s : Playback) → begins_again s ≡ true → (s.repeats ≡ true) × (s.from < s.position)
+repeats_then s e = let parts = and_parts s.repeats (nat_lt s.from s.position) e in (parts.0, below_then s.from s.position parts.1)
+
+pub played_again : (s : Playback) (count : ℕ) → next_of s ≡ Seek count → (count ≡ s.from) × (s.from < s.position) × (s.repeats ≡ true) × (s.is_at_end ≡ true)
+played_again s count e =
+    let is = says_if s (Seek count) e in
+    let parts = and_parts (is_free s) (s.is_at_end && (begins_again s && s.has_stood)) is.0 in
+    let rest = and_parts s.is_at_end (begins_again s && s.has_stood) parts.1 in
+    let again = repeats_then s (and_parts (begins_again s) s.has_stood rest.1).0 in
+    (is.1, again.1, again.0, rest.0)

@@ -8,7 +8,7 @@ use Rattle.showing.specs.declared.situation.Situation.{Situation}
 use Rattle.showing.specs.declared.next.Next.{Next}
 use Rattle.showing.specs.declared.next.Next.TheVariants.{Want, Wait, WaitUntilAsked, HoldBack, Newest, Seek, Begin, Sleep, Show, Rest, Stop}
 use Rattle.showing.specs.Table.{next_of, is_over, is_stopped, goes_on, takes_more, leaps, is_far, may_go_on, is_coming, is_shown_each, is_live, has_more}
-use Rattle.showing.specs.Run.{Watch, Event, Commits, Tells, Asks, Closes, Ends, Leaves, Works, Lacks, answered_if_due, moved_to, asking, without_screen, woken, told_the_end, waited, rested, done, lacked, happens, happens_to, run, EndsWith, comes, start_of}
+use Rattle.showing.specs.Run.{Watch, Event, Commits, Tells, Asks, Closes, Ends, Leaves, Works, Lacks, Fails, answered_if_due, moved_to, asking, without_screen, woken, told_the_end, waited, rested, done, lacked, failed, is_read, happens, happens_to, run, EndsWith, comes, start_of}
 use Rattle.showing.proofs.Says.{Says, says}
 use Rattle.showing.proofs.Means.{HasScreen, going, taking}
 use Rattle.showing.proofs.Kept.{sent, either}
@@ -22,7 +22,7 @@ pub record IsSound (w : Watch) : Type 0 where
   pub waited : w.sees.has_waited ≡ true → w.sees.is_fresh ≡ false → w.sees.position < w.stored
   pub unanswered : w.sees.has_asked ≡ true → w.due ≡ true → w.view < w.answers_from
   pub seen : w.due ≡ false → w.sees.is_fresh ≡ false → EndsWith w.shown w.view
-  pub gone : w.gone ≡ true → (is_over w.sees ≡ true) ⊎ ((w.sees.is_at_end ≡ true) × (w.sees.has_asked ≡ true))
+  pub gone : w.gone ≡ true → w.sees.has_failed ≡ false → (is_over w.sees ≡ true) ⊎ ((w.sees.is_at_end ≡ true) × (w.sees.has_asked ≡ true))
 
 -- before an update is sent, or isn't
 record IsReady (w : Watch) : Type 0 where
@@ -49,7 +49,7 @@ ready_sent w r = elim (sent w) [
     waited = r.waited;
     unanswered = λ a d. cc;
     seen = λ d f. (w.shown, refl);
-    gone = λ g. let going = r.going in cc;
+    gone = λ g _. let going = r.going in cc;
   })
   | inr s ↦ subst IsSound (sym s.0) (record {
     below = r.below;
@@ -60,7 +60,7 @@ ready_sent w r = elim (sent w) [
     waited = r.waited;
     unanswered = λ a d. below_there w.answers_from w.view (s.1 a d);
     seen = r.seen;
-    gone = λ g. let going = r.going in cc;
+    gone = λ g _. let going = r.going in cc;
   })
 ]
 
@@ -128,8 +128,8 @@ on_wait s e =
     let parts = and_parts (goes_on s) (not (leaps s) && not (has_more s)) e in
     ((going s parts.0).0, none_then (leaps s) (has_more s) parts.1)
 
-still_here : (w : Watch) → w.gone ≡ false → (v : Watch) → w.gone ≡ true → (is_over v.sees ≡ true) ⊎ ((v.sees.is_at_end ≡ true) × (v.sees.has_asked ≡ true))
-still_here w going v g = absurd (let contrary : true ≡ false = sym g ∙ going in cc)
+still_here : (w : Watch) → w.gone ≡ false → (v : Watch) → w.gone ≡ true → v.sees.has_failed ≡ false → (is_over v.sees ≡ true) ⊎ ((v.sees.is_at_end ≡ true) × (v.sees.has_asked ≡ true))
+still_here w going v g _ = absurd (let contrary : true ≡ false = sym g ∙ going in cc)
 
 at_the_end : (position stored : ℕ) → position ≤ stored → nat_lt position stored ≡ false → position ≡ stored
 at_the_end position stored l e = grind (arith, nat_tests)
@@ -186,7 +186,7 @@ sound_rested w s e =
       waited = s.waited;
       unanswered = s.unanswered;
       seen = s.seen;
-      gone = λ _. elim (rested_why w.sees.has_left w.sees.has_asked w.sees.is_alone w.sees.is_closing why) [ inl l ↦ inl (left_over w.sees l) | inr a ↦ inr (e, a) ];
+      gone = λ _ _. elim (rested_why w.sees.has_left w.sees.has_asked w.sees.is_alone w.sees.is_closing why) [ inl l ↦ inl (left_over w.sees l) | inr a ↦ inr (e, a) ];
     })
     (λ _. s)
 
@@ -222,7 +222,7 @@ sound_done w more changes_all Stop s going e = record {
   waited = s.waited;
   unanswered = s.unanswered;
   seen = s.seen;
-  gone = λ _. inl (stopped_then w.sees e);
+  gone = λ _ _. inl (stopped_then w.sees e);
 }
 sound_done w more changes_all (Seek count) s going e = s
 sound_done w more changes_all Begin s going e = s
@@ -330,6 +330,17 @@ sound_to w Leaves s going = record {
 }
 sound_to w (Works more changes_all) s going = sound_done w more changes_all (next_of w.sees) s going (says w.sees)
 sound_to w Lacks s going = sound_lacked w (next_of w.sees) s going (says w.sees)
+sound_to w Fails s going = either IsSound (is_read (next_of w.sees)) (failed w) w (λ _. record {
+  below = s.below;
+  told = s.told;
+  answers = s.answers;
+  at = s.at;
+  all = s.all;
+  waited = s.waited;
+  unanswered = s.unanswered;
+  seen = s.seen;
+  gone = λ _ reads. absurd (let contrary : true ≡ false = reads in cc);
+}) (λ _. s)
 
 pub sound_on : (w : Watch) (e : Event) → IsSound w → IsSound (happens w e)
 sound_on w e s = either IsSound w.gone w (happens_to w e) (λ _. s) (λ going. sound_to w e s going)
@@ -348,7 +359,7 @@ comes_sound begins position stored told alone from below known = record {
   waited = λ a f. cc;
   unanswered = λ a d. cc;
   seen = λ d f. cc;
-  gone = λ g. cc;
+  gone = λ g _. cc;
 }
 
 nothing_due : (due : Bool) (view from stored : ℕ) → (due ≡ true → view < from) → from ≤ stored → view ≡ stored → due ≡ false
@@ -362,8 +373,8 @@ seen_all w s asked all at =
     subst (EndsWith w.shown) here (s.seen due all.2)
 
 -- who was served to its end was shown all
-pub shown_all : (w : Watch) → IsSound w → w.gone ≡ true → is_over w.sees ≡ false → (w.sees.position ≡ w.stored) × (w.ended ≡ true) × EndsWith w.shown w.stored
-shown_all w s gone served = elim (s.gone gone) [
+pub shown_all : (w : Watch) → IsSound w → w.gone ≡ true → is_over w.sees ≡ false → w.sees.has_failed ≡ false → (w.sees.position ≡ w.stored) × (w.ended ≡ true) × EndsWith w.shown w.stored
+shown_all w s gone served reads = elim (s.gone gone reads) [
   | inl over ↦ absurd (let contrary : true ≡ false = sym over ∙ served in cc)
   | inr rested ↦
       let all = s.all rested.0 in

@@ -228,7 +228,7 @@ far_goes_to_newest s on live l =
     let row : leaps_now s ≡ true = rw (on, leap.0, leap.1) refl in
     row_is_done (table s) (record { applies = leaps_now s; next = Newest }) (one_row s) (inr (inr (inr (inr (inr (inr (inl refl))))))) row
 
-always : (due : Bool) → (due || true) ≡ true
+pub always : (due : Bool) → (due || true) ≡ true
 always true = refl
 always false = refl
 

@@ -1,17 +1,17 @@
 -- A viewer's run: what happens around it, and what its worker does for it, each time by the table.
--- Memory may run out at any step; a device that fails in reading for it is not among the events.
+-- Memory may run out at any step, and the device may fail in reading for it.
 use Rattle.std.specs.Prelude.{◌≡◌, ℕ, zero, suc, ◌+◌, ◌-◌, ◌≤◌, min, max, Bool, true, false, not, ◌&&◌, ◌||◌, nat_lt, nat_le, if◌then◌else◌, List, [], ◌∷◌, ◌++◌}
 use Rattle.showing.specs.declared.begins.Begins.{Begins}
 use Rattle.showing.specs.declared.begins.Begins.TheVariants.{Live, After}
 use Rattle.showing.specs.declared.situation.Situation.{Situation}
 use Rattle.showing.specs.declared.next.Next.{Next}
 use Rattle.showing.specs.declared.next.Next.TheVariants.{Want, Wait, WaitUntilAsked, HoldBack, Newest, Seek, Begin, Sleep, Show, Rest, Stop}
-use Rattle.showing.specs.Table.{next_of, is_over}
+use Rattle.showing.specs.Table.{next_of, is_live, is_over}
 
 -- sees: what the decision looks at; stored: how many messages are committed; ended: host and flusher
 -- have ended; view: how many messages its view shows; answers_from: nothing is sent before its view is
 -- here; due: its view has something that it wasn't shown; shown: after how many messages each screen is
--- that it was shown, in order; gone: its worker has ended
+-- that it was shown, in order; gone: its worker has ended; unread: the device has failed in reading for it
 pub record Watch : Type 0 where
   pub sees : Situation
   pub stored : ℕ
@@ -21,10 +21,12 @@ pub record Watch : Type 0 where
   pub due : Bool
   pub shown : List ℕ
   pub gone : Bool
+  pub unread : Bool
 
 -- What may happen. Works: the worker does what comes next for it, and is handed one message and so
 -- many more, if there are and it wants them; changes_all: its whole screen changes by that. Lacks: it
--- is to be handed something, and there is no memory for it.
+-- is to be handed something, and there is no memory for it. Fails: it is to be handed what is read for
+-- it, and the device fails.
 pub data Event : Type 0 where
   Commits : Event
   Tells : Event
@@ -34,6 +36,7 @@ pub data Event : Type 0 where
   Leaves : Event
   Works : (more : ℕ) (changes_all : Bool) → Event
   Lacks : Event
+  Fails : Event
 
 -- what it has is sent to it, and it asks for nothing until it asks again
 abbrev pub answered : Watch → Watch
@@ -121,6 +124,24 @@ lacked w Begin = w
 lacked w (Sleep time) = w
 lacked w Show = w
 
+-- whether something is read for it; the newest screen is in memory
+abbrev pub is_read : Next → Bool
+is_read (Want limit) = true
+is_read Newest = false
+is_read Wait = false
+is_read WaitUntilAsked = false
+is_read HoldBack = false
+is_read Rest = false
+is_read Stop = false
+is_read (Seek count) = false
+is_read Begin = false
+is_read (Sleep time) = false
+is_read Show = false
+
+-- what is left if the device fails in reading for it: a live one goes on, and another one's worker ends
+abbrev pub failed : Watch → Watch
+failed w = record w { sees = record w.sees { has_failed = true }; gone = not (is_live w.sees); unread = true }
+
 abbrev pub happens_to : Watch → Event → Watch
 happens_to w Commits = if w.ended then w else record w { stored = suc w.stored }
 happens_to w Tells = record w { sees = record w.sees { committed = w.stored } }
@@ -130,6 +151,7 @@ happens_to w Ends = record w { ended = true }
 happens_to w Leaves = record w { sees = record w.sees { has_left = true } }
 happens_to w (Works more changes_all) = done w more changes_all (next_of w.sees)
 happens_to w Lacks = lacked w (next_of w.sees)
+happens_to w Fails = if is_read (next_of w.sees) then failed w else w
 
 -- Nothing happens to a viewer whose worker has ended.
 abbrev pub happens : Watch → Event → Watch
@@ -170,6 +192,7 @@ comes begins position stored told alone = record {
   due = false;
   shown = [];
   gone = false;
+  unread = false;
 }
 
 -- Some events lead to it, of a viewer that comes to what is committed.

@@ -1,4 +1,5 @@
-//! How moments of a recording, and names and paths, are spelled on the command line.
+//! How moments of a recording, and names and paths, are spelled on the command line and in what is
+//! told.
 #![tactic(auto)]
 
 mod escaping;

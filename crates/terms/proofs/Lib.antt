@@ -7,3 +7,4 @@ pub mod Decimals
 pub mod Areas
 pub mod Progress
 pub mod Lacks
+pub mod Sizes

@@ -1,7 +1,7 @@
 -- The numbers by which faults are printed, and what holds of faults that bytes cause.
 use Rattle.std.specs.Prelude.{◌≡◌, ℕ, ◌-◌, ◌<◌, List, [], ◌∷◌, slice_get, Some}
-use Rattle.terms.specs.declared.format_fault.FormatFault.{FormatFault}
-use Rattle.terms.specs.declared.format_fault.FormatFault.TheVariants as format
+use Rattle.terms.specs.declared.pixel_format_fault.PixelFormatFault.{PixelFormatFault}
+use Rattle.terms.specs.declared.pixel_format_fault.PixelFormatFault.TheVariants as format
 use Rattle.terms.specs.declared.wire_fault.WireFault.{WireFault}
 use Rattle.terms.specs.declared.wire_fault.WireFault.TheVariants as faults
 
@@ -10,7 +10,7 @@ pub record IsNumber {A : Type 0} (faults : List A) (fault : A) (number : ℕ) : 
   pub counted : 0 < number
   pub is : slice_get faults (number - 1) ≡ Some fault
 
-abbrev pub format_faults : List FormatFault
+abbrev pub format_faults : List PixelFormatFault
 format_faults = format.BadBits ∷ format.NoTrueColor ∷ format.BadMax ∷ format.FieldOutside ∷ format.FieldsOverlap ∷ []
 
 abbrev pub wire_number : WireFault → ℕ

@@ -6,3 +6,4 @@ pub mod Decimal
 pub mod Appending
 pub mod Area
 pub mod Fault
+pub mod Limits

@@ -1,6 +1,6 @@
 -- Reading a list of bytes from its front, field by field. The bytes begin with a whole thing, or
 -- with a fault, or are too few for either.
-use Rattle.std.specs.Prelude.{◌≡◌, ℕ, ◌-◌, Bool, List, length, take, drop, ◌++◌, nat_lt, if◌then◌else◌}
+use Rattle.std.specs.Prelude.{◌≡◌, ℕ, Bool, List, length, take, drop, ◌++◌, nat_lt, if◌then◌else◌}
 
 pub data Reading (A E : Type 0) : Type 0 where
   -- a value, and the bytes after it

@@ -15,13 +15,23 @@ pub enum NoLength {
     Bad,
 }
 
-/// The length of data of which fields of so many bytes are whole; `NeedMore` if one follows that
-/// isn't.
-pub fn whole_length<F: Drop>(taken: usize, following: Option<F>) -> Result<usize, NoLength>
-    ensures { MatchOption following (result ≡ Ok taken) (λ _. result ≡ Err NoLength.NeedMore) }
-{
-    match following {
-        None => Ok(taken),
-        Some(_) => Err(NoLength::NeedMore),
+/// The whole fields of data that bytes begin with.
+#[derive(Clone, Copy)]
+pub struct WholeFields<Field> {
+    /// How many bytes they have.
+    pub taken: usize,
+    /// The field after them, which isn't whole in the bytes; none if the data end.
+    pub next: Option<Field>,
+}
+
+impl<Field: Drop> WholeFields<Field> {
+    /// The length of the data; `NeedMore` if a field follows.
+    pub fn length(self) -> Result<usize, NoLength>
+        ensures { MatchOption self.next (result ≡ Ok self.taken) (λ _. result ≡ Err NoLength.NeedMore) }
+    {
+        match self.next {
+            None => Ok(self.taken),
+            Some(_) => Err(NoLength::NeedMore),
+        }
     }
 }

@@ -4,7 +4,7 @@ ghost use Rattle.std.specs.Prelude.{◌≡◌};
 ghost use Rattle.terms.specs.declared.wire_fault.WireFault.TheVariants as faults;
 ghost use Rattle.terms.specs.Fault.{wire_number};
 
-use crate::FormatFault;
+use crate::PixelFormatFault;
 use std::alloc::{AllocError, AllocFailed};
 use thiserror::Error;
 
@@ -35,7 +35,7 @@ pub enum WireFault {
     SourceOutside,
     /// A pixel format is refused, for this reason.
     #[error("a pixel format that is refused: {0}")]
-    BadFormat(FormatFault),
+    BadFormat(PixelFormatFault),
     /// There is no memory for what the bytes say.
     #[error("no memory")]
     NoMemory,
@@ -60,7 +60,7 @@ impl<T: Drop> From<AllocFailed<T>> for WireFault {
 impl WireFault {
     /// The fault's number, by which it is printed: 1 to 7 in the order above, 8 for a pixel format,
     /// and 9 for memory that ran out.
-    pub fn number(&self) -> u8
+    pub fn number(&self) -> u64
         ensures { result ≡ wire_number self.now }
     {
         match self {

@@ -27,7 +27,7 @@ pub enum SessionFault {
 impl SessionFault {
     /// The fault's number, by which it is printed: that of the wire's fault, or 20 to 22 in the
     /// order above.
-    pub fn number(&self) -> u8
+    pub fn number(&self) -> u64
         ensures { result ≡ session_number self.now }
     {
         match self {

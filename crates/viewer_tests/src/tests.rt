@@ -9,7 +9,7 @@ use replay::Slice;
 use rfb_wire::HostMessage;
 use std::alloc::Global;
 use std::test::Fail;
-use terms::{FormatFault, ScreenSize, WireFault};
+use terms::{PixelFormatFault, ScreenSize, WireFault};
 use viewer_session::{Session, SessionFault};
 
 mod painting;
@@ -134,7 +134,7 @@ fn handshakes(rt: HostRuntime) -> Result<(), Fail> {
 #[test]
 fn faults(rt: HostRuntime) -> Result<(), Fail> {
     let alloc = rt.alloc();
-    let format = WireFault::BadFormat(FormatFault::NoTrueColor);
+    let format = WireFault::BadFormat(PixelFormatFault::NoTrueColor);
     let rows: [(&[u8], SessionFault); 3] = [
         (b"\x07", SessionFault::Wire(WireFault::UnknownType)),
         (

@@ -1,7 +1,7 @@
 //! A viewer's position in a recording.
 
 ghost use Rattle.std.specs.Prelude.{◌≡◌, ◌<◌, ◌^◌, ◌+◌, length, true};
-ghost use Rattle.shared_book.specs.Receipts.{IsOfSize};
+ghost use Rattle.shared_book.specs.Receipts.{IsOfSize, size_of};
 
 use crate::failure::{AfterFailure, after_failure};
 use book_workers::ViewerWish;
@@ -62,7 +62,7 @@ impl<'a, M: Mark, C: Connection, R: Clock + Wait> Viewing<'a, M, C, R> {
 
     /// Shows the viewer these messages, if they are due, and it hasn't left.
     pub fn show(&mut self, slice: &Slice, are_due: bool)
-        requires sized { IsOfSize M.head.width M.head.height slice.now }
+        requires sized { IsOfSize (size_of M.head) slice.now }
         requires room { slice.now.first + length slice.now.messages.items < 2 ^ 64 }
         ensures position { self.new.position ≡ self.old.position }
         ensures fresh { self.new.is_fresh ≡ self.old.is_fresh }

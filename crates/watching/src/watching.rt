@@ -102,9 +102,9 @@ impl<'a, M: Mark, C: Connection, R: Clock + Wait, G: Guide<M, C, R>> ViewerSink<
     Receipt<M>,
     Ending<M>,
 > for Watching<'a, M, C, R, G> {
-    ghost width = { λ w. M.head.width };
+    ghost use Rattle.shared_book.specs.Receipts.{size_of};
 
-    ghost height = { λ w. M.head.height };
+    ghost size = { λ w. size_of M.head };
 
     ghost position = { λ w. w.viewing.position };
 

@@ -22,9 +22,9 @@ pub fn hextile_in_pieces(
         if rest.len() < wants {
             return Err(NoLength::NeedMore);
         }
-        let (taken, following) = stage.run(format, &rest[..wants])?;
-        rest = &rest[taken..];
-        next = following;
+        let fields = stage.run(format, &rest[..wants])?;
+        rest = &rest[fields.taken..];
+        next = fields.next;
     }
     Err(NoLength::NeedMore)
 }

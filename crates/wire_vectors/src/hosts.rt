@@ -2,10 +2,9 @@
 
 use crate::account::Account;
 use crate::readings::{Message, Reader, is_alike};
-use pixel_format::RecordedScreen;
 use rfb_wire::{Front, HostMessage, Rectangle, ServerReader, read_message};
 use std::alloc::Global;
-use terms::{Area, NoMemory, WireFault};
+use terms::{Area, NoMemory, RecordedScreen, WireFault};
 
 // The values that replace a byte.
 const VALUES: [u8; 5] = [0, 1, 5, 0x80, 0xff];

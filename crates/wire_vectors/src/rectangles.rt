@@ -99,9 +99,9 @@ fn in_pieces(
         if rest.len() < wants {
             return Ok(None);
         }
-        let (taken, following) = stage.run(&host, size, &rest[..wants])?;
-        rest = &rest[taken..];
-        next = following;
+        let fields = stage.run(&host, size, &rest[..wants])?;
+        rest = &rest[fields.taken..];
+        next = fields.next;
     }
     Ok(None)
 }

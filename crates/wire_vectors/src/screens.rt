@@ -6,10 +6,10 @@ use crate::account::{Account, Untold};
 use crate::picture::{Pixels, write_rows};
 use crate::words::bytes;
 use painter::Screen;
-use pixel_format::{Color, Format};
+use pixel_format::Color;
 use rfb_wire::HostMessage;
 use std::alloc::Global;
-use terms::ScreenSize;
+use terms::{Format, ScreenSize};
 
 impl Pixels for Screen {
     fn color_at(&self, x: u16, y: u16) -> Option<Color> {

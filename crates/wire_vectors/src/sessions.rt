@@ -3,10 +3,9 @@
 use crate::account::Account;
 use crate::readings::Message;
 use host_session::{HostFault, HostSession};
-use pixel_format::Format;
 use rfb_wire::HostMessage;
 use std::alloc::Global;
-use terms::{NoMemory, ScreenSize};
+use terms::{Format, NoMemory, ScreenSize};
 
 // The host that a session waits for: for a recording of which format, and of which size, if one is
 // expected.

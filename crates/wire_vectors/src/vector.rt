@@ -5,8 +5,7 @@ use crate::hosts::HostReader;
 use crate::words::{append_numbers, bytes};
 use crate::{formats, hosts, readings, rectangles, screens, served, sessions, updates};
 use client_wire::ClientReader;
-use pixel_format::{Format, RecordedScreen};
-use terms::{Area, ScreenSize};
+use terms::{Area, Format, RecordedScreen, ScreenSize};
 
 /// Tells what comes of a vector, which its kind and numbers, a colon and its bytes tell.
 pub(crate) fn run(account: &mut Account, vector: &str) -> Result<(), Untold> {

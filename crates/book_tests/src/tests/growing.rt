@@ -6,9 +6,9 @@ use crate::ONE_PLACE;
 use disk::{Disk, DiskFault, MemoryDisk};
 use gated_journal::{BlockText, Header, Journal, OpenFault, State};
 use key_index::{IndexFault, Indexed};
-use pixel_format::Format;
 use std::alloc::Global;
 use std::test::Fail;
+use terms::Format;
 
 /// An entry: a bell at time 0.
 const BELL: [u8; 10] = *b"\x00\x00\x00\x00\x00\x00\x00\x00\x01\x02";

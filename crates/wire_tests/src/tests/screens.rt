@@ -3,11 +3,11 @@
 
 use crate::tests::samples::{area, size};
 use painter::{Screen, ScreenPart};
-use pixel_format::{Color, Format, PixelFormat};
+use pixel_format::{Color, PixelFormat};
 use rfb_wire::{Encoding, HostMessage};
 use std::alloc::Global;
 use std::test::Fail;
-use terms::ScreenSize;
+use terms::{Format, ScreenSize};
 
 // The screen of this size that the updates paint. It promises nothing, nor does the next one: with
 // the clauses of `Screen` the test would be slow to prove.

@@ -131,13 +131,9 @@ struct Updates<'a, M: Mark, R: Clock> {
 
 impl<'a, M: Mark, R: Clock> HostSource<Ticket<M>> for Updates<'a, M, R> {
     ghost use Rattle.std.specs.Prelude.{[], false};
-    ghost use Rattle.pixel_format.specs.declared.kind.Format.TheVariants.{One};
+    ghost use Rattle.terms.specs.declared.format.Format.TheVariants.{One};
 
-    ghost format = { λ u. One };
-
-    ghost width = { λ u. 1 };
-
-    ghost height = { λ u. 1 };
+    ghost screen = { λ u. record { format = One; size = record { width = 1; height = 1 } } };
 
     ghost is_modelled = { ⊥ };
 
@@ -209,9 +205,7 @@ struct Viewer<'a, M: Mark, R: Clock> {
 }
 
 impl<'a, M: Mark, R: Clock> ViewerSink<Receipt<M>, Ending<M>> for Viewer<'a, M, R> {
-    ghost width = { λ v. 1 };
-
-    ghost height = { λ v. 1 };
+    ghost size = { λ v. record { width = 1; height = 1 } };
 
     ghost position = { λ v. v.position };
 

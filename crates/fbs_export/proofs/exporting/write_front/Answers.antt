@@ -1,8 +1,8 @@
 use Rattle.std.proofs.Common.{◌≡◌, ◌≤◌, ◌*◌, ◌++◌, length, ap, ◌∙◌, arith}
 use Rattle.std.specs.Io.KnownBytes.{Appends}
 use Rattle.gated_journal.specs.Recording.{IsHead}
-use Rattle.pixel_format.specs.Limits.{limits}
-use Rattle.pixel_format.proofs.Sizes.{are_limits}
+use Rattle.terms.specs.Limits.{limits}
+use Rattle.terms.proofs.Sizes.{are_limits}
 use Rattle.painter.specs.Framebuffer.{color_at}
 use Rattle.fbs_export.specs.Export.{start, front_text, block_text, opening_text, screen_text, rows_text}
 use Rattle.fbs_export.specs.Written.{WroteFront}

@@ -3,8 +3,8 @@ use Rattle.terms.specs.Reading.{Reading, guard}
 use Rattle.terms.specs.Number.{u16_at}
 use Rattle.fbs_export.specs.declared.fault.FbsFault.{FbsFault}
 use Rattle.fbs_export.specs.declared.fault.FbsFault.TheVariants as faults
-use Rattle.pixel_format.specs.declared.kind.Format.TheVariants.{Two}
-use Rattle.pixel_format.specs.Limits.{limits, is_size}
+use Rattle.terms.specs.declared.format.Format.TheVariants.{Two}
+use Rattle.terms.specs.Limits.{limits, is_size}
 use Rattle.fbs_export.specs.Opening.{Opening, size_then, format_then}
 use Rattle.fbs_export.proofs.Judging.{part_short, part_whole, judged_after}
 use Rattle.fbs_export.proofs.judge.judge_size.Goals as goal

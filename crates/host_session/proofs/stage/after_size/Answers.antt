@@ -1,6 +1,6 @@
 use Rattle.std.proofs.Common.{◌≡◌, ℕ, true, false, rules, refl, sym, ◌∙◌}
 use Rattle.terms.specs.Number.{u16_at}
-use Rattle.pixel_format.specs.Limits.{limits, is_size}
+use Rattle.terms.specs.Limits.{limits, is_size}
 use Rattle.host_session.specs.Handshake.{is_expected}
 use Rattle.host_session.proofs.Goes.{size_goes, resume_head}
 use Rattle.host_session.proofs.stage.after_size.Goals as goal

@@ -1,4 +1,4 @@
-use Rattle.std.proofs.Common.{◌≡◌, ℕ, Some, slice_index, nat_eq, sym, ap, ◌∙◌}
+use Rattle.std.proofs.Common.{Some, slice_index, nat_eq, sym, ap, ◌∙◌}
 use Rattle.rfb_wire.specs.declared.message_type.HostMessageType.TheVariants as types
 use Rattle.rfb_wire.specs.Grammar.{message_limit}
 use Rattle.rfb_wire.proofs.MessageTypes.{type_number_is, unknown_type}

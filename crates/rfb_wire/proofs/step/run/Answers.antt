@@ -8,25 +8,25 @@ use Rattle.rfb_wire.specs.PartialMessage.{after_data}
 use Rattle.rfb_wire.proofs.Resume.{data_whole, has_bytes}
 use Rattle.rfb_wire.proofs.step.run.Goals as goal
 
-pub next_data-requires : goal.next_data-requires
-next_data-requires c =
-    has_bytes c.in-Ok.taken (length c.args.bytes.now) c.in-Ok.next c.in-Ok.ensures.taken
-    (subst (λ (f : Format). IfSome c.in-Ok.next (λ next. length c.args.bytes.now < c.in-Ok.taken + wants_of f next)) c.host.ensures c.in-Ok.ensures.waits)
+pub next_data-next-requires : goal.next_data-next-requires
+next_data-next-requires c =
+    has_bytes c.in-Ok.fields.taken (length c.args.bytes.now) c.in-Ok.fields.next c.in-Ok.ensures.taken
+    (subst (λ (f : Format). IfSome c.in-Ok.fields.next (λ next. length c.args.bytes.now < c.in-Ok.fields.taken + wants_of f next)) c.host.ensures c.in-Ok.ensures.waits)
 
 pub returns-in-Ok-clause-goes : goal.returns-in-Ok-clause-goes
 returns-in-Ok-clause-goes c = λ more.
-    let front = take c.in-Ok.taken c.args.bytes.now in
+    let front = take c.in-Ok.fields.taken c.args.bytes.now in
     data_whole c.args.size.width c.args.size.height c.args.at c.args.others c.args.begun c.args.current front more
-    (data_go_on host_format c.args.size.width c.args.size.height c.in-Ok.next more)
-    (subst (λ (f : Format). resume f c.args.size.width c.args.size.height c.args.current (front ++ more) ≡ data_go_on f c.args.size.width c.args.size.height c.in-Ok.next more)
+    (data_go_on host_format c.args.size.width c.args.size.height c.in-Ok.fields.next more)
+    (subst (λ (f : Format). resume f c.args.size.width c.args.size.height c.args.current (front ++ more) ≡ data_go_on f c.args.size.width c.args.size.height c.in-Ok.fields.next more)
     c.host.ensures (c.in-Ok.ensures.goes more))
-    ∙ ap (λ n. after_data c.args.size.width c.args.size.height c.args.begun c.args.others ((c.args.at + n) + length more) (data_go_on host_format c.args.size.width c.args.size.height c.in-Ok.next more))
-    (length-take-le c.in-Ok.taken c.args.bytes.now c.in-Ok.ensures.taken)
-    ∙ c.next_data.ensures.goes c.args.size.width c.args.size.height more
+    ∙ ap (λ n. after_data c.args.size.width c.args.size.height c.args.begun c.args.others ((c.args.at + n) + length more) (data_go_on host_format c.args.size.width c.args.size.height c.in-Ok.fields.next more))
+    (length-take-le c.in-Ok.fields.taken c.args.bytes.now c.in-Ok.ensures.taken)
+    ∙ c.next_data-next.ensures.goes c.args.size.width c.args.size.height more
 
 pub returns-in-Ok-clause-first : goal.returns-in-Ok-clause-first
 returns-in-Ok-clause-first c =
-    subst (λ (f : Format). wants_of f c.args.current ≤ length c.args.bytes.now → wants_of f c.args.current ≤ c.in-Ok.taken) c.host.ensures c.in-Ok.ensures.first
+    subst (λ (f : Format). wants_of f c.args.current ≤ length c.args.bytes.now → wants_of f c.args.current ≤ c.in-Ok.fields.taken) c.host.ensures c.in-Ok.ensures.first
 
 pub returns-in-Err-clause-faults : goal.returns-in-Err-clause-faults
 returns-in-Err-clause-faults c = λ more.

@@ -2,4 +2,4 @@ use Rattle.connections.proofs.host.MessagesHostSourceTicket.TheImpl.Goals as goa
 
 -- no account is kept of a socket
 pub next-tells : goal.next-tells
-next-tells g x c = record { sized = c.ensures.sized; screen = c.ensures.screen; given = λ modelled. absurd modelled }
+next-tells g x c = record { sized = c.ensures.sized; stays = c.ensures.stays; given = λ modelled. absurd modelled }

@@ -2,7 +2,7 @@ use Rattle.std.proofs.Common.{◌≡◌, ◌-◌, ◌++◌, length, take, drop, 
 use Rattle.std.proofs.lemmas.Grind.{common_steps}
 use Rattle.std.proofs.lemmas.List.{take_all}
 use Rattle.std.proofs.lemmas.Result.{err_from_is_err_and}
-use Rattle.pixel_format.specs.declared.kind.Format.TheVariants.{Two}
+use Rattle.terms.specs.declared.format.Format.TheVariants.{Two}
 use Rattle.rfb_wire.specs.Reader.{Reader}
 use Rattle.fbs_export.specs.Reader.{Opens, IsOpened, name_in}
 use Rattle.fbs_export.proofs.Heading.{all_of}

@@ -3,7 +3,7 @@ use Rattle.std.proofs.lemmas.List.{append-nil}
 use Rattle.terms.specs.Reading.{Bad}
 use Rattle.terms.specs.Fault.{UnlessMemory}
 use Rattle.terms.specs.declared.wire_fault.WireFault.{WireFault}
-use Rattle.pixel_format.specs.declared.kind.Format.{Format}
+use Rattle.terms.specs.declared.format.Format.{Format}
 use Rattle.client_wire.specs.Stream.{StandsFor, FaultOf}
 use Rattle.client_wire.proofs.Fronts.{unless_memory_map}
 use Rattle.client_wire.proofs.Streams.{stands_whole}

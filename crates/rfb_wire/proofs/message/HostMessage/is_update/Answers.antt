@@ -1,5 +1,4 @@
 use Rattle.std.proofs.Common.{◌≡◌, ◌∙◌, sym, ap, subst, get_or, nat_eq}
-use Rattle.rfb_wire.specs.Grammar.{message_limit}
 use Rattle.rfb_wire.specs.Host.{Host, is_update, IsRecorded}
 use Rattle.rfb_wire.proofs.UpdatesTold.{first_told, update_told}
 use Rattle.rfb_wire.proofs.message.HostMessage.is_update.Goals as goal

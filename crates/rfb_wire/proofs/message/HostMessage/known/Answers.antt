@@ -1,5 +1,5 @@
 use Rattle.std.proofs.Common.{subst, arith}
-use Rattle.pixel_format.proofs.Sizes.{are_limits}
+use Rattle.terms.proofs.Sizes.{are_limits}
 use Rattle.rfb_wire.specs.Grammar.{message_limit}
 use Rattle.rfb_wire.specs.Host.{IsRecorded}
 use Rattle.rfb_wire.proofs.Messages.{read_is_message}

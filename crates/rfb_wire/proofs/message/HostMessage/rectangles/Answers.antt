@@ -1,4 +1,3 @@
-use Rattle.rfb_wire.specs.Grammar.{message_limit}
 use Rattle.rfb_wire.proofs.Placed.{recorded_placed}
 use Rattle.rfb_wire.proofs.message.HostMessage.rectangles.Goals as goal
 

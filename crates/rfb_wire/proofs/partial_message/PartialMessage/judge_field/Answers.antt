@@ -3,7 +3,7 @@ use Rattle.std.proofs.lemmas.Grind.{common_steps}
 use Rattle.std.proofs.lemmas.List.{take_rest, length-drop}
 use Rattle.std.proofs.lemmas.Result.{err_from_is_err_and}
 use Rattle.client_wire.proofs.Fronts.{unless_memory}
-use Rattle.pixel_format.proofs.Sizes.{are_limits}
+use Rattle.terms.proofs.Sizes.{are_limits}
 use Rattle.rfb_wire.specs.Grammar.{message_limit}
 use Rattle.rfb_wire.specs.PartialMessage.{resume, start_of, following, NextBegins}
 use Rattle.rfb_wire.proofs.Turns.{linked_more, field_faults, turn_long, turn_faults}

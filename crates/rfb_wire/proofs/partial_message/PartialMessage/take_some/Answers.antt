@@ -8,7 +8,7 @@ use Rattle.rfb_wire.specs.PartialMessage.{IsInField, passed_in}
 use Rattle.rfb_wire.proofs.Turns.{turn_long, whole_recorded}
 use Rattle.client_wire.proofs.Streams.{gives_one, stands_kept, stands_whole}
 use Rattle.rfb_wire.proofs.Over.{kept_stands, in_field}
-use Rattle.pixel_format.proofs.Sizes.{are_limits}
+use Rattle.terms.proofs.Sizes.{are_limits}
 use Rattle.rfb_wire.specs.Grammar.{message_at, Recorded, message_limit}
 use Rattle.rfb_wire.specs.Stream.{given}
 use Rattle.rfb_wire.proofs.partial_message.PartialMessage.take_some.Goals as goal

@@ -11,8 +11,8 @@ pub returns-then-bytes-head-clause-goes : goal.returns-then-bytes-head-clause-go
 unfolding go_on
 returns-then-bytes-head-clause-goes c = λ more. refl
 
-pub returns-in_err-taken-in-Head-clause-refused : goal.returns-in_err-taken-in-Head-clause-refused
-returns-in_err-taken-in-Head-clause-refused c =
+pub returns-in_err-parts-in-Head-clause-refused : goal.returns-in_err-parts-in-Head-clause-refused
+returns-in_err-parts-in-Head-clause-refused c =
     let p = err_from_is_err_and c.from_residual.result c.from_residual.ensures.1 in
     let f = c.args.format.now in
     let head = c.split_at.result.0.now in
@@ -24,14 +24,14 @@ returns-in_err-taken-in-Head-clause-refused c =
     ∙ ap (resume f c.args.w c.args.h stages.Head) (append_assoc head body more)
     ∙ head_whole f c.args.w c.args.h head (body ++ more) whole
     ∙ ap (λ n. judged (subrectangles_at f c.args.w c.args.h n (body ++ more))) (sym c.read_count.ensures)
-    ∙ c.in_err-taken-in-Head.ensures.refused more)
+    ∙ c.in_err-parts-in-Head.ensures.refused more)
 
-pub returns-in_ok-taken-in-Head-clause-goes : goal.returns-in_ok-taken-in-Head-clause-goes
-returns-in_ok-taken-in-Head-clause-goes c = λ more.
+pub returns-in_ok-parts-in-Head-clause-goes : goal.returns-in_ok-parts-in-Head-clause-goes
+returns-in_ok-parts-in-Head-clause-goes c = λ more.
     let f = c.args.format.now in
     let head = c.split_at.result.0.now in
     let body = c.split_at.result.1.now in
-    let n = c.in_ok-taken-in-Head.taken in
+    let n = c.in_ok-parts-in-Head.parts.taken in
     let is : c.args.bytes.now ≡ head ++ body = parts_of _ c.args.bytes.now head body c.split_at.ensures.front c.split_at.ensures.back in
     let whole : length head ≡ head_bytes f = omega arith in
     rw c.in-Head.is
@@ -39,7 +39,7 @@ returns-in_ok-taken-in-Head-clause-goes c = λ more.
     ∙ ap (resume f c.args.w c.args.h stages.Head) (append_assoc head (take n body) more)
     ∙ head_whole f c.args.w c.args.h head (take n body ++ more) whole
     ∙ ap (λ k. judged (subrectangles_at f c.args.w c.args.h k (take n body ++ more))) (sym c.read_count.ensures)
-    ∙ c.in_ok-taken-in-Head.ensures.goes more)
+    ∙ c.in_ok-parts-in-Head.ensures.goes more)
 
 pub returns-in-Subrectangle-clause-goes : goal.returns-in-Subrectangle-clause-goes
 unfolding resume

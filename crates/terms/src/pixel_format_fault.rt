@@ -7,7 +7,7 @@ use thiserror::Error;
 /// The first test that a pixel format fails; they stand here in their order. Each is made of all
 /// three channels before the next one.
 #[derive(Debug, Clone, Copy, PartialEq, Eq, Error)]
-pub enum FormatFault {
+pub enum PixelFormatFault {
     /// A pixel has other than 8, 16 or 32 bits.
     #[error("a pixel of other than 8, 16 or 32 bits")]
     BadBits = 1,
@@ -25,11 +25,11 @@ pub enum FormatFault {
     FieldsOverlap,
 }
 
-impl FormatFault {
+impl PixelFormatFault {
     /// The fault's number, by which it is printed: 1 to 5, in the order of the tests.
-    pub fn number(&self) -> u8
+    pub fn number(&self) -> u64
         ensures { IsNumber format_faults self.now result }
     {
-        *self as u8
+        *self as u64
     }
 }

@@ -1,10 +1,10 @@
 -- What holds of the limits of each format, and of a size within them.
 use Rattle.std.proofs.Common.{◌≡◌, ℕ, ◌≤◌, ◌*◌, true, refl, arith}
 use Rattle.std.proofs.lemmas.Bool.{le-leb}
-use Rattle.pixel_format.specs.declared.kind.Format.{Format}
-use Rattle.pixel_format.specs.declared.kind.Format.TheVariants.{One, Two}
-use Rattle.pixel_format.specs.declared.kind.Limits.{Limits}
-use Rattle.pixel_format.specs.Limits.{limits, AreLimits, IsSize, is_size}
+use Rattle.terms.specs.declared.format.Format.{Format}
+use Rattle.terms.specs.declared.format.Format.TheVariants.{One, Two}
+use Rattle.terms.specs.declared.format.Limits.{Limits}
+use Rattle.terms.specs.Limits.{limits, AreLimits, IsSize, is_size}
 
 pub are_limits : (format : Format) → AreLimits (limits format)
 are_limits One = record { text = omega arith; key = omega arith; body = omega arith; longest = omega arith; most_seats = omega arith }

@@ -1,12 +1,12 @@
 //! The formats of a recording, and the limits of what each records.
 
 ghost use Rattle.std.specs.Prelude.{◌≡◌, ◌↔◌, ◌<◌, IsTrue};
-ghost use Rattle.pixel_format.specs.Limits.{limits, AreLimits, IsSize, is_size};
+ghost use Rattle.terms.specs.Limits.{limits, AreLimits, IsSize, is_size};
 
-use terms::ScreenSize;
+use crate::ScreenSize;
 
-/// The format of a recording, which its header names. It stands down here because the limits of
-/// screens and messages go by it.
+/// The format of a recording, which its header names; the limits of screens and of messages go by
+/// it.
 #[derive(Clone, Copy, Debug, PartialEq, Eq)]
 pub enum Format {
     /// Blocks of numbers and a body.

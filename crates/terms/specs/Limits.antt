@@ -1,8 +1,8 @@
 -- The limits of what a format records, and the sizes of a screen that lie within them.
 use Rattle.std.specs.Prelude.{ℕ, ◌≤◌, ◌+◌, ◌*◌, ◌^◌, nat_le, Bool, ◌&&◌}
-use Rattle.pixel_format.specs.declared.kind.Format.{Format}
-use Rattle.pixel_format.specs.declared.kind.Format.TheVariants.{One, Two}
-use Rattle.pixel_format.specs.declared.kind.Limits.{Limits}
+use Rattle.terms.specs.declared.format.Format.{Format}
+use Rattle.terms.specs.declared.format.Format.TheVariants.{One, Two}
+use Rattle.terms.specs.declared.format.Limits.{Limits}
 
 -- Format 1: sides of 8,192 pixels, areas of 2^23, messages of 2^26 bytes, bodies of 2^27, 64 seats.
 -- Format 2: sides of 16,384 pixels, areas of 2^25, messages of 2^28 bytes, bodies of 2^29, 256
