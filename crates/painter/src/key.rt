@@ -24,9 +24,10 @@ fn is_whole(size: ScreenSize, rectangle: Rectangle) -> bool
 
 impl Screen {
     /// An update that paints the screen over whatever stood there (RFC 6143, section 7.6.1), for a
-    /// recording of this format: one rectangle over the whole screen, in Hextile if that is shorter
-    /// than Raw and else in Raw. It has at most 16 bytes and 4 more for each pixel. It is for a
-    /// screen within the limits of the format.
+    /// recording of this format: one rectangle over the whole screen, in Hextile if the encoder
+    /// comes out shorter than Raw, and else in Raw. It has at most 16 bytes and 4 more for each
+    /// pixel, as in Raw; that no shorter one is passed over is in no clause. It is for a screen
+    /// within the limits of the format.
     pub fn key(&self, alloc: Global, format: Format) -> Result<HostMessage, NoMemory>
         requires { self.now.width * self.now.height ≤ (limits format).area }
         ensures format { IfOk result (λ m. m.format ≡ format) }

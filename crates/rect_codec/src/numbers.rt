@@ -35,9 +35,10 @@ fn append_data(
     }
 }
 
-/// Appends a rectangle in this encoding that gives its area these pixels, by rows, if it is shorter
-/// than one in Raw, and answers whether it is there: in Raw and CopyRect it never is. If it isn't,
-/// and when memory runs out, `out` stays as it was.
+/// Appends a rectangle in this encoding that gives its area these pixels, by rows, if the encoder
+/// comes out shorter than Raw, and answers whether it is there: in Raw and CopyRect it never is. What
+/// is appended is no longer than in Raw; that no shorter one is passed over is in no clause. If
+/// nothing is appended, and when memory runs out, `out` stays as it was.
 pub fn append_numbers(
     alloc: Global,
     format: &PixelFormat,
