@@ -244,6 +244,7 @@ pub struct Messages<'a, M: Mark, R: Clock + Wait> {
     stopwatch: Stopwatch,
     room: &'a Room<M>,
     end: &'a Mutex<HostEnd>,
+    /// How many bytes the message that was given last has.
     handed: u64,
 }
 
@@ -283,6 +284,7 @@ impl<'a, M: Mark, R: Clock + Wait> HostSource<Ticket<M>> for Messages<'a, M, R> 
         ensures sized { IfSome result (λ r. IsOfScreen (screen_of M.head) r.message) }
         ensures stays { screen_of M.head ≡ screen_of M.head }
         ensures next { IfSome result (λ r. GivesNext self.old.host.value.stream self.new.host.value.stream r.message) }
+        ensures handed { IfSome result (λ r. self.new.handed ≡ length r.message.bytes) }
     {
         match self.host.next(self.rt, self.room) {
             // The session has the recording's size and format, so that each message has them.

@@ -1,6 +1,6 @@
 //! A viewer, which two threads share.
 
-ghost use Rattle.std.specs.Prelude.{◌≡◌, ◌<◌, ◌^◌, ◌+◌, length};
+ghost use Rattle.std.specs.Prelude.{◌≡◌, ◌<◌, ◌^◌, ◌+◌, ◌-◌, false, length, min, true};
 ghost use Rattle.shared_book.specs.Receipts.{IsOfSize, size_of};
 
 use crate::guest::Guest;
@@ -94,7 +94,9 @@ impl<M: Mark> Talk<M> {
         rt: &R,
         alloc: Global,
         connection: &C,
-    ) -> io::Result<()> {
+    ) -> io::Result<()>
+        ensures not_yet { self.old.session.view.position < self.old.shows_from → self.new ≡ self.old }
+    {
         if self.session.position() < self.shows_from {
             return Ok(());
         }
@@ -106,6 +108,19 @@ impl<M: Mark> Talk<M> {
             self.is_answered = true;
         }
         connection.write_within(rt, &due, ANSWER)
+    }
+
+    // Has the viewer answered only once it stands further on, if it is sent the whole screen next,
+    // whatever comes: whether it is.
+    fn hold_back(&mut self) -> bool
+        ensures held { self.old.lacks_all ≡ true → self.new.shows_from ≡ min (self.old.session.view.position + 1) (2 ^ 64 - 1) }
+        ensures as_before { self.old.lacks_all ≡ false → self.new.shows_from ≡ self.old.shows_from }
+        ensures lacks_all { result ≡ self.old.lacks_all }
+    {
+        if self.lacks_all {
+            self.shows_from = self.session.position().saturating_add(1);
+        }
+        self.lacks_all
     }
 
     // Whether the viewer asks for what changes next, so that it was shown all that there is.
@@ -189,11 +204,7 @@ impl<M: Mark, C: Connection> Viewer<M, C> {
     /// Holds back the next update until the viewer stands further on, if it is one of the whole
     /// screen whatever comes. Whether it does.
     pub fn hold_back<R: Wait>(&self, rt: &R) -> bool {
-        let mut talk = self.talk.lock(rt);
-        if talk.lacks_all {
-            talk.shows_from = talk.session.position().saturating_add(1);
-        }
-        talk.lacks_all
+        self.talk.lock(rt).hold_back()
     }
 
     /// Goes on by a slice, and answers what is due.

@@ -1,6 +1,7 @@
 //! What no clause says: that the workers run beside each other, and that a call through the lock
 //! answers what a desk's call answers. Updates and colours are worked by hand.
 
+mod accounts;
 mod parallel;
 mod row;
 mod twins;
