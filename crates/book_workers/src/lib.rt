@@ -2,6 +2,7 @@
 //! work for.
 #![tactic(auto)]
 
+mod occupied;
 mod parties;
 mod workers;
 

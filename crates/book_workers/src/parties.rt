@@ -1,6 +1,7 @@
 //! Those that the workers work for: what gives a host's messages, and what takes receipts.
 
-ghost use Rattle.std.specs.Prelude.{◌≡◌, ◌<◌, ◌^◌, ◌+◌, IfSome, length, true, false};
+ghost use Rattle.std.specs.Prelude.{◌≡◌, ◌<◌, ◌≤◌, ◌^◌, ◌+◌, IfSome, length, true, false};
+ghost use Rattle.keyed_entries.specs.Entry.{body_size};
 ghost use Rattle.shared_book.specs.Receipts.{IsOfScreen, IsOfSize, has_start};
 ghost use Rattle.book_workers.specs.Accounts.{IsSettled, after_next, after_ticket};
 ghost use Rattle.book_workers.specs.Wishes.{fresh_after, position_after};
@@ -112,6 +113,8 @@ pub trait ViewerSink<T, E>: Drop {
     ghost use Rattle.terms.specs.declared.screen_size.ScreenSize.{ScreenSize};
     ghost use Rattle.replay.specs.declared.slice.Slice.{Slice};
 
+    ghost is_modelled: { Type 0 };
+
     ghost size: { Self → ScreenSize };
 
     ghost position: { Self → ℕ };
@@ -141,8 +144,10 @@ pub trait ViewerSink<T, E>: Drop {
         ensures moved { position self.new ≡ position_after result (position self.old) }
         ensures bare { fresh self.new ≡ fresh_after result (fresh self.old) };
 
-    /// Takes a receipt, and stands at its end then, with a screen.
+    /// Takes a receipt, and stands at its end then, with a screen. Where it has more than one
+    /// message, they take 16 MiB in a block's body at most.
     fn slice(&mut self, receipt: T)
+        requires bounded { is_modelled → 1 < length (slice_of receipt).messages.items → body_size (slice_of receipt).messages.items ≤ 2 ^ 24 }
         requires sized { IsOfSize (size self.old) (slice_of receipt) }
         requires stands { (slice_of receipt).first ≡ position self.old }
         requires start { has_start (slice_of receipt) ≡ fresh self.old }

@@ -1,6 +1,6 @@
 //! A viewer's position in a recording.
 
-ghost use Rattle.std.specs.Prelude.{◌≡◌, ◌<◌, ◌^◌, ◌+◌, length, true};
+ghost use Rattle.std.specs.Prelude.{◌≡◌, ◌<◌, ◌^◌, ◌+◌, length, false, true};
 ghost use Rattle.shared_book.specs.Receipts.{IsOfSize, size_of};
 
 use crate::failure::{AfterFailure, after_failure};
@@ -54,6 +54,7 @@ impl<'a, M: Mark, C: Connection, R: Clock + Wait> Viewing<'a, M, C, R> {
     pub fn go_to(&mut self, count: u64)
         ensures moved { self.new.position ≡ count }
         ensures bare { self.new.is_fresh ≡ true }
+        ensures goes_on { self.new.is_at_end ≡ false }
     {
         self.position = count;
         self.is_fresh = true;
@@ -66,6 +67,7 @@ impl<'a, M: Mark, C: Connection, R: Clock + Wait> Viewing<'a, M, C, R> {
         requires room { slice.now.first + length slice.now.messages.items < 2 ^ 64 }
         ensures position { self.new.position ≡ self.old.position }
         ensures fresh { self.new.is_fresh ≡ self.old.is_fresh }
+        ensures handed { (self.new.has_waited ≡ false) × ((self.new.is_short ≡ false) × (self.new.has_failed ≡ false)) }
     {
         self.has_waited = false;
         self.is_short = false;

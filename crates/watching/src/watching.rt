@@ -1,5 +1,9 @@
 //! A viewer's worker's sink, whatever decides what is shown when.
 
+ghost use Rattle.std.specs.Prelude.{◌≡◌, true};
+ghost use Rattle.shared_book.specs.Receipts.{size_of};
+ghost use Rattle.book_workers.specs.Wishes.{fresh_after, position_after};
+
 use crate::viewing::Viewing;
 use book_workers::{ViewerSink, ViewerWish};
 use connections::{Room, Viewer};
@@ -104,6 +108,8 @@ impl<'a, M: Mark, C: Connection, R: Clock + Wait, G: Guide<M, C, R>> ViewerSink<
 > for Watching<'a, M, C, R, G> {
     ghost use Rattle.shared_book.specs.Receipts.{size_of};
 
+    ghost is_modelled = { ⊥ };
+
     ghost size = { λ w. size_of M.head };
 
     ghost position = { λ w. w.viewing.position };
@@ -122,7 +128,12 @@ impl<'a, M: Mark, C: Connection, R: Clock + Wait, G: Guide<M, C, R>> ViewerSink<
         self.viewing.go_to(count);
     }
 
-    fn wish(&mut self) -> ViewerWish {
+    fn wish(&mut self) -> ViewerWish
+        ensures size { size_of M.head ≡ size_of M.head }
+        ensures moved { self.new.viewing.position ≡ position_after result self.old.viewing.position }
+        ensures bare { self.new.viewing.is_fresh ≡ fresh_after result self.old.viewing.is_fresh }
+        ensures noted { result ≡ ViewerWish.Wait → self.new.viewing.has_waited ≡ true }
+    {
         let wish = next_wish(&self.viewing, &mut self.guide);
         self.viewing.has_waited = self.viewing.has_waited || wish == ViewerWish::Wait;
         if let ViewerWish::Seek(count) = wish {
@@ -139,7 +150,11 @@ impl<'a, M: Mark, C: Connection, R: Clock + Wait, G: Guide<M, C, R>> ViewerSink<
         self.viewing.show(slice, are_due);
     }
 
-    fn end(&mut self, _ending: Ending<M>) {
+    fn end(&mut self, _ending: Ending<M>)
+        ensures size { size_of M.head ≡ size_of M.head }
+        ensures stays { (self.new.viewing.position ≡ self.old.viewing.position) × (self.new.viewing.is_fresh ≡ self.old.viewing.is_fresh) }
+        ensures noted { self.new.viewing.is_at_end ≡ true }
+    {
         self.viewing.is_at_end = true;
     }
 

@@ -9,13 +9,16 @@ ghost use Rattle.book_tests.specs.OnePixel.{IsOfOnePixel};
 
 use super::UPDATE;
 use crate::{ONE_PLACE, desk_of_one_pixel};
-use book_workers::{FlusherEnd, HostSource, Point, ReceiptSink, Turnstile, run_flusher, run_host};
-use broadcast::Desk;
+use book_workers::{
+    FlusherEnd, HostSource, Point, ReceiptSink, Turnstile, ViewerSink, ViewerWish, run_flusher,
+    run_host, run_viewer,
+};
+use broadcast::{Desk, Start};
 use disk::{Disk, MemoryDisk};
 use flusher_core::HostRefusal;
 use key_index::Stamped;
 use rfb_wire::HostMessage;
-use shared_book::{FlusherPen, HostPen, Mark, Receipt, Shared, Sharing, Ticket, Token};
+use shared_book::{Ending, FlusherPen, HostPen, Mark, Receipt, Shared, Sharing, Ticket, Token};
 use std::alloc::{AllocError, Global};
 use std::marker::{Brand, Model};
 use std::process::Abort;
@@ -145,6 +148,55 @@ impl<M: Mark> ReceiptSink<Receipt<M>> for Pile<M> {
     }
 }
 
+/// Takes what there is from its seat on, and counts it, until it is told the end.
+#[derive(Drop)]
+struct Onlooker<'a> {
+    position: u64,
+    is_fresh: bool,
+    seen: &'a mut u64,
+    has_all: bool,
+}
+
+impl<'a, M: Mark> ViewerSink<Receipt<M>, Ending<M>> for Onlooker<'a> {
+    ghost is_modelled = { Unit {0} };
+
+    ghost size = { λ o. record { width = 1; height = 1 } };
+
+    ghost position = { λ o. o.position };
+
+    ghost fresh = { λ o. o.is_fresh };
+
+    ghost slice_of = { λ r. r };
+
+    ghost count_of = { λ e. e.count };
+
+    fn seated(&mut self, count: u64) {
+        self.position = count;
+        self.is_fresh = true;
+    }
+
+    fn wish(&mut self) -> ViewerWish {
+        if self.has_all {
+            ViewerWish::Stop
+        } else if self.is_fresh {
+            ViewerWish::Want(8)
+        } else {
+            ViewerWish::Wait
+        }
+    }
+
+    fn slice(&mut self, receipt: Receipt<M>) {
+        let slice = receipt.slice();
+        *self.seen = slice.messages.len() as u64;
+        self.position = slice.end();
+        self.is_fresh = false;
+    }
+
+    fn end(&mut self, _ending: Ending<M>) {
+        self.has_all = true;
+    }
+}
+
 // The host's worker. Each message that the source gave was accepted, in its order, and each ticket
 // told; if a message was refused, each but that one.
 fn give<D: Disk, M: Mark, R: Wait>(
@@ -178,7 +230,23 @@ fn take<D: Disk, M: Mark, R: Wait + Clock>(
     run_flusher(rt, shared, pen, sink, &Open)
 }
 
-// Three updates are given, accepted and committed in one block.
+// A viewer's worker, from the first message on: how many its sink was handed last.
+fn look<D: Disk, M: Mark, R: Wait + Clock>(rt: &R, shared: &Shared<D, M>) -> Option<u64>
+    requires sized { IsOfOnePixel M.head }
+    requires modelled { D.is_modelled }
+{
+    let mut seen = 0;
+    let onlooker = Onlooker {
+        position: 0,
+        is_fresh: true,
+        seen: &mut seen,
+        has_all: false,
+    };
+    run_viewer(rt, shared, Start::At(0), onlooker, &Open).ok()?;
+    Some(seen)
+}
+
+// Three updates are given, accepted and committed in one block, and shown.
 fn keep_accounts<D: Disk + Drop, M: Mark, R: Wait + Clock + Abort>(
     rt: &R,
     alloc: Global,
@@ -210,6 +278,7 @@ fn keep_accounts<D: Disk + Drop, M: Mark, R: Wait + Clock + Abort>(
         assert!(rt; ticket.number() == number as u64);
     }
     assert!(rt; sink.first == 0 && sink.count == 3 && sink.receipts.len() == 1);
+    assert!(rt; look(rt, &shared) == Some(3));
     Ok(())
 }
 

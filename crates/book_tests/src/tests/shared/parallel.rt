@@ -205,6 +205,8 @@ struct Viewer<'a, M: Mark, R: Clock> {
 }
 
 impl<'a, M: Mark, R: Clock> ViewerSink<Receipt<M>, Ending<M>> for Viewer<'a, M, R> {
+    ghost is_modelled = { ⊥ };
+
     ghost size = { λ v. record { width = 1; height = 1 } };
 
     ghost position = { λ v. v.position };
