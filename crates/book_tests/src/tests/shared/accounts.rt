@@ -2,7 +2,7 @@
 //! said of these.
 
 ghost use Rattle.std.specs.Prelude.{◌≡◌, ◌+◌, [], IfOk, IfSome, OnErr, OnOk, true};
-ghost use Rattle.pixel_format.specs.declared.kind.Format.TheVariants.{One};
+ghost use Rattle.terms.specs.declared.format.Format.TheVariants.{One};
 ghost use Rattle.flusher_core.specs.State.{accepted_count};
 ghost use Rattle.book_workers.specs.Accounts.{IsSettled, LacksLast, accepted_in};
 ghost use Rattle.book_tests.specs.OnePixel.{IsOfOnePixel};
@@ -91,13 +91,9 @@ fn update(alloc: Global, number: usize) -> Option<Stamped>
 }
 
 impl<M: Mark> HostSource<Ticket<M>> for Script<M> {
-    ghost use Rattle.pixel_format.specs.declared.kind.Format.TheVariants.{One};
+    ghost use Rattle.terms.specs.declared.format.Format.TheVariants.{One};
 
-    ghost format = { λ s. One };
-
-    ghost width = { λ s. 1 };
-
-    ghost height = { λ s. 1 };
+    ghost screen = { λ s. record { format = One; size = record { width = 1; height = 1 } } };
 
     ghost is_modelled = { Unit {0} };
 
