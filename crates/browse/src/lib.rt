@@ -1,10 +1,7 @@
 //! A page on which a recording is looked at, served over HTTP.
 #![tactic(auto)]
 
-mod answer;
 mod connection;
-mod guests;
-mod lobby;
 pub mod page;
 mod request;
 mod serving;

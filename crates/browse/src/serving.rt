@@ -3,7 +3,6 @@
 ghost use Rattle.std.specs.Prelude.{◌<◌};
 
 use crate::connection::attend;
-use crate::lobby::Lobby;
 use crate::site::Site;
 use file_commands::{Ended, Refused, answer, open_path};
 use file_disk::{Progress, SystemError};
@@ -18,6 +17,7 @@ use std::sync::Wait;
 use std::thread::{Scope, Threads};
 use std::time::Clock;
 use std::{io, thread};
+use web_lobby::Lobby;
 
 /// Which recording is looked at, and at which address.
 #[derive(Clone, Copy)]

@@ -2,8 +2,6 @@
 
 ghost use Rattle.std.specs.Prelude.{◌<◌};
 
-use crate::answer::{Head, write_failure, write_fault, write_head, write_text};
-use crate::lobby::Lobby;
 use crate::page::{PAGE, SCRIPT, STYLE};
 use crate::request::{Asked, Judged};
 use file_commands::{Ended, Moment, Stretch, StretchSink, screen_of, survey};
@@ -20,6 +18,9 @@ use std::io::Write;
 use std::sync::atomic::{AtomicBool, Ordering};
 use std::sync::{Mutex, Wait};
 use terms::ScreenSize;
+use web_lobby::{
+    Head, Lobby, status_of, write_failure, write_head, write_refusal as write_why, write_text,
+};
 
 /// In how many stretches of time at most a page draws what came.
 const MOST_STRETCHES: u32 = 500;
@@ -199,7 +200,7 @@ impl Site {
         match judged {
             Judged::Unfinished => Ok(()),
             Judged::Asked(asked) => self.answer_asked(rt, asked, out),
-            Judged::Refused(fault) => write_fault(out, fault),
+            Judged::Refused(fault) => write_why(out, status_of(fault), fault),
         }
     }
 }

@@ -82,9 +82,14 @@ fn format(word: Option<&str>) -> Result<Format, Wrong> {
     }
 }
 
-fn audience(word: Option<&str>) -> Result<Audience, Wrong> {
+fn audience(matches: &ArgMatches<'_>) -> Result<Audience, Wrong> {
+    let word = matches.get_str("N");
     match word {
         Some("any") => Ok(Audience::Any),
+        None if matches.get_str("WEB").is_some() => Ok(Audience::Any),
+        Some(_) if matches.get_str("WEB").is_some() => {
+            Err(Wrong::Words("with --web viewers come and go: --viewers may only be any"))
+        }
         _ => {
             let seats = Format::Two.limits().seats as u64;
             match within(word, 1, seats, 1) {
@@ -116,10 +121,12 @@ pub fn plan<'a>(matches: &ArgMatches<'a>, is_verbose: bool) -> Result<Plan<'a>, 
     Ok(Plan {
         file: word(matches, "PATH")?,
         listen: word(matches, "ADDR")?,
+        web: matches.get_str("WEB"),
+        web_name: matches.get_str("NAME"),
         host: matches.get_str("HOST"),
         format: format(matches.get_str("FORMAT"))?,
         key_interval: key_interval.ok_or(Wrong::Value("K", "a number from 1 to 4096"))? as u16,
-        audience: audience(matches.get_str("N"))?,
+        audience: audience(matches)?,
         overwrites: matches.get_flag("overwrite"),
         from: origin(matches)?,
         playing,

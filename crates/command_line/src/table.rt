@@ -216,6 +216,16 @@ const COMMANDS: [CommandWords; 16] = [
             ),
             NeededValue("listen", "ADDR", "Where viewers connect to"),
             Value(
+                "web",
+                "WEB",
+                "Where browsers connect to, for the page on which the session is watched",
+            ),
+            Value(
+                "web-name",
+                "NAME",
+                "By which name browsers may ask, besides addresses and localhost",
+            ),
+            Value(
                 "host",
                 "HOST",
                 "The host; without one the recording is served alone",

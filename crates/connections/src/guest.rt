@@ -3,15 +3,20 @@
 ghost use Rattle.std.specs.Prelude.{◌≡◌, ◌<◌, ◌^◌, IfOk, length};
 
 use crate::limits::HANDSHAKE;
+use carriage::Carriage;
 use sockets::{Bell, Connection, Woken, time_left};
 use std::alloc::Global;
 use std::io;
 use std::time::{Clock, Instant};
 use terms::ScreenSize;
 use viewer_session::Session;
+use web_frames::Heard;
 
 /// How many bytes are read at a time while the handshake is under way.
 const PIECE: usize = 64;
+
+/// The version that is spoken, and its newline.
+pub(crate) const VERSION: [u8; 12] = *b"RFB 003.008\n";
 
 /// How far a guest's handshake has come.
 #[derive(Clone, Copy, Debug, PartialEq, Eq)]
@@ -31,6 +36,8 @@ pub struct Guest<C: Connection> {
     pub(crate) alloc: Global,
     pub(crate) connection: C,
     pub(crate) session: Session,
+    pub(crate) carriage: C::Carriage,
+    pub(crate) heard: Heard,
     /// The size of the screen that it is told of.
     pub size: ScreenSize,
     ghost sized: { (session.view.screen.width ≡ size.width) × (session.view.screen.height ≡ size.height) },
@@ -45,10 +52,13 @@ impl<C: Connection> Guest<C> {
     {
         connection.watch_over()?;
         let session = Session::new(alloc, size, name)?;
+        let carriage = connection.carriage(alloc);
         Ok(Guest {
             alloc,
             connection,
             session,
+            carriage,
+            heard: Heard::new(alloc),
             size,
         })
     }
@@ -57,10 +67,15 @@ impl<C: Connection> Guest<C> {
     fn hear<R: Clock>(&mut self, rt: &R, piece: &[u8]) -> io::Result<bool>
         ensures size { self.new.size ≡ self.old.size }
     {
-        let goes_on = self.session.feed(piece).is_ok();
+        self.heard.payload.clear();
+        let is_carried = self.carriage.take(piece, &mut self.heard);
+        let goes_on = self.session.feed(&self.heard.payload).is_ok() && is_carried;
         let mut due = Vec::new(self.alloc);
         self.session.answer(&mut due)?;
-        self.connection.write_within(rt, &due, HANDSHAKE)?;
+        let mut out = Vec::new(self.alloc);
+        out.append(&mut self.heard.replies)?;
+        self.carriage.wrap(&due, &mut out)?;
+        self.connection.write_within(rt, &out, HANDSHAKE)?;
         Ok(goes_on)
     }
 
@@ -91,4 +106,47 @@ impl<C: Connection> Guest<C> {
         }
         Ok(Greeting::Over)
     }
+}
+
+/// Reads over the version of a connection, until the bell rings: whether it came.
+pub(crate) fn hear_version<C: Connection, R: Clock>(
+    rt: &R,
+    alloc: Global,
+    connection: &C,
+    carriage: &mut C::Carriage,
+    bell: &Bell,
+) -> io::Result<bool> {
+    let started = Instant::now(rt)?;
+    let mut buffer = [0u8; PIECE];
+    let mut heard = Heard::new(alloc);
+    for _ in 0..u64::MAX {
+        if heard.payload.len() >= VERSION.len() {
+            return Ok(true);
+        }
+        let left = time_left(rt, started, HANDSHAKE)?;
+        match connection.wait(bell, left) {
+            Woken::Rung => return Ok(false),
+            Woken::TimedOut => {}
+            Woken::Ready => {
+                let count = connection.read(&mut buffer)?;
+                if count == 0 || !carriage.take(&buffer[..count], &mut heard) {
+                    return Ok(false);
+                }
+            }
+        }
+    }
+    Ok(false)
+}
+
+/// Writes an answer as it is carried.
+pub(crate) fn say<C: Connection, R: Clock>(
+    rt: &R,
+    alloc: Global,
+    connection: &C,
+    carriage: &mut C::Carriage,
+    answer: &[u8],
+) -> io::Result<()> {
+    let mut out = Vec::new(alloc);
+    carriage.wrap(answer, &mut out)?;
+    connection.write_within(rt, &out, HANDSHAKE)
 }

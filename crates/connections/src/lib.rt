@@ -3,6 +3,7 @@
 #![tactic(auto)]
 
 mod clock;
+mod facts;
 mod guest;
 mod host;
 mod limits;
@@ -10,6 +11,7 @@ mod room;
 mod viewer;
 
 pub use clock::{Stopwatch, time_after};
+pub use facts::Facts;
 pub use guest::{Greeting, Guest};
 pub use host::{ConnectFault, Host, HostOnClock, Messages};
 pub use room::{Beginning, Device, Hall, Intake, Room};

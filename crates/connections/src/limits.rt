@@ -6,6 +6,9 @@ pub const HANDSHAKE: u64 = 30;
 /// How many seconds an answer to a viewer may take as a whole.
 pub const ANSWER: u64 = 120;
 
+/// How many seconds a viewer may take to be told why its connection ends.
+pub const PARTING: u64 = 1;
+
 /// How many seconds what is said to a host may take.
 pub const REQUEST: u64 = 30;
 

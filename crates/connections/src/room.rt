@@ -3,6 +3,7 @@
 ghost use Rattle.std.specs.Prelude.{◌≡◌, ◌<◌, ◌^◌, IsTrue, length};
 ghost use Rattle.shared_book.specs.Receipts.{IsOfRecording, screen_of, size_of};
 
+use crate::facts::Facts;
 use crate::guest::Guest;
 use broadcast::Start;
 use file_disk::LastError;
@@ -245,6 +246,9 @@ pub struct Room<M: Mark> {
     pub telling: Telling,
     pub last_error: LastError,
     pub device: Device,
+    pub facts: Facts,
+    /// Whether viewers stay once the recording has ended, until the recorder is stopped.
+    pub stays: bool,
     committed: AtomicU64,
     recorded: Recorded,
     is_unreadable: AtomicBool,
@@ -269,6 +273,7 @@ impl<M: Mark> Room<M> {
         last_error: LastError,
         device: Device,
         committed: u64,
+        length: u32,
     ) -> Room<M>
         requires sized { screen ≡ screen_of M.head }
         requires named { length name.items < 2 ^ 32 }
@@ -286,6 +291,8 @@ impl<M: Mark> Room<M> {
             telling,
             last_error,
             device,
+            facts: Facts::new(length),
+            stays: plan.host.is_none() || plan.web.is_some(),
             committed: AtomicU64::new(committed),
             recorded: Recorded {
                 messages: AtomicU64::new(0),

@@ -3,28 +3,30 @@
 ghost use Rattle.std.specs.Prelude.{◌≡◌, ◌<◌, ◌^◌, ◌+◌, ◌-◌, false, length, min, true};
 ghost use Rattle.shared_book.specs.Receipts.{IsOfSize, size_of};
 
-use crate::guest::Guest;
-use crate::limits::{ANSWER, FAREWELL, HANDSHAKE};
-use crate::room::Hall;
+use crate::facts::Facts;
+use crate::guest::{Guest, VERSION, hear_version, say};
+use crate::limits::{ANSWER, FAREWELL, HANDSHAKE, PARTING};
+use crate::room::Room;
+use carriage::{Carriage, Ending, Status};
 use disk::Disk;
 use replay::Slice;
 use rfb_wire::HostMessage;
 use shared_book::{Mark, Shared};
-use sockets::{Bell, Connection, Woken, time_left};
+use sockets::{Bell, Connection};
 use std::alloc::Global;
 use std::io;
 use std::marker::PhantomData;
 use std::sync::atomic::{AtomicBool, Ordering};
 use std::sync::{Condvar, Mutex, Wait};
-use std::time::{Clock, Duration, Instant};
+use std::time::{Clock, Duration};
+use steering::Steering;
 use terms::four_bytes;
 use viewer_session::Session;
+use web_frames::Heard;
+use web_target::order_of;
 
 /// How many bytes are read at a time.
 const PIECE: usize = 4096;
-
-/// The version that is spoken, and its newline.
-const VERSION: [u8; 12] = *b"RFB 003.008\n";
 
 /// What a viewer was shown and asks for, as it stands at a moment.
 #[derive(Clone, Copy, Debug, PartialEq, Eq)]
@@ -37,10 +39,28 @@ pub struct Standing {
     pub is_stale: bool,
 }
 
-/// A viewer's session of the recording's size.
+/// How a viewer goes on after what it has sent.
+#[derive(Clone, Copy, PartialEq, Eq)]
+enum Heeded {
+    /// As before.
+    Same,
+    /// It asks to be shown something else.
+    Steered,
+    /// It has ended, or has to.
+    Over,
+}
+
+/// A viewer's session of the recording's size, and what carries it.
 #[derive(Drop)]
-struct Talk<M: Mark> {
+struct Talk<M: Mark, G: Carriage> {
     session: Session,
+    carriage: G,
+    /// What came last; what it is to be answered waits here.
+    heard: Heard,
+    /// What a viewer in a browser is to be shown; `None` for any other.
+    steering: Option<Steering>,
+    /// The time of the last message that was shown.
+    time: u32,
     /// The first message count that the viewer is shown.
     shows_from: u64,
     /// Whether the whole screen has changed since the viewer was sent an update: it is sent all of
@@ -64,10 +84,43 @@ fn is_of_whole_screen(message: &HostMessage) -> bool {
     left == 0
 }
 
-impl<M: Mark> Talk<M> {
-    // Takes a piece of the viewer's stream: whether it goes on.
-    fn feed(&mut self, piece: &[u8]) -> bool {
-        self.session.feed(piece).is_ok()
+impl<M: Mark, G: Carriage> Talk<M, G> {
+    // Takes the orders that came: whether there were some; `None` if one asks for what there isn't.
+    fn heed(&mut self) -> Option<bool> {
+        let mut has_some = false;
+        for text in self.heard.words.split(|byte| *byte == b'\n') {
+            if !text.is_empty() {
+                let time = self.time;
+                let order = order_of(text)?;
+                self.steering.as_mut()?.take(order, time);
+                has_some = true;
+            }
+        }
+        Some(has_some)
+    }
+
+    // Takes a piece of what the viewer sends.
+    fn feed(&mut self, piece: &[u8]) -> Heeded {
+        self.heard.payload.clear();
+        self.heard.words.clear();
+        let is_carried = self.carriage.take(piece, &mut self.heard);
+        let is_heard = self.session.feed(&self.heard.payload).is_ok();
+        match self.heed() {
+            Some(is_steered) if is_carried && is_heard => {
+                if is_steered {
+                    // It is answered once it stands at what it has asked for.
+                    self.shows_from = u64::MAX;
+                    Heeded::Steered
+                } else {
+                    Heeded::Same
+                }
+            }
+            Some(_) => Heeded::Over,
+            None => {
+                let _told = self.carriage.end(Ending::Unknown, &mut self.heard.replies);
+                Heeded::Over
+            }
+        }
     }
 
     // Goes on by a slice that begins at the session's position, or has a start: whether it does.
@@ -79,6 +132,9 @@ impl<M: Mark> Talk<M> {
             return false;
         }
         self.session.advance(slice);
+        if let Some(last) = slice.messages.last() {
+            self.time = last.time;
+        }
         self.is_answered = self.is_answered && slice.start.is_none() && slice.messages.is_empty();
         self.lacks_all = self.lacks_all || slice.start.is_some();
         for stamped in &slice.messages {
@@ -94,20 +150,54 @@ impl<M: Mark> Talk<M> {
         rt: &R,
         alloc: Global,
         connection: &C,
-    ) -> io::Result<()>
-        ensures not_yet { self.old.session.view.position < self.old.shows_from → self.new ≡ self.old }
-    {
-        if self.session.position() < self.shows_from {
-            return Ok(());
+        facts: &Facts,
+    ) -> io::Result<()> {
+        let mut out = Vec::new(alloc);
+        out.append(&mut self.heard.replies)?;
+        if self.shows_from <= self.session.position() {
+            let mut due = Vec::new(alloc);
+            let is_asked = self.session.wants();
+            self.session.answer(&mut due)?;
+            if is_asked && !self.session.wants() {
+                self.lacks_all = false; // an update is among what is due
+                self.is_answered = true;
+                self.carriage.tell(self.status(facts), &mut out)?;
+            }
+            self.carriage.wrap(&due, &mut out)?;
         }
-        let is_asked = self.session.wants();
-        let mut due = Vec::new(alloc);
-        self.session.answer(&mut due)?;
-        if is_asked && !self.session.wants() {
-            self.lacks_all = false; // an update is among what is due
-            self.is_answered = true;
+        connection.write_within(rt, &out, ANSWER)
+    }
+
+    // What the viewer is shown, and how the session stands.
+    fn status(&self, facts: &Facts) -> Status {
+        facts.status(self.session.position(), self.time)
+    }
+
+    // Tells how the session stands, without an update.
+    fn tell<C: Connection, R: Clock>(
+        &mut self,
+        rt: &R,
+        alloc: Global,
+        connection: &C,
+        facts: &Facts,
+    ) -> io::Result<()> {
+        let mut out = Vec::new(alloc);
+        self.carriage.tell(self.status(facts), &mut out)?;
+        connection.write_within(rt, &out, ANSWER)
+    }
+
+    // Tells why the connection ends; what doesn't go out soon is left.
+    fn part<C: Connection, R: Clock>(
+        &mut self,
+        rt: &R,
+        alloc: Global,
+        connection: &C,
+        ending: Ending,
+    ) {
+        let mut out = Vec::new(alloc);
+        if self.carriage.end(ending, &mut out).is_ok() {
+            let _told = connection.write_within(rt, &out, PARTING);
         }
-        connection.write_within(rt, &due, ANSWER)
     }
 
     // Has the viewer answered only once it stands further on, if it is sent the whole screen next,
@@ -150,21 +240,24 @@ impl<M: Mark> Talk<M> {
 pub struct Viewer<M: Mark, C: Connection> {
     alloc: Global,
     connection: C,
-    talk: Mutex<Talk<M>>,
+    talk: Mutex<Talk<M, C::Carriage>>,
     changed: Condvar,
     has_left: AtomicBool,
+    is_steered: AtomicBool,
 }
 
 impl<M: Mark, C: Connection> Viewer<M, C> {
     /// The viewer that a guest becomes, whose handshake is whole, and who was told of the recording's
-    /// size.
-    pub fn of(guest: Guest<C>) -> Viewer<M, C>
+    /// size; with what it is to be shown if it is one in a browser.
+    pub fn of(guest: Guest<C>, steering: Option<Steering>) -> Viewer<M, C>
         requires size { guest.size ≡ size_of M.head }
     {
         let Guest {
             alloc,
             connection,
             session,
+            carriage,
+            heard,
             ..
         } = guest;
         Viewer {
@@ -172,6 +265,10 @@ impl<M: Mark, C: Connection> Viewer<M, C> {
             connection,
             talk: Mutex::new(Talk {
                 session,
+                carriage,
+                heard,
+                steering,
+                time: 0,
                 shows_from: 0,
                 lacks_all: false,
                 is_answered: false,
@@ -179,12 +276,25 @@ impl<M: Mark, C: Connection> Viewer<M, C> {
             }),
             changed: Condvar::new(),
             has_left: AtomicBool::new(false),
+            is_steered: AtomicBool::new(false),
         }
     }
 
     /// Whether the viewer has gone.
     pub fn has_left(&self) -> bool {
         self.has_left.load(Ordering::SeqCst)
+    }
+
+    /// Whether what it is shown now is over: it has gone, or asks for something else.
+    pub fn is_over(&self) -> bool {
+        self.has_left() || self.is_steered.load(Ordering::SeqCst)
+    }
+
+    /// What a viewer in a browser is to be shown now, which it has asked for last.
+    pub fn take_steering<R: Wait>(&self, rt: &R) -> Option<Steering> {
+        let talk = self.talk.lock(rt);
+        self.is_steered.store(false, Ordering::SeqCst);
+        talk.steering
     }
 
     /// Ends the connection. A write that waits for the viewer fails then.
@@ -196,9 +306,33 @@ impl<M: Mark, C: Connection> Viewer<M, C> {
         self.changed.notify_all();
     }
 
-    /// Says that the viewer is shown nothing before it stands at this count. Its handshake is over.
-    pub fn show_from<R: Wait>(&self, rt: &R, count: u64) {
-        self.talk.lock(rt).shows_from = count;
+    /// Tells why its connection ends, unless it has gone.
+    pub fn part<R: Clock + Wait>(&self, rt: &R, ending: Ending) {
+        if !self.has_left() {
+            self.talk
+                .lock(rt)
+                .part(rt, self.alloc, &self.connection, ending);
+        }
+    }
+
+    /// Tells how the session stands, to a viewer that has a way to hear it.
+    pub fn tell<R: Clock + Wait>(&self, rt: &R, facts: &Facts) {
+        let is_told = self
+            .talk
+            .lock(rt)
+            .tell(rt, self.alloc, &self.connection, facts)
+            .is_ok();
+        if !is_told {
+            self.leave(rt);
+        }
+    }
+
+    /// Says that the viewer is shown nothing before it stands at this count, and at which time it
+    /// stands now. Its handshake is over.
+    pub fn show_from<R: Wait>(&self, rt: &R, count: u64, time: u32) {
+        let mut talk = self.talk.lock(rt);
+        talk.shows_from = count;
+        talk.time = time;
     }
 
     /// Holds back the next update until the viewer stands further on, if it is one of the whole
@@ -208,25 +342,27 @@ impl<M: Mark, C: Connection> Viewer<M, C> {
     }
 
     /// Goes on by a slice, and answers what is due.
-    pub fn show<R: Clock + Wait>(&self, rt: &R, slice: &Slice)
+    pub fn show<R: Clock + Wait>(&self, rt: &R, slice: &Slice, facts: &Facts)
         requires sized { IsOfSize (size_of M.head) slice.now }
         requires room { slice.now.first + length slice.now.messages.items < 2 ^ 64 }
     {
         let mut talk = self.talk.lock(rt);
-        let is_shown = talk.advance(slice) && talk.answer(rt, self.alloc, &self.connection).is_ok();
+        let is_shown = talk.advance(slice)
+            && talk.answer(rt, self.alloc, &self.connection, facts).is_ok();
         drop(talk);
         if !is_shown {
             self.leave(rt);
         }
     }
 
-    /// Waits until the viewer was shown all that there is, has gone, or doesn't ask for a while.
+    /// Waits until the viewer was shown all that there is, or it is over, or it doesn't ask for a
+    /// while.
     pub fn wait_until_shown<R: Clock + Wait>(&self, rt: &R) {
         let _shown = self.changed.wait_timeout_while(
             rt,
             self.talk.lock(rt),
             Duration::from_secs(FAREWELL),
-            |talk| !talk.is_shown() && !self.has_left(),
+            |talk| !talk.is_shown() && !self.is_over(),
         );
     }
 
@@ -235,9 +371,9 @@ impl<M: Mark, C: Connection> Viewer<M, C> {
         self.talk.lock(rt).standing()
     }
 
-    /// Waits until the viewer was shown what it has, has gone, or it is over, which is looked at each
-    /// second. It was shown that if it was sent an update since it was handed anything, or asks for
-    /// what changes next.
+    /// Waits until the viewer was shown what it has, or it is over, of which whatever else ends it is
+    /// looked at each second. It was shown that if it was sent an update since it was handed
+    /// anything, or asks for what changes next.
     pub fn wait_until_asked<R: Clock + Wait, F: Fn() -> bool>(&self, rt: &R, is_over: F)
         requires { F.IsAlwaysCallable is_over }
     {
@@ -247,85 +383,87 @@ impl<M: Mark, C: Connection> Viewer<M, C> {
                     rt,
                     self.talk.lock(rt),
                     Duration::from_secs(1),
-                    |talk| !talk.was_shown() && !self.has_left(),
+                    |talk| !talk.was_shown() && !self.is_over(),
                 ),
             );
-            if self.has_left() || is_over() || self.talk.lock(rt).was_shown() {
+            if self.is_over() || is_over() || self.talk.lock(rt).was_shown() {
                 return;
             }
         }
     }
 
-    // Takes a piece of the viewer's stream, and answers what is due: whether the viewer goes on.
-    fn hear<R: Clock + Wait>(&self, rt: &R, piece: &[u8]) -> bool {
+    // Takes a piece of what the viewer sends, and answers what is due: how the viewer goes on.
+    fn hear<R: Clock + Wait>(&self, rt: &R, piece: &[u8], facts: &Facts) -> Heeded {
         let mut talk = self.talk.lock(rt);
-        let goes_on = talk.feed(piece);
-        let is_answered = talk.answer(rt, self.alloc, &self.connection).is_ok();
+        let heeded = talk.feed(piece);
+        if heeded == Heeded::Steered {
+            self.is_steered.store(true, Ordering::SeqCst);
+        }
+        let is_answered = talk.answer(rt, self.alloc, &self.connection, facts).is_ok();
         drop(talk);
         self.changed.notify_all();
-        is_answered && goes_on
+        if is_answered { heeded } else { Heeded::Over }
     }
 
     // Reads what the viewer sends, until it ends, or the socket fails.
-    fn hear_all<R: Clock + Wait>(&self, rt: &R) -> io::Result<()> {
+    fn hear_all<D: Disk, R: Clock + Wait>(
+        &self,
+        rt: &R,
+        shared: &Shared<D, M>,
+        room: &Room<M>,
+    ) -> io::Result<()> {
         let mut buffer = Vec::new(self.alloc);
         buffer.resize(PIECE, 0)?;
         for _ in 0..u64::MAX {
             let count = self.connection.read(&mut buffer)?;
-            if count == 0 || !self.hear(rt, &buffer[..count]) {
+            if count == 0 {
                 return Ok(());
+            }
+            match self.hear(rt, &buffer[..count], &room.facts) {
+                Heeded::Same => {}
+                Heeded::Steered => {
+                    shared.wake(rt);
+                    room.hall.wake(rt);
+                }
+                Heeded::Over => return Ok(()),
             }
         }
         Ok(())
     }
 
-    /// Hears a viewer that has a seat to its end, and has that noticed.
-    pub fn listen<D: Disk, R: Clock + Wait>(&self, rt: &R, shared: &Shared<D, M>, hall: &Hall) {
-        let _heard = self.hear_all(rt);
+    /// Hears a viewer that has a seat to its end, and has that noticed, and what it asks for.
+    pub fn listen<D: Disk, R: Clock + Wait>(&self, rt: &R, shared: &Shared<D, M>, room: &Room<M>) {
+        let _heard = self.hear_all(rt, shared, room);
         self.leave(rt);
         shared.wake(rt);
-        hall.wake(rt);
+        room.hall.wake(rt);
     }
-}
-
-// Reads over the version of a connection, until the bell rings: whether it came.
-fn hear_version<C: Connection, R: Clock>(rt: &R, connection: &C, bell: &Bell) -> io::Result<bool> {
-    let started = Instant::now(rt)?;
-    let mut version = [0u8; VERSION.len()];
-    let mut heard = 0;
-    for _ in 0..u64::MAX {
-        if heard >= VERSION.len() {
-            return Ok(true);
-        }
-        let left = time_left(rt, started, HANDSHAKE)?;
-        match connection.wait(bell, left) {
-            Woken::Rung => return Ok(false),
-            Woken::TimedOut => {}
-            Woken::Ready => match connection.read(&mut version[heard..])? {
-                0 => return Ok(false),
-                count => heard += count,
-            },
-        }
-    }
-    Ok(false)
 }
 
 /// Tells a connection why it is turned away, by no security type and a reason: RFC 6143, section
-/// 7.1.2. It may take 30 seconds, or until the bell rings.
+/// 7.1.2; and by its carriage. It may take 30 seconds, or until the bell rings.
 pub fn turn_away<C: Connection, R: Clock>(
     rt: &R,
+    alloc: Global,
     connection: &C,
     bell: &Bell,
-    reason: &str,
+    ending: Ending,
 ) -> io::Result<()> {
+    let reason = ending.reason();
     let Ok(count) = u32::try_from(reason.len()) else {
         return Err(io::ErrorKind::InvalidInput.into());
     };
-    connection.write_within(rt, &VERSION, HANDSHAKE)?;
-    if !hear_version(rt, connection, bell)? {
+    let mut carriage = connection.carriage(alloc);
+    say(rt, alloc, connection, &mut carriage, &VERSION)?;
+    if !hear_version(rt, alloc, connection, &mut carriage, bell)? {
         return Ok(());
     }
-    connection.write_within(rt, &[0], HANDSHAKE)?;
-    connection.write_within(rt, &four_bytes(count), HANDSHAKE)?;
-    connection.write_within(rt, reason.as_bytes(), HANDSHAKE)
+    let mut refusal = Vec::new(alloc);
+    refusal.extend_from_slice(&[0])?;
+    refusal.extend_from_slice(&four_bytes(count))?;
+    refusal.extend_from_slice(reason.as_bytes())?;
+    say(rt, alloc, connection, &mut carriage, &refusal)?;
+    let mut out = Vec::new(alloc);
+    carriage.end(ending, &mut out)?;
+    connection.write_within(rt, &out, HANDSHAKE)
 }

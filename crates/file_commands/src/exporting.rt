@@ -51,6 +51,18 @@ fn export_fbs(
     Ok(count)
 }
 
+// Writes a part of an opened recording as a page: how many messages it has.
+fn export_as_page(
+    alloc: Global,
+    index: &mut Indexed<FileDisk>,
+    block: u64,
+    to: u64,
+    out: BufWriter<Watched<File>>,
+) -> Result<u64, ExportFault> {
+    let page = export_page(alloc, index, block, to, out)?;
+    Ok(page.messages)
+}
+
 // Writes a part of a recording in this form: how many messages it has.
 fn exported<'a, R: Files<File = File> + AllocGlobal>(
     rt: &R,
@@ -68,7 +80,7 @@ fn exported<'a, R: Files<File = File> + AllocGlobal>(
     let out = BufWriter::new(alloc, Watched { inner, progress })?;
     let exported = match form {
         Form::Fbs => export_fbs(alloc, &mut index, what.from_block, to, out),
-        Form::Page => export_page(alloc, &mut index, what.from_block, to, out),
+        Form::Page => export_as_page(alloc, &mut index, what.from_block, to, out),
     };
     Ok(exported.map_err(Refusal::Export)?)
 }

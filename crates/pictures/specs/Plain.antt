@@ -1,5 +1,5 @@
 -- Picture files whose pixels stand as they are: PPM in its binary form, and BMP of 32 bits a pixel without compression.
-use Rattle.std.specs.Prelude.{ℕ, zero, suc, ◌+◌, ◌-◌, ◌*◌, ◌/◌, ◌%◌, List, [], ◌∷◌, ◌++◌, replicate, decimal}
+use Rattle.std.specs.Prelude.{⊤, ◌<◌, ◌^◌, ℕ, zero, suc, ◌+◌, ◌-◌, ◌*◌, ◌/◌, ◌%◌, List, [], ◌∷◌, ◌++◌, replicate, decimal}
 use Rattle.pixel_format.specs.declared.Color.{Color}
 use Rattle.pixel_format.specs.Canvas.{Picture}
 use Rattle.pictures.specs.declared.plain.PlainFormat.{PlainFormat}
@@ -26,6 +26,12 @@ bmp_head w h = (66 ∷ 77 ∷ []) ++ (four_bytes (54 + 4 * w * h) ++ (four_bytes
 abbrev pub head_text : PlainFormat → ℕ → ℕ → List ℕ
 head_text formats.Ppm w h = ppm_head w h
 head_text formats.Bmp w h = bmp_head w h
+
+-- The length of a file of this size stands in it as it is: in BMP it has four bytes, and in PPM it
+-- isn't said.
+abbrev pub FitsIn : PlainFormat → ℕ → ℕ → Type 0
+FitsIn formats.Ppm w h = ⊤
+FitsIn formats.Bmp w h = 54 + 4 * w * h < 2 ^ 32
 
 -- a pixel: red, green and blue; in BMP blue, green, red and a byte that says nothing
 abbrev pub pixel_text : PlainFormat → Color → List ℕ

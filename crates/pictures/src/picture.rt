@@ -3,7 +3,7 @@
 ghost use Rattle.std.specs.Prelude.{OnOk};
 ghost use Rattle.std.specs.Io.KnownBytes.{Appends};
 ghost use Rattle.painter.specs.Framebuffer.{color_at};
-ghost use Rattle.pictures.specs.Pictures.{picture_text};
+ghost use Rattle.pictures.specs.Pictures.{Fits, picture_text};
 
 use crate::plain::{PlainFormat, write_plain};
 use crate::png::write_png;
@@ -32,8 +32,9 @@ pub fn write_picture<W: Write>(
     format: PictureFormat,
     out: &mut W,
 ) -> io::Result<()>
-    ensures { OnOk result (Appends (W.contents out.old) (W.contents out.new)
+    ensures all { OnOk result (Appends (W.contents out.old) (W.contents out.new)
         (picture_text format screen.now.width screen.now.height (color_at screen.now))) }
+    ensures fits { OnOk result (Fits format screen.now.width screen.now.height) }
 {
     match format {
         PictureFormat::Ppm => write_plain(alloc, screen, PlainFormat::Ppm, out),

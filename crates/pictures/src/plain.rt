@@ -3,7 +3,8 @@
 ghost use Rattle.std.specs.Prelude.{◌≡◌, ◌<◌, ◌++◌, OnOk};
 ghost use Rattle.std.specs.Io.KnownBytes.{Appends};
 ghost use Rattle.painter.specs.Framebuffer.{color_at};
-ghost use Rattle.pictures.specs.Plain.{bmp_head, four_bytes, head_text, pixel_text, plain_text, ppm_head, row_at, row_text, two_bytes};
+ghost use Rattle.pictures.specs.declared.plain.PlainFormat.TheVariants.{Bmp};
+ghost use Rattle.pictures.specs.Plain.{FitsIn, bmp_head, four_bytes, head_text, pixel_text, plain_text, ppm_head, row_at, row_text, two_bytes};
 
 use byteorder::{ByteOrder, LittleEndian};
 use painter::Screen;
@@ -60,7 +61,8 @@ fn append_ppm_head(alloc: Global, size: ScreenSize, out: &mut Vec<u8>) -> io::Re
 // Appends what stands before the pixels of a BMP file: the file's header and BITMAPINFOHEADER.
 // A picture that is longer than its four bytes say is refused.
 fn append_bmp_head(size: ScreenSize, out: &mut Vec<u8>) -> io::Result<()>
-    ensures { OnOk result (out.new.items ≡ out.old.items ++ bmp_head size.width size.height) }
+    ensures head { OnOk result (out.new.items ≡ out.old.items ++ bmp_head size.width size.height) }
+    ensures fits { OnOk result (FitsIn Bmp size.width size.height) }
 {
     let pixels = 4 * u64::from(size.width) * u64::from(size.height);
     let Ok(length) = u32::try_from(BMP_HEAD + pixels) else {
@@ -88,7 +90,8 @@ fn append_head(
     size: ScreenSize,
     out: &mut Vec<u8>,
 ) -> io::Result<()>
-    ensures { OnOk result (out.new.items ≡ out.old.items ++ head_text format size.width size.height) }
+    ensures head { OnOk result (out.new.items ≡ out.old.items ++ head_text format size.width size.height) }
+    ensures fits { OnOk result (FitsIn format size.width size.height) }
 {
     match format {
         PlainFormat::Ppm => append_ppm_head(alloc, size, out),
@@ -140,15 +143,16 @@ fn row_of(format: PlainFormat, height: u16, slot: u16) -> u16
     }
 }
 
-/// Writes a screen as such a file. It takes memory for one row.
+/// Writes a screen as such a file, whose length its format can say. It takes memory for one row.
 pub fn write_plain<W: Write>(
     alloc: Global,
     screen: &Screen,
     format: PlainFormat,
     out: &mut W,
 ) -> io::Result<()>
-    ensures { OnOk result (Appends (W.contents out.old) (W.contents out.new)
+    ensures all { OnOk result (Appends (W.contents out.old) (W.contents out.new)
         (plain_text format screen.now.width screen.now.height (color_at screen.now))) }
+    ensures fits { OnOk result (FitsIn format screen.now.width screen.now.height) }
 {
     let size = screen.size();
     let mut row = Vec::new(alloc);

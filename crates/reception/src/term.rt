@@ -46,6 +46,17 @@ pub enum Reason {
     Closing,
 }
 
+impl Reason {
+    /// What a viewer is told.
+    pub fn text(self) -> &'static str {
+        match self {
+            Reason::Full => "all seats are taken",
+            Reason::Enough => "as many viewers have come as are served",
+            Reason::Closing => "the recording has ended",
+        }
+    }
+}
+
 /// How a connection is received.
 #[derive(Clone, Copy, Debug, PartialEq, Eq)]
 pub enum Arrival {

@@ -190,6 +190,20 @@ impl<
         Ok((Begun { found, host }, listener))
     }
 
+    /// The listener for browsers, if they are to connect.
+    pub fn web(&self) -> Result<Option<TcpListener>, Stopped>
+    where
+        R: Net<Listener = TcpListener>,
+    {
+        let Some(address) = self.plan.web else {
+            return Ok(None);
+        };
+        let listener = TcpListener::bind(self.rt, address);
+        let listener = self.given(listener, "listen for browsers at", address, Refusal::Net)?;
+        listener.set_nonblocking(true)?;
+        Ok(Some(listener))
+    }
+
     // Tells the position at which a host goes on with a recording: the file has no mark there.
     fn tell_position(&self, book: &Book<FileDisk>) {
         let messages = book.committed();

@@ -64,6 +64,9 @@ impl<'a, M: Mark, R: Clock + Wait> ReceiptSink<Receipt<M>> for Committing<'a, M,
         for stamped in &slice.messages {
             bytes = bytes.saturating_add(stamped.message.bytes().len() as u64);
         }
+        if let Some(last) = slice.messages.last() {
+            self.room.facts.commit(last.time);
+        }
         self.room.set_committed(slice.first.saturating_add(count));
         self.room.intake.commit(self.rt, bytes);
         self.room.note_recorded(count, bytes);

@@ -6,9 +6,12 @@ use crate::no_turnstile::NoTurnstile;
 use crate::service::Service;
 use book_workers::{ViewerEnd, run_viewer};
 use broadcast::{NextRefusal, Start};
+use carriage::Ending;
 use connections::{Greeting, Guest, Viewer, turn_away};
 use disk::Disk;
-use reception::{Arrival, Reason};
+use gated_journal::ReadFault;
+use playing::Program;
+use reception::Arrival;
 use shared_book::Mark;
 use sockets::Connection;
 use std::net::{SocketAddr, TcpStream};
@@ -16,33 +19,102 @@ use std::sync::Wait;
 use std::thread;
 use std::thread::{Scope, Threads};
 use std::time::Clock;
+use steering::{Showing, Steering};
 use telling::Event;
-use watching::{Live, Played, Watching};
+use watching::{Guide, Live, Played, Still, Watching};
 
 impl<'a, D: Disk, M: Mark, R: Clock + Wait> Service<'a, D, M, R> {
-    // Shows a viewer the recording, from a seat. One that begins after a message takes its seat at
-    // the last key screen before, so that no more than a block is read under the lock at a time;
-    // what lies between is painted for it before it is answered.
-    fn watch<C: Connection>(&self, viewer: &Viewer<M, C>) -> Result<(), ViewerEnd> {
+    // Shows a viewer the recording from a count of messages on, or live, as its guide decides. It
+    // takes its seat at the last key screen before, so that no more than a block is read under the
+    // lock at a time; what lies between is painted for it before it is answered.
+    fn show<C: Connection, G: Guide<M, C, R>>(
+        &self,
+        viewer: &Viewer<M, C>,
+        start: Start,
+        guide: G,
+    ) -> Result<(), ViewerEnd> {
         let (rt, shared, room) = (self.rt, self.shared, self.room);
-        let start = match room.from {
-            Start::Live => Start::Live,
+        let start = match start {
+            Start::Live => {
+                viewer.show_from(rt, 0, room.facts.length());
+                Start::Live
+            }
             Start::At(count) => {
-                viewer.show_from(rt, count);
-                Start::At(shared.key_before(rt, count))
+                viewer.show_from(rt, count, 0);
+                // With one message more there is one before it, whose time is told with it.
+                Start::At(shared.key_before(rt, count.saturating_sub(1)))
             }
         };
-        let ended = match room.program {
-            Some(program) => {
-                let sink = Watching::new(rt, viewer, room, Played::new(program));
-                run_viewer(rt, shared, start, sink, &NoTurnstile)
+        let sink = Watching::new(rt, viewer, room, guide);
+        run_viewer(rt, shared, start, sink, &NoTurnstile)
+    }
+
+    // Shows a viewer what the recorder was started for.
+    fn watch<C: Connection>(&self, viewer: &Viewer<M, C>) -> Result<(), ViewerEnd> {
+        let room = self.room;
+        match room.program {
+            Some(program) => self.show(viewer, room.from, Played::new(program)),
+            None => self.show(viewer, room.from, Live::new(room, room.from)),
+        }
+    }
+
+    // Shows a viewer in a browser what it asks for, from a count of messages that are there.
+    fn watch_showing<C: Connection>(
+        &self,
+        viewer: &Viewer<M, C>,
+        showing: Showing,
+    ) -> Result<(), ViewerEnd> {
+        let (rt, shared, room) = (self.rt, self.shared, self.room);
+        let time = match showing {
+            Showing::Live => return self.show(viewer, Start::Live, Live::new(room, Start::Live)),
+            Showing::After(count) => {
+                let start = Start::At(count.min(shared.committed(rt)));
+                return self.show(viewer, start, Live::new(room, start));
             }
-            None => {
-                let sink = Watching::new(rt, viewer, room, Live::new(room));
-                run_viewer(rt, shared, start, sink, &NoTurnstile)
-            }
+            Showing::Played(playback) => playback.time,
+            Showing::Still(time) => time,
         };
-        viewer.leave(rt);
+        // What was painted first is shown at any time before it.
+        let count = shared.count_at(rt, time).map_err(unread)?;
+        let from = count.max(1).min(shared.committed(rt));
+        match showing {
+            Showing::Played(playback) => {
+                let program = Program {
+                    pace: playback.pace,
+                    longest_pause: playback.longest_pause,
+                    repeats: false,
+                    from,
+                    from_time: playback.time,
+                };
+                self.show(viewer, Start::At(from), Played::new(program))
+            }
+            _ => self.show(viewer, Start::At(from), Still::new(from)),
+        }
+    }
+
+    // Shows a viewer in a browser what it asks for, one thing after another, until it leaves.
+    fn watch_steered<C: Connection>(&self, viewer: &Viewer<M, C>) -> Result<(), ViewerEnd> {
+        for _ in self.rt.forever() {
+            let Some(steering) = viewer.take_steering(self.rt) else {
+                return self.watch(viewer);
+            };
+            self.watch_showing(viewer, steering.showing)?;
+            if viewer.has_left() || !viewer.is_over() {
+                return Ok(());
+            }
+        }
+        unreachable!()
+    }
+
+    // Shows a viewer the recording until it leaves, or all was shown, and tells why it ends then.
+    fn attend_viewer<C: Connection>(&self, viewer: &Viewer<M, C>) -> Result<(), ViewerEnd> {
+        let ended = self.watch_steered(viewer);
+        let ending = match ended {
+            Ok(()) => Ending::Ended,
+            Err(_) => Ending::Unreadable,
+        };
+        viewer.part(self.rt, ending);
+        viewer.leave(self.rt);
         ended
     }
 
@@ -53,11 +125,20 @@ impl<'a, D: Disk, M: Mark, R: Clock + Wait> Service<'a, D, M, R> {
     }
 
     // Tells a connection why it is turned away.
-    fn refuse(&self, stream: &TcpStream, event: Event<'_>, reason: &str) {
-        self.room.telling.tell(self.rt, event);
-        let _told = turn_away(self.rt, stream, &self.room.bell, reason);
-        self.room.hall.give_up(self.rt);
+    fn refuse<C: Connection>(&self, stream: &C, event: Event<'_>, ending: Ending) {
+        let room = self.room;
+        room.telling.tell(self.rt, event);
+        let _told = turn_away(self.rt, room.alloc, stream, &room.bell, ending);
+        room.hall.give_up(self.rt);
     }
+}
+
+// What a read that failed is to a viewer's worker.
+fn unread(fault: ReadFault) -> ViewerEnd {
+    ViewerEnd::Next(match fault {
+        ReadFault::Device => NextRefusal::Device,
+        ReadFault::NoMemory => NextRefusal::NoMemory,
+    })
 }
 
 impl<'a, D: Disk + Send, M: Mark + Send + Sync, R: Threads + Clock + Wait + Sync> Service<
@@ -68,13 +149,17 @@ impl<'a, D: Disk + Send, M: Mark + Send + Sync, R: Threads + Clock + Wait + Sync
 > {
     // Serves a viewer that has a seat until it leaves. What it does wrong ends it alone. Tells how it
     // ended.
-    fn serve_viewer(&self, viewer: &Viewer<M, TcpStream>, from: SocketAddr) -> Event<'static> {
+    fn serve_viewer<C: Connection + Send + Sync>(
+        &self,
+        viewer: &Viewer<M, C>,
+        from: SocketAddr,
+    ) -> Event<'static> {
         let (rt, room) = (self.rt, self.room);
         thread::scope(thread::scope_env(), rt, |scope| {
-            let Ok(worker) = scope.spawn(move || self.watch(viewer)) else {
+            let Ok(worker) = scope.spawn(move || self.attend_viewer(viewer)) else {
                 return Event::NoThread(from);
             };
-            viewer.listen(rt, self.shared, &room.hall);
+            viewer.listen(rt, self.shared, room);
             match worker.join(rt) {
                 Err(ViewerEnd::Next(NextRefusal::Device)) => Event::Unshown(from),
                 _ => Event::Left(from),
@@ -83,7 +168,12 @@ impl<'a, D: Disk + Send, M: Mark + Send + Sync, R: Threads + Clock + Wait + Sync
     }
 
     // Hears a guest's handshake to its end, and serves the viewer that it becomes, if it gets a seat.
-    fn receive(&self, mut guest: Guest<TcpStream>, from: SocketAddr) {
+    fn receive<C: Connection + Send + Sync>(
+        &self,
+        mut guest: Guest<C>,
+        from: SocketAddr,
+        steering: Option<Steering>,
+    ) {
         let (rt, room) = (self.rt, self.room);
         match guest.greet(rt, &room.bell) {
             Ok(Greeting::Whole) if room.fits(&guest) => {}
@@ -93,38 +183,56 @@ impl<'a, D: Disk + Send, M: Mark + Send + Sync, R: Threads + Clock + Wait + Sync
             room.telling.tell(rt, Event::TurnedAway(from, reason));
             return;
         }
+        room.facts.come();
         room.telling.tell(rt, Event::Came(from));
-        let viewer = Viewer::<M, TcpStream>::of(guest);
+        let viewer = Viewer::<M, C>::of(guest, steering);
         let ended = self.serve_viewer(&viewer, from);
+        room.facts.leave();
         room.hall.leave(rt);
         room.telling.tell(rt, ended);
     }
 
     // Makes a guest of a connection.
-    fn welcome(&self, stream: TcpStream, from: SocketAddr) {
+    fn welcome<C: Connection + Send + Sync>(
+        &self,
+        stream: C,
+        from: SocketAddr,
+        steering: Option<Steering>,
+    ) {
         let room = self.room;
         match Guest::new(room.alloc, stream, room.screen.size, &room.name) {
-            Ok(guest) => self.receive(guest, from),
+            Ok(guest) => self.receive(guest, from, steering),
             Err(_) => self.end_handshake(Event::Unheard(from)),
         }
     }
 
-    // Attends to a connection until it has ended.
-    fn attend(&self, stream: TcpStream, from: SocketAddr, arrival: Arrival) {
+    /// Attends to a connection until it has ended: of a viewer in a browser with what it asks for.
+    pub fn attend<C: Connection + Send + Sync>(
+        &self,
+        stream: C,
+        from: SocketAddr,
+        arrival: Arrival,
+        steering: Option<Steering>,
+    ) {
         if let Arrival::TurnedAway(reason) = arrival {
-            let text = match reason {
-                Reason::Full => "all seats are taken",
-                Reason::Enough => "as many viewers have come as are served",
-                Reason::Closing => "the recording has ended",
-            };
-            return self.refuse(&stream, Event::TurnedAway(from, reason), text);
+            return self.refuse(
+                &stream,
+                Event::TurnedAway(from, reason),
+                Ending::TurnedAway(reason),
+            );
         }
-        match self.room.from {
-            Start::At(count) if count > self.shared.committed(self.rt) => {
-                let text = "the recording has fewer messages";
-                self.refuse(&stream, Event::TooFar(from), text);
-            }
-            _ => self.welcome(stream, from),
+        let from_count = match (steering, self.room.from) {
+            (Some(steering), _) => match steering.showing {
+                Showing::After(count) => count,
+                _ => 0,
+            },
+            (None, Start::At(count)) => count,
+            (None, Start::Live) => 0,
+        };
+        if from_count > self.shared.committed(self.rt) {
+            self.refuse(&stream, Event::TooFar(from), Ending::TooFar);
+        } else {
+            self.welcome(stream, from, steering);
         }
     }
 
@@ -136,7 +244,7 @@ impl<'a, D: Disk + Send, M: Mark + Send + Sync, R: Threads + Clock + Wait + Sync
             room.telling.tell(self.rt, Event::Dropped(from));
             return;
         }
-        let attending = scope.spawn(move || self.attend(stream, from, arrival));
+        let attending = scope.spawn(move || self.attend(stream, from, arrival, None));
         if attending.is_err() {
             self.end_handshake(Event::NoThread(from));
         }
@@ -145,7 +253,10 @@ impl<'a, D: Disk + Send, M: Mark + Send + Sync, R: Threads + Clock + Wait + Sync
     // Has one who came while the recording was read attended to, on a thread of its own.
     fn go_on<'s, E>(&'s self, scope: &'s Scope<'s, E>, comer: Comer) {
         let Comer { guest, from } = comer;
-        if scope.spawn(move || self.receive(guest, from)).is_err() {
+        if scope
+            .spawn(move || self.receive(guest, from, None))
+            .is_err()
+        {
             self.end_handshake(Event::NoThread(from));
         }
     }

@@ -3,6 +3,7 @@
 #![tactic(auto)]
 
 mod accepting;
+mod browsers;
 mod comer;
 mod committing;
 mod ends;

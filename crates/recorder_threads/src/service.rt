@@ -22,6 +22,7 @@ use std::thread::{JoinHandle, Scope, Threads};
 use std::time::{Clock, Duration};
 use std::{io, thread};
 use telling::{Event, Silence};
+use web_lobby::Lobby;
 
 /// What the threads of a recorder share.
 #[derive(Drop)]
@@ -31,6 +32,12 @@ pub struct Service<'a, D: Disk, M: Mark, R> {
     pub room: &'a Room<M>,
     /// The listener for viewers.
     pub listener: &'a TcpListener,
+    /// The listener for browsers, if there is one.
+    pub web: &'a Option<TcpListener>,
+    /// By which names browsers may ask, besides addresses and `localhost`.
+    pub names: &'a [&'a [u8]],
+    /// The browsers that are served.
+    pub lobby: &'a Lobby,
     /// The host's stream, if there is a host, to be shut.
     pub stream: &'a Option<TcpStream>,
 }
@@ -109,6 +116,7 @@ impl<'a, D: Disk, M: Mark, R: Clock + Wait> Service<'a, D, M, R> {
             self.shut(Shutdown::Both);
         }
         self.room.intake.end(self.rt);
+        self.room.facts.end();
         end
     }
 
@@ -233,6 +241,9 @@ impl<'a, D: Disk + Send, M: Mark + Send + Sync, R: Threads + Clock + Wait + Sync
         }
         if host.is_some() && self.room.telling.tells_all() {
             scope.spawn(move || self.watch_device()).ok()?;
+        }
+        if let Some(listener) = self.web {
+            scope.spawn(move || self.accept_browsers(listener)).ok()?;
         }
         let viewers = scope.spawn(move || self.accept_all(comers)).ok()?;
         Some(Crew { host, viewers })

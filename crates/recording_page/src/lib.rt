@@ -5,4 +5,4 @@ mod exporting;
 mod page;
 mod writing;
 
-pub use exporting::export_page;
+pub use exporting::{WrittenPage, export_page};

@@ -24,6 +24,7 @@ use std::thread::{JoinHandle, Threads};
 use std::time::Clock;
 use std::{io, thread};
 use telling::{Event, Telling};
+use web_lobby::Lobby;
 
 // What the threads of a recorder share beside the recording. It is boxed, since it is large, and each
 // way out of a function that owns it would take it apart.
@@ -52,6 +53,7 @@ fn room_of<M: Mark, R: AllocGlobal + Clock>(
         last_error,
         Device::new(rt),
         desk.committed(),
+        desk.last_time(),
     );
     Ok(Box::new(alloc, room)?)
 }
@@ -76,6 +78,8 @@ fn serve_opened<M: Mark + Send + Sync, R: Threads + Clock + Wait + Sync + AllocG
 {
     let Arrivals {
         listener,
+        web,
+        lobby,
         hall,
         comers,
     } = Box::into_inner(arrivals);
@@ -97,11 +101,15 @@ fn serve_opened<M: Mark + Send + Sync, R: Threads + Clock + Wait + Sync + AllocG
         comers,
         stop: plan.stop,
     };
+    let names = [plan.web_name.unwrap_or("").as_bytes()];
     let service = Service {
         rt,
         shared: &shared,
         room: &room,
         listener: &listener,
+        web: &web,
+        names: &names,
+        lobby: &lobby,
         stream: &stream,
     };
     let outcome = run_threads(&service, work, err);
@@ -133,10 +141,12 @@ impl WatchedReading<'_> {
     }
 }
 
-// The listener for viewers, who watches, and who came already.
+// The listeners, who is answered, who watches, and who came already.
 #[derive(Drop)]
 struct Arrivals {
     listener: TcpListener,
+    web: Option<TcpListener>,
+    lobby: Lobby,
     hall: Hall,
     comers: Vec<Comer>,
 }
@@ -214,6 +224,8 @@ where
     };
     let arrivals = Arrivals {
         listener,
+        web: opening.web()?,
+        lobby: Lobby::new(opening.rt)?,
         hall,
         comers,
     };

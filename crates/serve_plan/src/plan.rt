@@ -42,6 +42,10 @@ pub struct Plan<'a> {
     pub file: &'a str,
     /// The address that viewers connect to.
     pub listen: &'a str,
+    /// The address that browsers connect to, if there is one.
+    pub web: Option<&'a str>,
+    /// By which name browsers may ask, besides addresses and `localhost`.
+    pub web_name: Option<&'a str>,
     /// The host's address; without one the recording is served alone.
     pub host: Option<&'a str>,
     /// The format of a new recording.
@@ -68,7 +72,7 @@ impl Plan<'_> {
     pub fn term(&self) -> Term {
         match self.audience {
             Audience::Count(all) => Term::Viewers(all),
-            Audience::Any if self.host.is_some() => Term::Recording,
+            Audience::Any if self.host.is_some() && self.web.is_none() => Term::Recording,
             Audience::Any => Term::Stop,
         }
     }

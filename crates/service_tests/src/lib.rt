@@ -22,6 +22,8 @@ pub fn plan_of<'a>(
     Plan {
         file,
         listen: "",
+        web: None,
+        web_name: None,
         host,
         format: Format::Two,
         key_interval: 4,

@@ -1,3 +1,4 @@
 pub mod Table
 pub mod Run
 pub mod Playing
+pub mod Standing

@@ -6,6 +6,7 @@ mod laws;
 mod next;
 mod playback;
 mod situation;
+mod stillness;
 
 pub use begins::Begins;
 pub use laws::{
@@ -17,3 +18,4 @@ pub use laws::{
 pub use next::Next;
 pub use playback::Playback;
 pub use situation::Situation;
+pub use stillness::Stillness;

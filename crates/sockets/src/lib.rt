@@ -7,9 +7,11 @@ mod connection;
 mod limits;
 mod listening;
 mod stop;
+mod web_stream;
 
 pub use bell::{Bell, Woken};
 pub use connection::Connection;
 pub use limits::{pause, time_left, watch_over, write_within};
 pub use listening::{Accepted, accept};
 pub use stop::wait_for_stop;
+pub use web_stream::WebStream;

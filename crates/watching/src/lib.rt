@@ -4,10 +4,12 @@
 mod failure;
 mod live;
 mod played;
+mod still;
 mod viewing;
 mod watching;
 
 pub use live::Live;
 pub use played::Played;
+pub use still::Still;
 pub use viewing::Viewing;
 pub use watching::{Guide, Watching};

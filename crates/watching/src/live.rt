@@ -18,10 +18,10 @@ pub struct Live {
 }
 
 impl Live {
-    /// Of a viewer that comes into this room now.
-    pub fn new<M: Mark>(room: &Room<M>) -> Live {
+    /// Of a viewer that begins so in this room now.
+    pub fn new<M: Mark>(room: &Room<M>, start: Start) -> Live {
         Live {
-            begins: match room.from {
+            begins: match start {
                 Start::Live => Begins::Live,
                 Start::At(count) => Begins::after(count, room.committed()),
             },
@@ -46,9 +46,9 @@ impl Live {
             is_at_end: viewing.is_at_end,
             is_short: viewing.is_short,
             has_failed: viewing.has_failed,
-            has_left: viewing.viewer.has_left(),
+            has_left: viewing.viewer.is_over(),
             is_closing: viewing.is_closing(),
-            is_alone: viewing.room.is_alone,
+            is_alone: viewing.room.stays,
         }
     }
 }

@@ -55,7 +55,7 @@ impl<M: Mark, C: Connection, R: Clock + Wait> Guide<M, C, R> for Played {
             played: self.played(viewing.rt),
             is_at_end: viewing.is_at_end,
             has_stood: self.has_stood,
-            has_left: viewing.viewer.has_left(),
+            has_left: viewing.viewer.is_over(),
             is_closing: viewing.is_closing(),
         };
         playback.decide()

@@ -72,8 +72,8 @@ impl<'a, M: Mark, C: Connection, R: Clock + Wait> Viewing<'a, M, C, R> {
         self.has_waited = false;
         self.is_short = false;
         self.has_failed = false;
-        if are_due && !self.viewer.has_left() {
-            self.viewer.show(self.rt, slice);
+        if are_due && !self.viewer.is_over() {
+            self.viewer.show(self.rt, slice, &self.room.facts);
         }
     }
 
@@ -128,14 +128,15 @@ impl<'a, M: Mark, C: Connection, R: Clock + Wait> Viewing<'a, M, C, R> {
         }
     }
 
-    // At the end of the recording: stays until the viewer was shown the rest, or leaves; if there is
-    // no host, first until the recorder is closing.
+    // At the end of the recording: tells that, and stays until the viewer was shown the rest, or it
+    // is over; if viewers stay, first until the recorder is closing.
     fn rest(&self) {
         let viewer = self.viewer;
-        if self.room.is_alone {
+        viewer.tell(self.rt, &self.room.facts);
+        if self.room.stays {
             self.room
                 .hall
-                .wait_until_closing(self.rt, || viewer.has_left());
+                .wait_until_closing(self.rt, || viewer.is_over());
         }
         viewer.wait_until_shown(self.rt);
     }
@@ -157,7 +158,7 @@ impl<'a, M: Mark, C: Connection, R: Clock + Wait> Viewing<'a, M, C, R> {
     // Sleeps, but no longer than until the viewer has left, or the recorder is closing.
     fn sleep(&self, time: Duration) {
         let viewer = self.viewer;
-        self.room.hall.wait_for(self.rt, time, || viewer.has_left());
+        self.room.hall.wait_for(self.rt, time, || viewer.is_over());
     }
 
     /// Whether the recorder is closing.

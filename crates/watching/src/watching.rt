@@ -121,7 +121,7 @@ impl<'a, M: Mark, C: Connection, R: Clock + Wait, G: Guide<M, C, R>> ViewerSink<
     ghost count_of = { λ e. e.count };
 
     fn has_left(&self) -> bool {
-        self.viewing.viewer.has_left()
+        self.viewing.viewer.is_over()
     }
 
     fn seated(&mut self, count: u64) {

@@ -1,7 +1,7 @@
 //! The page over loopback, in one process with a browser of the test.
 
 use browse::page::{PAGE, SCRIPT, STYLE};
-use browse::{Browsing, browse};
+use browse::{Browsing, browse, listen_at};
 use file_disk::Progress;
 use reception::Stop;
 use std::fs::File;
@@ -29,7 +29,10 @@ const BLACK: [u8; 101] =
 const RED: [u8; 101] =
     *b"\x89PNG\r\n\x1a\n\0\0\0\rIHDR\0\0\0\x01\0\0\0\x01\x08\x02\0\0\0\x90wS\xde\0\0\0\x02IDATx\x01\xec\x1a~\xd2\0\0\0\x09IDAT\0\x04\0\xfb\xff\0\xff\0\0.\xd3\xa5\x12\0\0\0\x09IDAT\x01\0\0\xff\xff\x03\x01\x01\0\x92\x87=\xc8\0\0\0\0IEND\xaeB`\x82";
 
-// Asks a server for something: whether it answers with this status and body.
+/// What each answer says of other pages.
+const POLICY: &[u8; 45] = b"\r\nCross-Origin-Resource-Policy: same-origin\r\n";
+
+// Asks a server for something: whether it answers with this status and body, for its own page alone.
 fn is_answered(
     rt: &HostRuntime,
     endpoint: SocketAddr,
@@ -42,7 +45,10 @@ fn is_answered(
     let mut answer = Vec::new(rt.alloc());
     stream.read_to_end(&mut answer)?;
     let first = format!(in rt.alloc(); "HTTP/1.1 {status}\r\n")?;
-    Ok(answer.starts_with(first.as_bytes()) && answer.ends_with(body))
+    let is_own = answer
+        .windows(POLICY.len())
+        .any(|it| it == POLICY.as_slice());
+    Ok(is_own && answer.starts_with(first.as_bytes()) && answer.ends_with(body))
 }
 
 // What is asked for, and what is answered.
@@ -182,5 +188,14 @@ fn a_browser_is_answered(rt: HostRuntime) -> Result<(), Fail> {
     let said = said?;
     assert!(rt; said.as_str() == expected.as_str(), "{said}");
     fs::remove_file(rt, "browsed")?;
+    Ok(())
+}
+
+#[test]
+fn a_port_alone_is_of_this_machine(rt: HostRuntime) -> Result<(), Fail> {
+    let listener = listen_at(&rt, rt.alloc(), "0")?;
+    let endpoint = listener.local_addr()?;
+    let told = format!(in rt.alloc(); "{endpoint}")?;
+    assert!(rt; told.as_str().starts_with("127.0.0.1:"), "{told}");
     Ok(())
 }

@@ -3,9 +3,9 @@ use Rattle.pictures.specs.Plain.{bmp_head}
 use Rattle.pictures.proofs.Texts.{twelve_parts}
 use Rattle.pictures.proofs.plain.append_bmp_head.Goals as goal
 
-pub returns : goal.returns
+pub returns-clause-head : goal.returns-clause-head
 unfolding bmp_head
-returns c =
+returns-clause-head c =
     let product : 4 * c.from.result * c.from-2.result ≡ 4 * c.args.size.width * c.args.size.height = rw (c.from.ensures, c.from-2.ensures) refl in
     let len : c.in-Ok.length ≡ 54 + 4 * c.args.size.width * c.args.size.height = omega (arith, c.in-Ok.ensures, product) in
     rw (
@@ -38,3 +38,8 @@ returns c =
       c.from-3.ensures,
       c.from-4.ensures,
     ) (twelve_parts c.args.out.now.items _ _ _ _ _ _ _ _ _ _ _ _))
+
+pub returns-clause-fits : goal.returns-clause-fits
+returns-clause-fits c =
+    let product : 4 * c.from.result * c.from-2.result ≡ 4 * c.args.size.width * c.args.size.height = rw (c.from.ensures, c.from-2.ensures) refl in
+    omega (arith, c.in-Ok.ensures, product)

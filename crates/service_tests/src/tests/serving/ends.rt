@@ -35,10 +35,13 @@ fn the_end_is_shown(rt: &HostRuntime, ends: Loopback, stays: bool) -> Result<(),
     let first = viewer(rt, ends.viewers)?;
     first.talk(alloc, &ALL, &BLACK)?;
     if stays {
-        let refused = silent_viewer(rt, ends.viewers)?;
-        refused.say(b"RFB 003.008\n")?;
-        refused.hear(alloc, ENOUGH)?;
-        refused.ends()?;
+        // More than there are handshakes at a time.
+        for _ in 0..257 {
+            let refused = silent_viewer(rt, ends.viewers)?;
+            refused.say(b"RFB 003.008\n")?;
+            refused.hear(alloc, ENOUGH)?;
+            refused.ends()?;
+        }
         first.say(&CHANGES)?;
         burst(alloc, &host)?;
         first.hear_at_last(alloc, &BLUE, &CHANGES)?;

@@ -77,9 +77,9 @@ fn a_host_ends(rt: HostRuntime) -> Result<(), Fail> {
     Ok(())
 }
 
-/// A recording of one pixel with one message, an update of a red pixel.
+/// A recording of one pixel with one message, an update of a red pixel after a millisecond.
 const RECORDING: [u8; 54] =
-    *b"ORFBREC1\0\x01\0\x01\0\x04\0\x01xO\0\0\0\x1d\0\x01\0\0\0\0\0\0\0\0\x14\0\0\0\x01\0\0\0\0\0\x01\0\x01\0\0\0\0\0\0\xff\0C";
+    *b"ORFBREC1\0\x01\0\x01\0\x04\0\x01xO\0\0\0\x1d\0\x01\0\0\0\0\x01\0\0\0\x14\0\0\0\x01\0\0\0\0\0\x01\0\x01\0\0\0\0\0\0\xff\0C";
 
 // What a viewer sees first of a recording that is served alone.
 fn alone(rt: &HostRuntime, endpoint: Endpoint, first: &[u8]) -> Result<(), Fail> {
@@ -95,7 +95,8 @@ fn a_recording_is_served_alone(rt: HostRuntime) -> Result<(), Fail> {
     for (from, first) in [
         (Origin::Live, &RED),
         (Origin::Count(0), &BLACK),
-        (Origin::Time(0), &RED),
+        (Origin::Time(0), &BLACK),
+        (Origin::Time(1), &RED),
     ] {
         let (viewers, endpoint) = listener(rt)?;
         let plan = plan_of(file, None, Audience::Count(1), from);

@@ -1,6 +1,7 @@
 //! Both ends of the wire that a test plays. Bytes are worked by hand.
 
 use std::alloc::{AllocError, Global};
+use std::io;
 use std::io::{Read, Write};
 use std::net::{Net, Shutdown, TcpListener, TcpStream};
 use std::test::Fail;
@@ -117,6 +118,17 @@ impl Peer {
     pub fn talk(&self, alloc: Global, said: &[u8], heard: &[u8]) -> Result<(), Fail> {
         self.say(said)?;
         self.hear(alloc, heard)
+    }
+
+    /// Nothing comes for a while, and the connection stays.
+    pub fn stays(&self) -> Result<(), Fail> {
+        self.stream
+            .set_read_timeout(Some(Duration::from_millis(300)))?;
+        let mut byte = [0u8; 1];
+        match (&mut &self.stream).read(&mut byte) {
+            Err(error) if error.kind() == io::ErrorKind::WouldBlock => Ok(()),
+            _ => Err("more came, or it was closed".into()),
+        }
     }
 
     /// Nothing more comes.

@@ -23,7 +23,9 @@ fn sees_each(rt: &HostRuntime, endpoint: Endpoint) -> Result<(), Fail> {
     let viewer = viewer(rt, endpoint)?;
     viewer.talk(alloc, &ALL, &BLACK)?;
     viewer.talk(alloc, &CHANGES, &RED)?;
-    viewer.talk(alloc, &CHANGES, &GREEN)
+    viewer.talk(alloc, &CHANGES, &GREEN)?;
+    viewer.say(&CHANGES)?;
+    viewer.stays()
 }
 
 // What a viewer sees that asks for all each time, and so never for what changes next.

@@ -1,0 +1,807 @@
+//! The page, its style and its script.
+
+/// The page, in HTML.
+pub const PAGE: &str = r##"<!doctype html>
+<html lang="en">
+<head>
+<meta charset="utf-8">
+<meta name="viewport" content="width=device-width, initial-scale=1">
+<meta name="referrer" content="no-referrer">
+<title>Recording</title>
+<link rel="icon" href="data:,">
+<link rel="stylesheet" href="live.css">
+</head>
+<body>
+<header><h1 id="name">Recording</h1><span id="facts"></span> <span id="watching"></span></header>
+<main>
+<noscript><p>This page needs JavaScript.</p></noscript>
+<div id="fault" hidden><span id="reason" role="alert"></span> <button id="again" type="button" hidden>Try again</button></div>
+<div id="stage"><canvas id="screen" width="640" height="480" role="img" aria-label="The screen"></canvas></div>
+<canvas id="overview" width="1000" height="32" aria-hidden="true"></canvas>
+<input id="moment" type="range" min="0" max="0" value="0" step="1" aria-label="Moment of the recording">
+<p class="bar">
+<button id="play" type="button">Pause</button>
+<button id="live" type="button" aria-pressed="true">Live</button>
+<b id="state" role="status">Connecting</b>
+<output id="clock" for="moment" aria-live="off"></output>
+<span id="behind"></span>
+</p>
+<p class="bar">
+<button id="before" type="button">Change before</button>
+<button id="next" type="button">Next change</button>
+<label>Speed <select id="speed">
+<option value="0.25">1/4</option><option value="0.5">1/2</option><option value="1" selected>1</option>
+<option value="2">2</option><option value="5">5</option><option value="20">20</option><option value="100">100</option>
+</select></label>
+<label><input id="skip" type="checkbox"> Skip pauses</label>
+<button id="link" type="button">Link to this moment</button>
+<button id="save" type="button">Save picture</button>
+<button id="full" type="button">Full screen</button>
+</p>
+</main>
+<footer><kbd>Space</kbd> plays and pauses. <kbd>L</kbd> goes to what is live. <kbd>&larr;</kbd> <kbd>&rarr;</kbd>
+go a second, with <kbd>Shift</kbd> ten. <kbd>P</kbd> <kbd>N</kbd> go to the change before and to the next.
+<kbd>Home</kbd> <kbd>End</kbd> go to the ends. <kbd>+</kbd> <kbd>-</kbd> change the speed. <kbd>S</kbd> saves a
+picture, <kbd>F</kbd> fills the screen.</footer>
+<script src="live.js"></script>
+</body>
+</html>
+"##;
+
+/// Its style.
+pub const STYLE: &str =
+    r##":root { color-scheme: light dark; --ink: #1c1c1c; --paper: #fff; --dim: #5c5c5c; --bar: #e6e6e6; --mark: #2f6fa8; --fault: #b00020; }
+@media (prefers-color-scheme: dark) { :root { --ink: #e8e8e8; --paper: #181818; --dim: #a8a8a8; --bar: #333; --mark: #6aaee0; --fault: #ff7a8a; } }
+* { box-sizing: border-box; }
+body { margin: 0; font: 1rem/1.5 system-ui, sans-serif; color: var(--ink); background: var(--paper); }
+header, main, footer { max-width: 90rem; margin: 0 auto; padding: 0 1rem; }
+h1 { display: inline; font-size: 1.1rem; margin: 0 1rem 0 0; overflow-wrap: anywhere; }
+#stage { background: #000; text-align: center; }
+#stage:fullscreen canvas { width: 100vw; height: 100vh; max-height: none; object-fit: contain; }
+#screen { max-width: 100%; max-height: max(60vh, 100vh - 18rem); vertical-align: top; }
+#overview { display: block; width: 100%; height: 2rem; margin-top: .5rem; background: var(--bar); cursor: pointer; }
+#moment { display: block; width: 100%; height: 2.5rem; margin: 0; accent-color: var(--mark); touch-action: pan-y; }
+.bar { display: flex; flex-wrap: wrap; gap: .5rem 1rem; align-items: center; margin: .5rem 0; }
+label { display: inline-flex; align-items: center; gap: .4rem; min-height: 2.5rem; }
+button, select { font: inherit; min-height: 2.5rem; padding: 0 .8rem; }
+[type=checkbox] { width: 1.25rem; height: 1.25rem; }
+[aria-pressed=true] { color: var(--paper); background: var(--mark); }
+#clock, #behind { font-variant-numeric: tabular-nums; }
+#fault { margin: .5rem 0; padding: .5rem; border: 2px solid var(--fault); }
+footer, #facts, #watching { color: var(--dim); font-size: .9rem; }
+#watching { margin-left: .5rem; }
+kbd { padding: 0 .3em; border: 1px solid var(--dim); border-radius: 3px; font: inherit; }
+@media (pointer: coarse) { footer { display: none; } }
+"##;
+
+/// Its script.
+pub const SCRIPT: &str = r##"'use strict';
+
+// A pixel of a canvas as it is sent: red first, and a fourth byte that says nothing.
+const color = pixel => pixel | OPAQUE;
+
+// ---- The same text as in the page of a recording, from here .. ----
+
+const OPAQUE = 0xff000000;
+
+// Reads numbers off bytes, as RFB has them: the highest byte first. More bytes may come later.
+class Reader {
+  constructor(bytes) { this.bytes = bytes; this.offset = 0; }
+  get left() { return this.bytes.length - this.offset; }
+  push(more) {
+    const unread = this.bytes.subarray(this.offset);
+    this.offset = 0;
+    if (unread.length === 0) { this.bytes = more; return; }
+    this.bytes = new Uint8Array(unread.length + more.length);
+    this.bytes.set(unread);
+    this.bytes.set(more, unread.length);
+  }
+  take(count) {
+    if (count > this.left) throw new Error('it ends too early');
+    this.offset += count;
+    return this.bytes.subarray(this.offset - count, this.offset);
+  }
+  u8() {
+    if (this.left === 0) throw new Error('it ends too early');
+    return this.bytes[this.offset++];
+  }
+  u16() { return this.u8() << 8 | this.u8(); }
+  u32() { return (this.u16() << 16 | this.u16()) >>> 0; }
+  pixel() { return color(this.u8() | this.u8() << 8 | this.u8() << 16 | this.u8() << 24); }
+}
+
+// A screen on which updates are painted (RFC 6143, sections 7.6.1 and 7.7). Whatever paints yields if
+// bytes are missing, and goes on once more have come.
+class Painter {
+  constructor(width, height) {
+    this.width = width;
+    this.height = height;
+    this.pixels = new Uint32Array(width * height).fill(OPAQUE);
+    this.bytes = new Uint8Array(this.pixels.buffer);
+  }
+  // Paints an update, after its type. Notes the box round what is painted, and its area.
+  *update(message) {
+    this.box = { left: this.width, top: this.height, right: 0, bottom: 0 };
+    this.area = 0;
+    while (message.left < 3) yield;
+    message.u8();
+    for (let left = message.u16(); left > 0; left--) {
+      while (message.left < 12) yield;
+      const x = message.u16(), y = message.u16(), w = message.u16(), h = message.u16();
+      const encoding = message.u32();
+      if (x + w > this.width || y + h > this.height) throw new Error('an area lies outside the screen');
+      this.note(x, y, w, h);
+      yield* this.rectangle(x, y, w, h, encoding, message);
+    }
+  }
+  note(x, y, w, h) {
+    const { left, top, right, bottom } = this.box;
+    this.box = {
+      left: Math.min(left, x), top: Math.min(top, y), right: Math.max(right, x + w), bottom: Math.max(bottom, y + h),
+    };
+    this.area += w * h;
+  }
+  *rectangle(x, y, w, h, encoding, message) {
+    if (encoding === 0) yield* this.raw(x, y, w, h, message);
+    else if (encoding === 1) yield* this.copy(x, y, w, h, message);
+    else if (encoding === 2) yield* this.rre(x, y, w, h, message);
+    else if (encoding === 5) yield* this.hextile(x, y, w, h, message);
+    else throw new Error('unknown encoding ' + encoding);
+  }
+  fill(x, y, w, h, pixel) {
+    for (let row = y; row < y + h; row++) {
+      const start = row * this.width + x;
+      this.pixels.fill(pixel, start, start + w);
+    }
+  }
+  *raw(x, y, w, h, message) {
+    for (let row = y; row < y + h; row++) {
+      while (message.left < 4 * w) yield;
+      const start = row * this.width + x;
+      this.bytes.set(message.take(4 * w), 4 * start);
+      for (let to = start; to < start + w; to++) this.pixels[to] = color(this.pixels[to]);
+    }
+  }
+  *copy(x, y, w, h, message) {
+    while (message.left < 4) yield;
+    const fromX = message.u16(), fromY = message.u16();
+    const step = fromY < y ? -1 : 1;
+    for (let left = h, row = step < 0 ? h - 1 : 0; left > 0; left--, row += step) {
+      const from = (fromY + row) * this.width + fromX;
+      this.pixels.copyWithin((y + row) * this.width + x, from, from + w);
+    }
+  }
+  *rre(x, y, w, h, message) {
+    while (message.left < 8) yield;
+    const count = message.u32();
+    this.fill(x, y, w, h, message.pixel());
+    for (let left = count; left > 0; left--) {
+      while (message.left < 12) yield;
+      const pixel = message.pixel();
+      this.fill(x + message.u16(), y + message.u16(), message.u16(), message.u16(), pixel);
+    }
+  }
+  *hextile(x, y, w, h, message) {
+    const colors = { background: OPAQUE, foreground: OPAQUE };
+    for (let top = y; top < y + h; top += 16) {
+      for (let left = x; left < x + w; left += 16) {
+        yield* this.tile(left, top, Math.min(16, x + w - left), Math.min(16, y + h - top), colors, message);
+      }
+    }
+  }
+  *tile(x, y, w, h, colors, message) {
+    while (message.left < 1) yield;
+    const mask = message.u8();
+    if (mask & 1) return yield* this.raw(x, y, w, h, message);
+    while (message.left < (mask & 2 ? 4 : 0) + (mask & 4 ? 4 : 0) + (mask & 8 ? 1 : 0)) yield;
+    if (mask & 2) colors.background = message.pixel();
+    if (mask & 4) colors.foreground = message.pixel();
+    this.fill(x, y, w, h, colors.background);
+    const count = mask & 8 ? message.u8() : 0;
+    while (message.left < count * (mask & 16 ? 6 : 2)) yield;
+    for (let left = count; left > 0; left--) {
+      const pixel = mask & 16 ? message.pixel() : colors.foreground;
+      const corner = message.u8(), size = message.u8();
+      this.fill(x + (corner >> 4), y + (corner & 15), (size >> 4) + 1, (size & 15) + 1, pixel);
+    }
+  }
+}
+
+const at = id => document.getElementById(id);
+
+// A time in seconds, as 3:12 or 1:03:12, and in milliseconds.
+function secondsOf(ms) {
+  const seconds = Math.floor(ms / 1000), minutes = Math.floor(seconds / 60);
+  const two = n => String(n).padStart(2, '0');
+  return minutes < 60 ? minutes + ':' + two(seconds % 60)
+    : Math.floor(minutes / 60) + ':' + two(minutes % 60) + ':' + two(seconds % 60);
+}
+const clockOf = ms => secondsOf(ms) + '.' + String(Math.floor(ms) % 1000).padStart(3, '0');
+
+// ---- .. to here. ----
+
+// 32 bits, the lowest byte first, red in the lowest one.
+const FORMAT = [32, 24, 0, 1, 0, 255, 0, 255, 0, 255, 0, 8, 16, 0, 0, 0];
+// CopyRect, Hextile, RRE, Raw.
+const ENCODINGS = [1, 5, 2, 0];
+
+// A session of RFB 3.8 (RFC 6143) over a WebSocket. Its owner is told what comes: `opened`, `heard`,
+// `glimpsed`, `painted`; and how it ends: `closed` or `failed`.
+class Session {
+  // The recorder shows what is `live`, what is `played` from a moment on, or what is `stepped` through.
+  constructor(query, mode, owner) {
+    this.mode = mode;
+    this.owner = owner;
+    this.input = new Reader(new Uint8Array(0));
+    this.painter = null;
+    this.status = null;
+    this.hasPainted = false;
+    this.isAsked = false;
+    this.unsent = [];
+    this.heardAt = performance.now();
+    this.steps = this.run();
+    const address = new URL('watch' + query, location.href);
+    address.protocol = address.protocol.replace('http', 'ws');
+    this.socket = new WebSocket(address);
+    this.socket.binaryType = 'arraybuffer';
+    this.socket.onmessage = ({ data }) => this.receive(data);
+    this.socket.onclose = ({ code, reason }) => owner.closed(code, reason);
+  }
+  end() {
+    this.socket.onmessage = this.socket.onclose = null;
+    this.socket.close();
+  }
+  send(...bytes) { this.socket.send(new Uint8Array(bytes)); }
+  // Commands wait until the handshake is over.
+  tell(command) {
+    if (this.painter) this.socket.send(JSON.stringify(command));
+    else this.unsent.push(command);
+  }
+  // Asks for the next update, unless that was done, or nobody looks.
+  ask() {
+    if (!this.painter || this.isAsked || document.hidden) return;
+    const { width, height } = this.painter;
+    this.send(3, this.hasPainted ? 1 : 0, 0, 0, 0, 0, width >> 8, width & 255, height >> 8, height & 255);
+    this.isAsked = true;
+  }
+  receive(data) {
+    this.heardAt = performance.now();
+    try {
+      if (typeof data === 'string') {
+        this.status = JSON.parse(data);
+        this.owner.heard(this.status);
+      } else {
+        this.input.push(new Uint8Array(data));
+        this.steps.next();
+      }
+    } catch (error) {
+      this.end();
+      this.owner.failed(error.message);
+    }
+  }
+  *run() {
+    yield* this.greet();
+    for (;;) {
+      while (this.input.left < 1) yield;
+      const type = this.input.u8();
+      if (type !== 0) throw new Error('unknown message ' + type);
+      const { status } = this, update = this.painter.update(this.input);
+      while (!update.next().done) {
+        this.owner.glimpsed(this.painter);
+        yield;
+      }
+      this.isAsked = false;
+      this.hasPainted = true;
+      this.owner.painted(this.painter, status);
+    }
+  }
+  *greet() {
+    const { input } = this;
+    while (input.left < 12) yield;
+    input.take(12);
+    this.send(...new TextEncoder().encode('RFB 003.008\n'));
+    while (input.left < 1) yield;
+    const types = input.u8();
+    if (types === 0) throw new Error(yield* this.text());
+    while (input.left < types) yield;
+    input.take(types);
+    this.send(1);
+    while (input.left < 4) yield;
+    if (input.u32() !== 0) throw new Error(yield* this.text());
+    this.send(1);
+    while (input.left < 20) yield;
+    const width = input.u16(), height = input.u16();
+    input.take(16);
+    const name = yield* this.text();
+    this.send(0, 0, 0, 0, ...FORMAT);
+    this.send(2, 0, 0, ENCODINGS.length, ...ENCODINGS.flatMap(encoding => [0, 0, 0, encoding]));
+    this.painter = new Painter(width, height);
+    this.owner.opened(this.painter, name);
+    this.unsent.forEach(command => this.tell(command));
+    this.ask();
+  }
+  *text() {
+    while (this.input.left < 4) yield;
+    const length = this.input.u32();
+    while (this.input.left < length) yield;
+    return new TextDecoder().decode(this.input.take(length));
+  }
+}
+
+// Text that is the same isn't written again: a reader of screens would say it again.
+function say(id, text) {
+  if (at(id).textContent !== text) at(id).textContent = text;
+}
+
+// What is wrong, of each kind the last; whether only a person can tell when to try again.
+const faults = new Map();
+
+function complain(kind, text, isOver = false) {
+  faults.set(kind, { text, isOver });
+  tellFaults();
+}
+
+function forgive(kind) {
+  faults.delete(kind);
+  tellFaults();
+}
+
+function tellFaults() {
+  const all = [...faults.values()];
+  at('fault').hidden = all.length === 0;
+  at('again').hidden = !all.some(({ isOver }) => isOver);
+  say('reason', all.map(({ text }) => text).join(' '));
+}
+
+const sentence = text => text.slice(0, 1).toUpperCase() + text.slice(1) + '.';
+
+// How long a pause is shown if pauses are skipped, in milliseconds of the clock on the wall.
+const LONGEST_PAUSE = 1000;
+// How long the first attempt to connect again waits, and how long any does at most, in milliseconds.
+const FIRST_DELAY = 1000, LONGEST_DELAY = 8000;
+// How often a long update is shown before it is whole, in milliseconds.
+const GLIMPSE = 100;
+// How long the address waits for further steps, in milliseconds: browsers bound how often it is changed.
+const ADDRESS_DELAY = 400;
+
+const speed = () => Number(at('speed').value);
+// In thousandths of the original.
+const pace = () => Math.round(1000 * speed());
+// In milliseconds of the recording; null if no pause is skipped.
+const longestPause = () => at('skip').checked ? Math.round(LONGEST_PAUSE * speed()) : null;
+
+// The canvas, on which a painter's screen is put.
+class Picture {
+  constructor(canvas) {
+    this.canvas = canvas;
+    this.pen = canvas.getContext('2d', { alpha: false });
+    this.putAt = 0;
+  }
+  open({ width, height, pixels }) {
+    if (this.canvas.width !== width) this.canvas.width = width;
+    if (this.canvas.height !== height) this.canvas.height = height;
+    this.image = new ImageData(new Uint8ClampedArray(pixels.buffer), width, height);
+  }
+  put({ box: { left, top, right, bottom } }) {
+    this.pen.putImageData(this.image, 0, 0, left, top, right - left, bottom - top);
+    this.putAt = performance.now();
+  }
+  glimpse(painter) {
+    if (performance.now() > this.putAt + GLIMPSE) this.put(painter);
+  }
+  save(name) {
+    this.canvas.toBlob(picture => {
+      const link = document.createElement('a');
+      link.href = URL.createObjectURL(picture);
+      link.download = name;
+      link.click();
+      setTimeout(() => URL.revokeObjectURL(link.href), 10000);
+    });
+  }
+}
+
+// What is watched: live, or from a moment on. It keeps that over connections that come and go.
+class Player {
+  constructor() {
+    this.picture = new Picture(at('screen'));
+    this.isLive = true;
+    this.isPaused = false;
+    this.isConnected = false;
+    this.isLost = false;
+    this.isDragged = false;
+    this.attempts = 0;
+    // Of the recording: how long it is, in milliseconds, and if its host has ended, once that is known.
+    this.length = 0;
+    this.hasEnded = null;
+    // What the clock shows, in milliseconds of the recording, and when it was right.
+    this.moment = 0;
+    this.rightAt = { wall: 0, moment: 0 };
+    // What the recorder said of the screen that is shown.
+    this.shown = null;
+    // The moment that the recorder was asked for, and the one to ask for after it.
+    this.sought = null;
+    this.wanted = null;
+  }
+
+  // -- Connections.
+
+  // Connects to what is to be shown.
+  watch() {
+    this.wanted = null;
+    this.sought = this.isLive ? null : this.moment;
+    if (this.isLive) return this.connect('', 'live');
+    const pause = longestPause();
+    this.connect(`?at=${this.moment}&pace=${pace()}` + (pause === null ? '' : '&longest-pause=' + pause), 'played');
+  }
+  connect(query, mode) {
+    this.isLost = false;
+    clearTimeout(this.retry);
+    this.session?.end();
+    this.session = new Session(query, mode, this);
+  }
+  closed(code, reason) {
+    this.isConnected = false;
+    const isLost = code === 1001 || code === 1006;
+    const isSaid = reason && (code === 1000 || code >= 4000);
+    const text = isLost ? 'The connection is lost.' : isSaid ? sentence(reason)
+      : `The recorder closed the connection: ${reason || 'code ' + code}.`;
+    // Whoever was shown something may be turned away until the recorder misses the connection before.
+    if (isLost || code >= 4000 && this.shown) this.lose(text);
+    else complain('connection', text, true);
+    showState(this);
+  }
+  failed(message) {
+    this.isConnected = false;
+    complain('connection', `What came can't be shown: ${message}.`, true);
+    showState(this);
+  }
+  lose(text) {
+    complain('connection', text + ' This page goes on by itself as soon as it can.');
+    this.isLost = true;
+    this.retry = setTimeout(() => this.goOn(), Math.min(FIRST_DELAY * 2 ** this.attempts++, LONGEST_DELAY));
+  }
+  // Goes on after a loss, or after the page was hidden.
+  goOn() {
+    if (document.hidden) return;
+    if (this.isLost) this.watch();
+    else if (this.session.mode !== 'stepped' || !this.session.hasPainted) this.session.ask();
+  }
+  // Nothing else is answered either: if nothing came since, the connection is lost, whatever the browser says.
+  missed(since) {
+    if (!this.isConnected || this.session.heardAt > since) return;
+    this.session.end();
+    this.closed(1006);
+  }
+
+  // -- What comes.
+
+  opened(painter, name) {
+    this.picture.open(painter);
+    document.title = name || 'Recording';
+    say('name', document.title);
+    say('facts', `${painter.width} by ${painter.height} pixels`);
+  }
+  heard({ length, watching, ended }) {
+    this.length = length;
+    say('watching', watching === 1 ? '1 viewer' : watching + ' viewers');
+    const wasEnded = this.hasEnded;
+    this.hasEnded = ended;
+    if (ended && this.isLive) this.stopLive(wasEnded === null);
+    if (ended !== wasEnded) showState(this); else showClock(this);
+  }
+  // Nothing is live any more: the last screen stays. A recording that had ended before the page was
+  // opened begins at its first one.
+  stopLive(isAtFirst) {
+    this.isLive = false;
+    this.isPaused = true;
+    this.moment = isAtFirst ? 0 : this.length;
+    if (isAtFirst) this.watch();
+  }
+  // Shows a long update as it comes, but no half of a screen over another that is whole.
+  glimpsed(painter) {
+    const isNext = this.session.hasPainted && this.sought === null;
+    if (isNext || !this.shown) this.picture.glimpse(painter);
+  }
+  painted(painter, status) {
+    // What isn't a whole screen was sent before the recorder knew of the moment that is sought.
+    if (this.sought === null || painter.area >= painter.width * painter.height) this.show(painter, status);
+    if (this.session.mode !== 'stepped') this.session.ask();
+  }
+  show(painter, status) {
+    const isNew = !this.isConnected, isSought = this.sought !== null;
+    this.picture.put(painter);
+    at('screen').dataset.message = status.message;
+    this.isConnected = true;
+    this.attempts = 0;
+    this.shown = status;
+    if (isNew) forgive('connection');
+    if (isSought) this.arrive(status, isNew); else this.stand(status.time);
+    if (this.isPaused) this.acted();
+    else if (isNew || isSought) showState(this);
+    else showClock(this);
+    this.catchUp(status);
+  }
+  arrive({ time }, isNew) {
+    // While the connection was made, the recorder has played on.
+    if (isNew && this.isPaused && time > this.sought) this.wanted ??= this.sought;
+    const to = Math.max(time, Math.min(this.sought, this.length));
+    this.sought = null;
+    if (this.wanted !== null) return this.send(this.wanted);
+    this.stand(to);
+    if (this.isPaused) this.session.tell({ pause: true });
+  }
+  // The clock is right.
+  stand(moment) {
+    this.moment = moment;
+    this.rightAt = { wall: performance.now(), moment };
+  }
+  // Whoever has seen all is live, or at the end.
+  catchUp({ time }) {
+    if (this.isLive || this.isPaused || this.sought !== null || time < this.length) return;
+    if (this.hasEnded) this.stop(); else this.goLive();
+  }
+  // Until something comes, the clock goes on by itself.
+  tick() {
+    if (this.isLive || this.isPaused || this.sought !== null || !this.isConnected) return;
+    const { wall, moment } = this.rightAt, passed = performance.now() - wall;
+    const to = moment + (longestPause() === null ? passed : Math.min(passed, LONGEST_PAUSE)) * speed();
+    this.moment = Math.min(Math.round(to), this.length);
+    if (this.hasEnded && this.moment === this.length) this.stop(); else showClock(this);
+  }
+
+  // -- What is wanted.
+
+  tellPace() {
+    this.session.tell({ pace: pace() });
+    this.session.tell({ 'longest-pause': longestPause() });
+    this.stand(this.moment);
+  }
+  send(to) {
+    this.sought = to;
+    this.wanted = null;
+    if (this.session.mode !== 'played') this.tellPace();
+    this.session.mode = 'played';
+    this.session.tell({ at: to });
+    this.session.ask();
+  }
+  // One moment is asked for at a time; after it the one that was wanted last.
+  seek(to) {
+    if (to >= this.length && !this.hasEnded) return this.goLive();
+    this.isLive = false;
+    this.moment = Math.round(Math.min(Math.max(to, 0), this.length));
+    if (this.sought === null) this.send(this.moment); else this.wanted = this.moment;
+    this.acted();
+  }
+  goLive() {
+    if (this.hasEnded) return this.seek(this.length);
+    this.isLive = true;
+    this.isPaused = false;
+    this.sought = this.wanted = null;
+    this.moment = this.length;
+    this.session.mode = 'live';
+    this.session.tell({ live: true });
+    this.session.ask();
+    this.acted();
+  }
+  turn() {
+    if (this.isPaused) this.play(); else this.stop();
+  }
+  stop() {
+    this.isLive = false;
+    this.isPaused = true;
+    if (this.sought === null) this.session.tell({ pause: true });
+    this.acted();
+  }
+  play() {
+    this.isPaused = false;
+    if (this.hasEnded && this.moment >= this.length) return this.seek(0);
+    if (this.sought === null) this.playOn();
+    this.acted();
+  }
+  playOn() {
+    if (this.session.mode !== 'played') return this.send(this.moment);
+    this.session.tell({ pause: false });
+    this.stand(this.moment);
+  }
+  // Changes are looked at one by one, so it stops.
+  change(isNext) {
+    if (!this.session.hasPainted || this.sought !== null) return;
+    const { message, time } = this.shown;
+    if (isNext ? time >= this.length : message <= 1 && this.moment <= time) return;
+    this.isLive = false;
+    this.isPaused = true;
+    if (!isNext && this.moment > time) return this.seek(time);
+    if (isNext && this.session.mode === 'stepped') this.session.ask();
+    else this.connect('?message=' + (message + (isNext ? 1 : -1)), 'stepped');
+    showState(this);
+  }
+  acted() {
+    showState(this);
+    const address = this.isLive ? '#live' : this.address;
+    clearTimeout(this.marking);
+    this.marking = setTimeout(() => this.mark(address), ADDRESS_DELAY);
+  }
+  get address() { return '#at=' + this.moment; }
+  mark(address) {
+    clearTimeout(this.marking);
+    history.replaceState(null, '', address);
+  }
+  save() {
+    if (this.shown) this.picture.save(`${document.title} ${clockOf(this.shown.time).replaceAll(':', '-')}.png`);
+  }
+}
+
+// What changes all the time, and isn't told to a reader of screens by itself.
+function showClock({ moment, length, isLive, hasEnded, isDragged }) {
+  const slider = at('moment'), late = isLive || hasEnded ? 0 : length - moment;
+  if (!isDragged) {
+    slider.max = length;
+    slider.value = moment;
+  }
+  say('clock', clockOf(moment) + ' of ' + clockOf(length));
+  say('behind', late < 1000 ? '' : secondsOf(late) + ' behind live');
+}
+
+function showState(player) {
+  const { moment, isLive, isPaused, hasEnded } = player;
+  showClock(player);
+  at('moment').setAttribute('aria-valuetext', isLive ? 'live' : secondsOf(moment));
+  at('live').setAttribute('aria-pressed', isLive);
+  at('live').disabled = hasEnded === true;
+  say('play', isPaused ? 'Play' : 'Pause');
+  say('state', stateOf(player) + (hasEnded ? '. The host has ended.' : ''));
+}
+
+function stateOf({ shown, isLive, isPaused }) {
+  if (faults.has('connection')) return 'Not connected';
+  if (!shown) return 'Connecting';
+  return isLive ? 'Live' : isPaused ? 'Paused' : 'Playing';
+}
+
+// How often is looked for what came since, and how long an answer may take, in milliseconds.
+const LOOK = 5000, LONGEST_ANSWER = 10000;
+
+// What came when, over the whole recording.
+class Overview {
+  constructor() {
+    this.stretches = [];
+    this.from = 0;
+    this.every = 1;
+    this.length = 0;
+  }
+  // Takes all that came, in as many answers as that needs.
+  async load() {
+    for (let from = this.from; from !== null;) {
+      const answer = await fetch('times?from=' + from, { signal: AbortSignal.timeout(LONGEST_ANSWER) });
+      if (!answer.ok) return complain('times', `What came when isn't known: ${(await answer.text()).trim()}.`);
+      const told = await answer.json();
+      this.add(from, told);
+      from = told.next;
+    }
+    forgive('times');
+  }
+  // What is told of a block again, and of those after it, is told anew.
+  add(from, { length, every, next, stretches }) {
+    this.stretches = this.stretches.filter(({ block }) => block < from).concat(stretches);
+    this.from = next ?? this.stretches.at(-1)?.block ?? 0;
+    this.every = every;
+    this.length = length;
+    this.draw();
+  }
+  draw() {
+    const canvas = at('overview'), pen = canvas.getContext('2d'), wide = canvas.width / Math.max(1, this.length);
+    const most = this.stretches.reduce((most, { bytes }) => Math.max(most, bytes), 1);
+    pen.clearRect(0, 0, canvas.width, canvas.height);
+    pen.fillStyle = getComputedStyle(document.documentElement).getPropertyValue('--mark');
+    for (const { time, bytes } of this.stretches) {
+      const high = Math.max(3, canvas.height * Math.log1p(bytes) / Math.log1p(most));
+      pen.fillRect(time * wide, canvas.height - high, Math.max(1, this.every * wide), high);
+    }
+  }
+}
+
+// Looks at what came, and by that if the recorder can be reached.
+async function look(overview, player) {
+  if (document.hidden) return;
+  const began = performance.now();
+  try {
+    await overview.load();
+    player.length = Math.max(player.length, overview.length);
+    showClock(player);
+  } catch {
+    player.missed(began);
+  }
+}
+
+async function lookOn(overview, player) {
+  for (;;) {
+    await look(overview, player);
+    await new Promise(done => setTimeout(done, LOOK));
+  }
+}
+
+// The moment that the address names, or null.
+function linked() {
+  const found = /^#at=(\d{1,15})$/.exec(location.hash);
+  return found && Number(found[1]);
+}
+
+function follow(player) {
+  const moment = linked();
+  if (moment === null) return player.goLive();
+  player.isPaused = true;
+  player.seek(moment);
+}
+
+function faster(player, step) {
+  const speed = at('speed'), index = speed.selectedIndex + step;
+  if (index >= 0 && index < speed.options.length) speed.selectedIndex = index;
+  player.tellPace();
+}
+
+function fill() {
+  forgive('full');
+  if (document.fullscreenElement) document.exitFullscreen();
+  else if (document.fullscreenEnabled) {
+    at('stage').requestFullscreen().catch(() => complain('full', 'The browser refuses to fill the screen.'));
+  }
+}
+
+function listenToKeys(player) {
+  const keys = {
+    ' ': () => player.turn(), k: () => player.turn(), l: () => player.goLive(),
+    p: () => player.change(false), n: () => player.change(true),
+    Home: () => player.seek(0), End: () => player.goLive(),
+    '+': () => faster(player, 1), '-': () => faster(player, -1),
+    ArrowLeft: shift => player.seek(player.moment - (shift ? 10000 : 1000)),
+    ArrowRight: shift => player.seek(player.moment + (shift ? 10000 : 1000)),
+    s: () => player.save(), f: fill,
+  };
+  document.addEventListener('keydown', event => {
+    const act = keys[event.key.length === 1 ? event.key.toLowerCase() : event.key];
+    const isControl = event.target.matches('select, button, [type=checkbox]') && [' ', 'Home', 'End'].includes(event.key);
+    if (!act || isControl || event.target === at('speed') || event.ctrlKey || event.altKey || event.metaKey) return;
+    event.preventDefault();
+    act(event.shiftKey);
+  });
+}
+
+function listen(player) {
+  const on = (id, name, act) => at(id).addEventListener(name, act);
+  on('moment', 'input', () => player.seek(Number(at('moment').value)));
+  on('moment', 'pointerdown', () => { player.isDragged = true; });
+  const letGo = () => { player.isDragged = false; };
+  addEventListener('pointerup', letGo);
+  addEventListener('pointercancel', letGo);
+  on('overview', 'click', ({ offsetX }) => player.seek(offsetX / at('overview').clientWidth * player.length));
+  on('play', 'click', () => player.turn());
+  on('live', 'click', () => player.goLive());
+  on('before', 'click', () => player.change(false));
+  on('next', 'click', () => player.change(true));
+  on('speed', 'change', () => player.tellPace());
+  on('skip', 'change', () => player.tellPace());
+  on('link', 'click', () => player.mark(player.address));
+  on('save', 'click', () => player.save());
+  on('full', 'click', fill);
+  on('again', 'click', () => player.watch());
+  at('full').hidden = !document.fullscreenEnabled;
+}
+
+function start() {
+  const player = new Player(), overview = new Overview(), moment = linked();
+  if (moment !== null) Object.assign(player, { isLive: false, isPaused: true, moment });
+  player.watch();
+  listen(player);
+  listenToKeys(player);
+  addEventListener('hashchange', () => follow(player));
+  addEventListener('online', () => player.goOn());
+  addEventListener('offline', () => look(overview, player));
+  document.addEventListener('visibilitychange', () => player.goOn());
+  matchMedia('(prefers-color-scheme: dark)').addEventListener('change', () => overview.draw());
+  const isCalm = matchMedia('(prefers-reduced-motion: reduce)').matches;
+  setInterval(() => player.tick(), isCalm ? 1000 : 100);
+  lookOn(overview, player);
+}
+
+start();
+"##;

@@ -1,0 +1,12 @@
+//! Browsers that ask over HTTP: who is served, how a request is heard, and how it is answered.
+#![tactic(auto)]
+
+mod answer;
+mod guests;
+mod hearing;
+mod lobby;
+
+pub use answer::{Head, status_of, write_failure, write_head, write_refusal, write_text};
+pub use guests::{Entrance, Guest, Guests};
+pub use hearing::{Outlet, hear, wait_for_end};
+pub use lobby::Lobby;

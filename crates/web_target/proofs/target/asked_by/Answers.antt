@@ -1,0 +1,5 @@
+use Rattle.web_target.proofs.Splits.{no_beginning}
+use Rattle.web_target.proofs.target.asked_by.Goals as goal
+
+pub returns-in_err-beginning : goal.returns-in_err-beginning
+returns-in_err-beginning c = rw c.from_residual-in_err-beginning.ensures (no_beginning c.args.target.now c.in_ok-query.query.now c.in_ok-query.ensures c.in_err-beginning.ensures)

@@ -1,0 +1,59 @@
+//! What may be asked for.
+
+use playing::Pace;
+
+/// A recording in its own time.
+#[derive(Clone, Copy, Debug, PartialEq, Eq)]
+pub struct Playback {
+    /// From which time of the recording on, in milliseconds.
+    pub time: u32,
+    pub pace: Pace,
+    /// The longest pause between two messages, in milliseconds of the recording; longer ones are
+    /// shortened to it.
+    pub longest_pause: Option<u32>,
+}
+
+/// At which position a viewer begins, and how it goes on.
+#[derive(Clone, Copy, Debug, PartialEq, Eq)]
+pub enum Beginning {
+    /// At the newest screen, and live.
+    Live,
+    /// After so many messages, and message by message.
+    After(u64),
+    /// At a moment, and in the recording's own time.
+    Played(Playback),
+}
+
+/// What is asked for by a request's target.
+#[derive(Clone, Copy, Debug, PartialEq, Eq)]
+pub enum Asked {
+    /// `/`, the page.
+    Page,
+    /// `/live.js`, its script.
+    Script,
+    /// `/live.css`, its style.
+    Style,
+    /// `/times?from=BLOCK`: what came when, from a block on.
+    Times(u64),
+    /// `/watch`, `/watch?message=COUNT`, or `/watch?at=TIME&pace=PACE`, which may end in
+    /// `&longest-pause=TIME`: a viewer's connection, over a WebSocket. Times are in milliseconds, a
+    /// pace is in thousandths.
+    Watch(Beginning),
+}
+
+/// What a viewer asks for by a text on its connection.
+#[derive(Clone, Copy, Debug, PartialEq, Eq)]
+pub enum Order {
+    /// `{"at":TIME}`: to go on at this time, in milliseconds.
+    At(u32),
+    /// `{"message":COUNT}`: to go on after so many messages.
+    After(u64),
+    /// `{"pace":PACE}`: to be played at this pace, in thousandths.
+    Pace(Pace),
+    /// `{"longest-pause":TIME}`, or `null` for none.
+    LongestPause(Option<u32>),
+    /// `{"pause":true}`, or `false`: to stand still, or to go on.
+    Pause(bool),
+    /// `{"live":true}`: to go on at the newest screen, live.
+    Live,
+}

@@ -1,0 +1,70 @@
+//! The targets that there are.
+
+ghost use Rattle.std.specs.Prelude.{◌≡◌, MatchOption, Some};
+ghost use Rattle.web_target.specs.declared.asked.Asked.{Asked as AskedValue};
+ghost use Rattle.web_target.specs.declared.asked.Beginning.{Beginning as BeginningValue};
+ghost use Rattle.web_target.specs.declared.asked.Playback.{Playback as PlaybackValue};
+ghost use Rattle.web_target.specs.Targets.{IsPauseOf, IsPlayedBy, IsQueryOf, IsTargetOf};
+
+use crate::asked::{Asked, Beginning, Playback};
+use crate::words::{digits_first, following, small_number};
+use playing::Pace;
+use terms::decimal_number;
+
+// The longest pause that the end of a query has.
+fn pause(text: &[u8]) -> Option<Option<u32>>
+    ensures { MatchOption result ((longest : _) → IsPauseOf longest text.now → ⊥) (λ longest. IsPauseOf longest text.now) }
+{
+    if text.is_empty() {
+        return Some(None);
+    }
+    let digits = following(text, b"&longest-pause=")?;
+    Some(Some(small_number(digits)?))
+}
+
+// The playback that a query asks for.
+fn playback(query: &[u8]) -> Option<Playback>
+    ensures { MatchOption result ((playback : PlaybackValue) → IsPlayedBy playback query.now → ⊥) (λ playback. IsPlayedBy playback query.now) }
+{
+    let (time, rest) = digits_first(following(query, b"at=")?);
+    let (pace, rest) = digits_first(following(rest, b"&pace=")?);
+    Some(Playback {
+        time: small_number(time)?,
+        pace: Pace::from_thousandths(small_number(pace)?)?,
+        longest_pause: pause(rest)?,
+    })
+}
+
+// What the query of a `/watch` asks for.
+fn beginning(query: &[u8]) -> Option<Beginning>
+    ensures { MatchOption result ((beginning : BeginningValue) → IsQueryOf beginning query.now → ⊥) (λ beginning. IsQueryOf beginning query.now) }
+{
+    if let Some(digits) = following(query, b"message=") {
+        return Some(Beginning::After(decimal_number(digits)?));
+    }
+    Some(Beginning::Played(playback(query)?))
+}
+
+/// What a request's target asks for (RFC 9112, section 3.2.1); `None` if there is no such thing.
+#[tactic(auto, using(crate::proofs::Splits::no_target))]
+pub fn asked_by(target: &[u8]) -> Option<Asked>
+    ensures { MatchOption result ((asked : AskedValue) → IsTargetOf asked target.now → ⊥) (λ asked. IsTargetOf asked target.now) }
+{
+    if target == b"/".as_slice() {
+        return Some(Asked::Page);
+    }
+    if target == b"/live.js".as_slice() {
+        return Some(Asked::Script);
+    }
+    if target == b"/live.css".as_slice() {
+        return Some(Asked::Style);
+    }
+    if target == b"/watch".as_slice() {
+        return Some(Asked::Watch(Beginning::Live));
+    }
+    if let Some(block) = following(target, b"/times?from=") {
+        return Some(Asked::Times(decimal_number(block)?));
+    }
+    let query = following(target, b"/watch?")?;
+    Some(Asked::Watch(beginning(query)?))
+}
