@@ -16,7 +16,7 @@ use std::sync::{Arc, Wait};
 use std::thread::{Scope, Threads};
 use std::time::Clock;
 use std::{io, thread};
-use steering::Steering;
+use steering::{Course, Steering};
 use telling::Event;
 use terms::ScreenSize;
 use web_door::{Judged, Refusal, judge, write_answer};
@@ -167,8 +167,8 @@ impl<'a, D: Disk + Send, M: Mark + Send + Sync, R: Threads + Clock + Wait + Sync
         let Some(pace) = Pace::from_thousandths(AS_IT_HAPPENED) else {
             return;
         };
-        let steering = Steering::of(beginning, pace);
-        self.attend(WebStream(stream), from, arrival, Some(steering));
+        let course = Course::of(Steering::of(beginning, pace), room.facts.length());
+        self.attend(WebStream(stream), from, arrival, Some(course));
     }
 
     // Hears and answers a connection. What goes wrong ends it alone.
