@@ -78,11 +78,7 @@ impl<'a, D: Disk, M: Mark, R: Clock + Wait> Service<'a, D, M, R> {
             )?;
             block = block.saturating_add(1);
         }
-        if starts.len() as u64 == MOST_BLOCKS {
-            write!(&mut text, "],\"next\":{block}}}\n")?;
-        } else {
-            write!(&mut text, "],\"next\":null}}\n")?;
-        }
+        write!(&mut text, "],\"next\":{block}}}\n")?;
         write_head(
             out,
             Head {

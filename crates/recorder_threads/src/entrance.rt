@@ -266,11 +266,16 @@ impl<'a, D: Disk + Send, M: Mark + Send + Sync, R: Threads + Clock + Wait + Sync
         for comer in comers {
             self.go_on(scope, comer);
         }
+        let room = self.room;
+        let Some(listener) = &self.listeners.viewers else {
+            room.bell.wait(None, None);
+            return true;
+        };
         accept_until_rung(
             self.rt,
-            self.listener,
-            &self.room.bell,
-            &self.room.telling,
+            listener,
+            &room.bell,
+            &room.telling,
             |stream, from| self.take(scope, stream, from),
         )
     }

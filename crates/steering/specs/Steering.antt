@@ -1,10 +1,9 @@
 -- What a viewer is shown once it has given an order.
-use Rattle.std.specs.Prelude.{ℕ, true, false, Option, None, Some}
+use Rattle.std.specs.Prelude.{ℕ, true, false, Option, None}
 use Rattle.web_target.specs.declared.asked.Beginning.{Beginning}
 use Rattle.web_target.specs.declared.asked.Beginning.TheVariants as begins
 use Rattle.web_target.specs.declared.asked.Order.{Order}
 use Rattle.web_target.specs.declared.asked.Order.TheVariants as order
-use Rattle.web_target.specs.declared.asked.Playback.{Playback}
 use Rattle.steering.specs.declared.steering.Showing.{Showing}
 use Rattle.steering.specs.declared.steering.Showing.TheVariants as shows
 use Rattle.steering.specs.declared.steering.Steering.{Steering}
