@@ -112,9 +112,7 @@ fn told(matches: &ArgMatches<'_>, is_verbose: bool) -> Told {
 }
 
 // Where viewers and browsers connect to, of which one has to be given.
-fn addresses<'a>(
-    matches: &ArgMatches<'a>,
-) -> Result<(Option<&'a str>, Option<&'a str>), Wrong> {
+fn addresses<'a>(matches: &ArgMatches<'a>) -> Result<(Option<&'a str>, Option<&'a str>), Wrong> {
     match (matches.get_str("ADDR"), matches.get_str("WEB")) {
         (None, None) => Err(Wrong::Words("one of --listen and --web is needed")),
         addresses => Ok(addresses),

@@ -8,6 +8,7 @@ use flusher_core::BlockStart;
 use live_page::{PAGE, SCRIPT, STYLE};
 use playing::Pace;
 use reception::Arrival;
+use screen_script::PAINTER;
 use shared_book::Mark;
 use sockets::{WebStream, watch_over};
 use std::io::{BufWriter, Write};
@@ -66,15 +67,12 @@ impl<'a, D: Disk, M: Mark, R: Clock + Wait> Service<'a, D, M, R> {
         )?;
         let mut block = from;
         for start in &starts {
-            let BlockStart {
-                message,
-                time,
-                count,
-            } = *start;
+            let BlockStart { start, end, time } = *start;
+            let updates = end.saturating_sub(start);
             let comma = if block == from { "" } else { "," };
             write!(
                 &mut text,
-                "{comma}{{\"time\":{time},\"message\":{message},\"block\":{block},\"updates\":{count}}}"
+                "{comma}{{\"time\":{time},\"message\":{start},\"block\":{block},\"updates\":{updates}}}"
             )?;
             block = block.saturating_add(1);
         }
@@ -99,6 +97,9 @@ impl<'a, D: Disk, M: Mark, R: Clock + Wait> Service<'a, D, M, R> {
                 "text/html; charset=utf-8",
                 PAGE,
             ),
+            Judged::Asked(Asked::Painter) => {
+                write_text(out, "200 OK", "text/javascript; charset=utf-8", PAINTER)
+            }
             Judged::Asked(Asked::Script) => {
                 write_text(out, "200 OK", "text/javascript; charset=utf-8", SCRIPT)
             }
