@@ -5,7 +5,7 @@ ghost use Rattle.shared_book.specs.Receipts.{IsOfSize, size_of};
 
 use crate::facts::Facts;
 use crate::guest::{Guest, VERSION, hear_version, say};
-use crate::limits::{ANSWER, FAREWELL, HANDSHAKE, PARTING};
+use crate::limits::{ANSWER, FAREWELL, HANDSHAKE, PARTING, PULSE};
 use crate::room::Room;
 use carriage::{Carriage, Ending, Status};
 use disk::Disk;
@@ -193,18 +193,19 @@ impl<M: Mark, G: Carriage> Talk<M, G> {
         self.carriage.tell(status, out)
     }
 
-    // Tells how the session stands if that is news.
+    // Tells how the session stands if that is news, or a sign of life is due.
     fn tell_news<C: Connection, R: Clock>(
         &mut self,
         rt: &R,
         alloc: Global,
         connection: &C,
         facts: &Facts,
+        is_due: bool,
     ) -> io::Result<()> {
         let status = self.status(facts);
-        match self.told {
-            Some(told) if status.is_news_after(told) => {}
-            _ => return Ok(()),
+        let is_news = self.told.is_some_and(|told| status.is_news_after(told));
+        if !is_news && !is_due {
+            return Ok(());
         }
         let mut out = Vec::new(alloc);
         self.tell(facts, &mut out)?;
@@ -340,12 +341,12 @@ impl<M: Mark, C: Connection> Viewer<M, C> {
         }
     }
 
-    /// Tells how the session stands, if it has come further since the viewer was told.
-    pub fn tell_news<R: Clock + Wait>(&self, rt: &R, facts: &Facts) {
+    // Tells how the session stands, if it has come further since the viewer was told, or that is due.
+    fn tell_news<R: Clock + Wait>(&self, rt: &R, facts: &Facts, is_due: bool) {
         let is_told = self
             .talk
             .lock(rt)
-            .tell_news(rt, self.alloc, &self.connection, facts)
+            .tell_news(rt, self.alloc, &self.connection, facts, is_due)
             .is_ok();
         if !is_told {
             self.leave(rt);
@@ -428,11 +429,15 @@ impl<M: Mark, C: Connection> Viewer<M, C> {
     }
 
     // Waits until something comes from a viewer in a browser, who is told each second meanwhile what
-    // is new. Any other is waited for in the read.
+    // is new, and now and then that the connection is there. Any other is waited for in the read.
     fn wait_for_more<R: Clock + Wait>(&self, rt: &R, room: &Room<M>) {
+        let mut quiet = 0u64;
         for _ in rt.forever() {
             match self.connection.wait(&room.bell, Duration::from_secs(1)) {
-                Woken::TimedOut => self.tell_news(rt, &room.facts),
+                Woken::TimedOut => {
+                    quiet = (quiet + 1) % PULSE;
+                    self.tell_news(rt, &room.facts, quiet == 0);
+                }
                 Woken::Ready | Woken::Rung => return,
             }
         }
