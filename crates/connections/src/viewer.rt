@@ -435,7 +435,7 @@ impl<M: Mark, C: Connection> Viewer<M, C> {
         for _ in rt.forever() {
             match self.connection.wait(&room.bell, Duration::from_secs(1)) {
                 Woken::TimedOut => {
-                    quiet = (quiet + 1) % PULSE;
+                    quiet = quiet.saturating_add(1) % PULSE;
                     self.tell_news(rt, &room.facts, quiet == 0);
                 }
                 Woken::Ready | Woken::Rung => return,
