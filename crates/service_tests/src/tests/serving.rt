@@ -7,7 +7,7 @@ macro_rules! serve_while {
         let plan = $plan;
         super::told(std::thread::join(
             $rt,
-            move || super::print($rt, plan, $viewers),
+            move || super::print($rt, plan, super::viewers_alone($viewers)),
             $play,
         ))
     }};
@@ -36,6 +36,7 @@ mod viewers;
 
 use file_commands::{FileCommand, run};
 use file_disk::Progress;
+use recorder_opening::Listened;
 use serve::serve_on;
 use serve_plan::Plan;
 use std::fs::File;
@@ -47,8 +48,16 @@ use std::thread::Threads;
 use std::time::Clock;
 use std::{fs, io};
 
+// A listener for viewers, and none for browsers.
+fn viewers_alone(listener: TcpListener) -> Listened {
+    Listened {
+        viewers: Some(Ok(listener)),
+        web: None,
+    }
+}
+
 // Serves a recording: whether it is done, and what is printed.
-fn print<R>(rt: &R, plan: &Plan<'_>, listener: TcpListener) -> io::Result<String>
+fn print<R>(rt: &R, plan: &Plan<'_>, listened: Listened) -> io::Result<String>
 where
     R: AllocGlobal + Clock + Eprint + Files<File = File> + Sync + Threads + Wait,
     R: Net<Stream = TcpStream, Listener = TcpListener>,
@@ -56,7 +65,7 @@ where
     let alloc = rt.alloc();
     let mut out = Vec::new(alloc);
     let mut err = Vec::new(alloc);
-    let is_done = serve_on(rt, plan, || Ok(listener), &mut out, &mut err)?;
+    let is_done = serve_on(rt, plan, || listened, &mut out, &mut err)?;
     out.extend_from_slice(&err)?;
     let Ok(said) = String::from_utf8(out) else {
         return Err(io::ErrorKind::InvalidData.into());
