@@ -1,16 +1,25 @@
 //! The recorder over loopback, in one process with a host and viewers of the test. Each waits for
 //! what it is sent, and for at most twenty seconds.
 
-// Serves what a plan says while a test plays: what is printed, once both are done.
-macro_rules! serve_while {
-    ($rt:ident, $plan:expr, $viewers:ident, $play:expr) => {{
+// Serves what a plan says over these listeners while a test plays: what is printed, once both are
+// done.
+macro_rules! serve_over {
+    ($rt:ident, $plan:expr, $listened:expr, $play:expr) => {{
         let plan = $plan;
+        let listened = $listened;
         super::told(std::thread::join(
             $rt,
-            move || super::print($rt, plan, super::viewers_alone($viewers)),
+            move || super::print($rt, plan, listened),
             $play,
         ))
     }};
+}
+
+// The same for viewers alone.
+macro_rules! serve_while {
+    ($rt:ident, $plan:expr, $viewers:ident, $play:expr) => {
+        serve_over!($rt, $plan, super::viewers_alone($viewers), $play)
+    };
 }
 
 // Records a host of a test into a new file, and serves that: what is printed. The test is called
@@ -28,6 +37,7 @@ macro_rules! recorded {
     }};
 }
 
+mod browsers;
 mod ends;
 mod hosts;
 mod peers;
