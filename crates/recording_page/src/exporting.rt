@@ -9,12 +9,13 @@ ghost use Rattle.key_index.specs.Indexed.{OnlyReads, start_in};
 ghost use Rattle.keyed_entries.specs.Entry.{messages_in};
 ghost use Rattle.recording_page.specs.Text.{page_text};
 
-use crate::page::{END, FRONT};
+use crate::page::{END, FRONT, MIDDLE};
 use crate::writing::Page;
 use base64::engine::general_purpose::STANDARD;
 use disk::Disk;
 use fbs_export::{ExportFault, export, first_exported};
 use key_index::Indexed;
+use screen_script::PAINTER;
 use std::alloc::Global;
 use std::io;
 use std::io::Write;
@@ -58,7 +59,9 @@ pub fn export_page<D: Disk, W: Write + Drop>(
     let base64 = STANDARD;
     let mut page = Page::begin(out, &base64, FRONT.as_bytes()).map_err(unwritten)?;
     let messages = export(alloc, index, block, to, &mut page)?;
-    let mut out = page.end(END.as_bytes()).map_err(unwritten)?;
+    let mut out = page
+        .end(MIDDLE.as_bytes(), PAINTER.as_bytes(), END.as_bytes())
+        .map_err(unwritten)?;
     out.flush().map_err(unwritten)?;
     Ok(WrittenPage { messages, out })
 }

@@ -1,4 +1,4 @@
-//! The page, up to the recording and after it.
+//! The page: up to the recording, between it and the painter's script, and after that.
 
 /// What a page begins with: its head, its style, and what is on it.
 pub const FRONT: &str = r##"<!doctype html>
@@ -61,11 +61,16 @@ kbd { padding: 0 .3em; border: 1px solid var(--dim); border-radius: 3px; font: i
 <script id="recording" type="text/plain">
 "##;
 
-/// What it ends with: its script.
-pub const END: &str = r##"
+/// What stands between the recording and the painter's script.
+pub const MIDDLE: &str = r##"
 </script>
 <script>
-'use strict';
+"##;
+
+/// What it ends with: its own script.
+pub const END: &str = r##"
+// A canvas keeps red first, and the recording blue first.
+const color = pixel => OPAQUE | (pixel & 0xff) << 16 | pixel & 0xff00 | pixel >> 16 & 0xff;
 
 // The bytes of base64 text, a piece at a time: a long text is never decoded as one string.
 function decoded(text) {
@@ -78,21 +83,6 @@ function decoded(text) {
     for (let i = 0; i < piece.length; i++) bytes[to++] = piece.charCodeAt(i);
   }
   return bytes;
-}
-
-// Reads numbers off bytes, as RFB has them: the highest byte first.
-class Reader {
-  constructor(bytes) { this.bytes = bytes; this.offset = 0; }
-  take(count) {
-    const end = this.offset + count;
-    if (end > this.bytes.length) throw new Error('the recording ends too early');
-    const taken = this.bytes.subarray(this.offset, end);
-    this.offset = end;
-    return taken;
-  }
-  u8() { return this.take(1)[0]; }
-  u16() { const b = this.take(2); return b[0] << 8 | b[1]; }
-  u32() { const b = this.take(4); return (b[0] << 24 | b[1] << 16 | b[2] << 8 | b[3]) >>> 0; }
 }
 
 // The parts of an FBS file that `recorderd export` wrote: what the host said first, the screen at the
@@ -115,87 +105,11 @@ function film(bytes) {
   return { width, height, name, messages: blocks };
 }
 
-const OPAQUE = 0xff000000;
-
-// A canvas keeps red first, and the recording blue first.
-const color = (b, g, r) => (OPAQUE | b << 16 | g << 8 | r) >>> 0;
-
-// A screen on which a host's messages are painted (RFC 6143, section 7.6.1 and 7.7).
-class Painter {
-  constructor(width, height) {
-    this.width = width;
-    this.height = height;
-    this.pixels = new Uint32Array(width * height).fill(OPAQUE);
-  }
-  paint(data) {
-    const message = new Reader(data);
-    if (message.u8() !== 0) return;
-    message.u8();
-    for (let left = message.u16(); left > 0; left--) {
-      const x = message.u16(), y = message.u16(), w = message.u16(), h = message.u16();
-      const encoding = message.u32();
-      if (x + w > this.width || y + h > this.height) throw new Error('an area lies outside the screen');
-      if (encoding === 0) this.put(x, y, w, h, message.take(4 * w * h));
-      else if (encoding === 1) this.copy(message.u16(), message.u16(), x, y, w, h);
-      else if (encoding === 2) this.rre(x, y, w, h, message);
-      else if (encoding === 5) this.hextile(x, y, w, h, message);
-      else throw new Error('unknown encoding ' + encoding);
-    }
-  }
-  fill(x, y, w, h, pixel) {
-    for (let row = y; row < y + h; row++) {
-      const start = row * this.width + x;
-      this.pixels.fill(pixel, start, start + w);
-    }
-  }
-  put(x, y, w, h, bytes) {
-    for (let row = y, from = 0; row < y + h; row++) {
-      const start = row * this.width + x;
-      for (let to = start; to < start + w; to++, from += 4) {
-        this.pixels[to] = color(bytes[from], bytes[from + 1], bytes[from + 2]);
-      }
-    }
-  }
-  copy(fromX, fromY, x, y, w, h) {
-    const step = fromY < y ? -1 : 1;
-    for (let left = h, row = step < 0 ? h - 1 : 0; left > 0; left--, row += step) {
-      const from = (fromY + row) * this.width + fromX;
-      this.pixels.copyWithin((y + row) * this.width + x, from, from + w);
-    }
-  }
-  rre(x, y, w, h, message) {
-    const count = message.u32();
-    this.fill(x, y, w, h, pixelOf(message));
-    for (let left = count; left > 0; left--) {
-      const pixel = pixelOf(message);
-      this.fill(x + message.u16(), y + message.u16(), message.u16(), message.u16(), pixel);
-    }
-  }
-  hextile(x, y, w, h, message) {
-    let background = OPAQUE, foreground = OPAQUE;
-    for (let top = y; top < y + h; top += 16) {
-      for (let left = x; left < x + w; left += 16) {
-        const wide = Math.min(16, x + w - left), high = Math.min(16, y + h - top), mask = message.u8();
-        if (mask & 1) {
-          this.put(left, top, wide, high, message.take(4 * wide * high));
-          continue;
-        }
-        if (mask & 2) background = pixelOf(message);
-        if (mask & 4) foreground = pixelOf(message);
-        this.fill(left, top, wide, high, background);
-        for (let count = mask & 8 ? message.u8() : 0; count > 0; count--) {
-          const pixel = mask & 16 ? pixelOf(message) : foreground;
-          const corner = message.u8(), size = message.u8();
-          this.fill(left + (corner >> 4), top + (corner & 15), (size >> 4) + 1, (size & 15) + 1, pixel);
-        }
-      }
-    }
-  }
-}
-
-function pixelOf(message) {
-  const bytes = message.take(4);
-  return color(bytes[0], bytes[1], bytes[2]);
+// Paints a whole message on a screen, if it is an update.
+function paint(painter, data) {
+  const message = new Reader(data);
+  if (message.u8() !== 0) return;
+  if (!painter.update(message).next().done) throw new Error('it ends too early');
 }
 
 // How many pixels the screens that are kept have together, at most; two are kept in any case.
@@ -228,21 +142,11 @@ class Screens {
       if (near) this.painter.pixels.set(near.pixels); else this.painter.pixels.fill(OPAQUE);
     }
     while (this.count < count) {
-      this.painter.paint(this.messages[this.count].data);
+      paint(this.painter, this.messages[this.count].data);
       this.count++;
       this.keep();
     }
   }
-}
-
-const at = id => document.getElementById(id);
-
-function clockOf(ms) {
-  const seconds = Math.floor(ms / 1000), minutes = Math.floor(seconds / 60);
-  const two = n => String(n).padStart(2, '0');
-  const rest = two(seconds % 60) + '.' + String(Math.floor(ms) % 1000).padStart(3, '0');
-  return minutes < 60 ? minutes + ':' + rest
-    : Math.floor(minutes / 60) + ':' + two(minutes % 60) + ':' + rest;
 }
 
 // How long a pause is shown if pauses are skipped, in milliseconds of the clock on the wall.

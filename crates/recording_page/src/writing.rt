@@ -39,14 +39,17 @@ impl<'e, W: Write + Drop> Page<'e, W> {
         })
     }
 
-    /// Ends a page: writes what is left of what it was given, and then this end.
-    pub fn end(self, end: &[u8]) -> io::Result<W>
+    /// Ends a page: writes what is left of what it was given, and then what stands between that and
+    /// the painter's script, this script, and the end.
+    pub fn end(self, middle: &[u8], painter: &[u8], end: &[u8]) -> io::Result<W>
         ensures { IfOk result (λ out. (before bytes : List ℕ)
             → page_after (W.contents self.entry.before.value) (finished self.entry.encoder []) ≡ Some (page_of before bytes)
-            → W.contents out ≡ Some (before ++ (encode_of standard bytes ++ end.now))) }
+            → W.contents out ≡ Some (before ++ (encode_of standard bytes ++ (middle.now ++ (painter.now ++ end.now))))) }
     {
         let Page { encoder, before: _ } = self;
         let mut out = encoder.finish()?;
+        out.write_all(middle)?;
+        out.write_all(painter)?;
         out.write_all(end)?;
         Ok(out)
     }
