@@ -364,7 +364,7 @@ def support(browser, _):
     page.drag([0.9 - step / 100 for step in range(80)])
     time.sleep(1)
     after = server.ask("log")
-    moments = [told for told in after["commands"][len(before["commands"]):] if "at" in told]
+    moments = [told for told in after["orders"][len(before["orders"]):] if "at" in told]
     yield "one moment for each answer", "one moment for each answer" \
         if 2 <= len(moments) <= after["answers"] - before["answers"] + 1 else f"{len(moments)} moments"
     yield AS_RECORDED, page.screens(2)
@@ -409,8 +409,8 @@ def wifi(browser, _):
     paused = page.until(lambda shown: shown["state"] == "Paused")
     yield from lost_and_found(page, server, "Paused")
     time.sleep(1)
-    yield AS_IT_SHOULD, within(paused["moment"], page.moment, paused["moment"])
-    yield AS_IT_SHOULD, within(paused["message"], page.message, paused["message"] + 1)
+    yield (paused["moment"], paused["message"]), (page.moment, page.message)
+    yield f"at={paused['moment']}", server.ask("log")["watched"][-1]
     page.press(" ")
     yield "Playing", page.until_state("Playing")
     page.press("l")
@@ -419,8 +419,11 @@ def wifi(browser, _):
     if isinstance(browser, Chromium):
         yield from without_network(browser, page, server)
     server.ask("stall", seconds=22)
-    yield "Not connected", page.until_state("Not connected", 20)
-    yield "Live", page.until_state("Live", 25)
+    time.sleep(11)
+    yield "Live", page.state()["state"]
+    page.slide(100000)
+    yield "Not connected", page.until_state("Not connected", 12)
+    yield "Playing", page.until_state("Playing", 25)
     time.sleep(1)
     yield AS_RECORDED, page.screens(5)
 
@@ -546,10 +549,8 @@ def audit(browser, folder):
     browser.run("location.hash = 'at=12345'")
     yield 12345, page.until(lambda shown: shown["moment"] == 12345 and shown["message"] == 62)["moment"]
     page.press("p")
-    yield 12200, page.moment
-    time.sleep(0.5)
-    page.press("p")
     yield 12000, page.until(lambda shown: shown["moment"] == 12000)["moment"]
+    time.sleep(0.5)
     browser.run("history.replaceState(null, '', '#')")
     page.click("link")
     yield "#at=12000", page.hash
@@ -582,14 +583,17 @@ def audit(browser, folder):
 
 def doors(browser, _):
     server = Mock("--past", "20")
-    reasons = [(4001, "all seats are taken"), (4002, "as many viewers have come as are served"),
-               (4003, "the recording has ended"), (4005, "the device failed")]
+    reasons = [(4002, "as many viewers have come as are served"), (4003, "the recording has ended"),
+               (4004, "the recording has fewer messages"), (4005, "the recording can't be read")]
     for code, reason in reasons:
         server.ask("refuse", code=code, reason=reason)
         page = Page(browser, server)
         state = page.until(lambda shown: shown["isFaulty"], 3)
         yield reason.capitalize() + ".", state["fault"]
         yield ("Not connected", True), (state["state"], state["again"])
+    tries = len(server.ask("log")["watched"])
+    time.sleep(3)
+    yield tries, len(server.ask("log")["watched"])
     server.ask("admit")
     page.click("again")
     yield "Live", page.until_state("Live", 3)
@@ -598,10 +602,14 @@ def doors(browser, _):
     server.ask("cut")
     text = "All seats are taken. This page goes on by itself as soon as it can."
     yield text, page.until(lambda shown: shown["fault"] == text, 5)["fault"]
+    page = Page(browser, server)
+    yield text, page.until(lambda shown: shown["fault"] == text, 5)["fault"]
+    yield False, page.again
     server.ask("admit")
     yield "Live", page.until_state("Live", 10)
-    server.ask("close", code=1008, reason="a text that isn't known")
-    yield "The recorder closed the connection: a text that isn't known.", page.until(lambda shown: shown["isFaulty"], 3)["fault"]
+    server.ask("close", code=1008, reason="there is no such thing to ask for")
+    yield "The recorder closed the connection: there is no such thing to ask for.", page.until(lambda shown: shown["isFaulty"], 3)["fault"]
+    yield True, page.again
     page.click("again")
     yield "Live", page.until_state("Live", 3)
     server.ask("close", code=1000, reason="the recorder has ended")
