@@ -710,6 +710,7 @@ def large(browser, _):
     page = Page(browser, server, keeps_all=False)
     yield "Live", page.until_state("Live", 5)
     page.press(" ")
+    time.sleep(1)
     browser.run("keep()")
     for part in (0.1, 0.5, 0.9, 0.3):
         last = page.message
