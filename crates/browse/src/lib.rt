@@ -9,4 +9,4 @@ mod site;
 
 pub use request::{Asked, Judged, asked_by, judge};
 pub use request_head::Fault;
-pub use serving::{Browsing, browse, listen_at};
+pub use serving::{Browsing, browse};

@@ -173,16 +173,3 @@ where
     let outcome = run(rt, &what, listen, progress, out);
     answer("browse", outcome, what.is_verbose, err)
 }
-
-/// Listens at an address; a number alone is a port of this machine, which no other machine reaches.
-pub fn listen_at<R: Net<Stream = TcpStream, Listener = TcpListener>>(
-    rt: &R,
-    alloc: Global,
-    address: &str,
-) -> io::Result<TcpListener> {
-    if address.bytes().all(|byte| byte.is_ascii_digit()) {
-        let address = format!(in alloc; "127.0.0.1:{address}")?;
-        return TcpListener::bind(rt, address.as_str());
-    }
-    TcpListener::bind(rt, address)
-}

@@ -1,8 +1,9 @@
-//! What is told beside an update.
+//! What is told beside updates.
 
 use std::alloc::{AllocError, Global};
 
-/// What a viewer is shown by the update that comes next, and how the session stands.
+/// What a viewer is shown, and how the session stands. It is told before each update, of which it is
+/// said then, and by itself if the session has come further.
 #[derive(Clone, Copy, Debug, PartialEq, Eq)]
 pub struct Status {
     /// How many messages the screen is painted from.
@@ -13,11 +14,19 @@ pub struct Status {
     pub length: u32,
     /// How many viewers watch.
     pub watching: u32,
+    /// How many of the viewer's orders the screen obeys.
+    pub orders: u64,
     /// Whether nothing more is recorded.
     pub has_ended: bool,
 }
 
 impl Status {
+    /// Whether the session has come further than as it stood `before`.
+    pub fn is_news_after(self, before: Status) -> bool {
+        (self.length, self.watching, self.has_ended)
+            != (before.length, before.watching, before.has_ended)
+    }
+
     /// As a JSON object (RFC 8259).
     pub fn text(self, alloc: Global) -> Result<String, AllocError> {
         let Status {
@@ -25,10 +34,11 @@ impl Status {
             time,
             length,
             watching,
+            orders,
             has_ended,
         } = self;
         format!(in alloc;
-            "{{\"message\":{message},\"time\":{time},\"length\":{length},\"watching\":{watching},\"ended\":{has_ended}}}"
+            "{{\"message\":{message},\"time\":{time},\"length\":{length},\"watching\":{watching},\"orders\":{orders},\"ended\":{has_ended}}}"
         )
     }
 }

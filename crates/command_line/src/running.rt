@@ -7,6 +7,7 @@ use crate::words::{Chosen, read_words};
 use file_commands::{FileCommand, FileFault, Refused, create_new, keep, refuse, run};
 use file_disk::Progress;
 use serve_plan::Plan;
+use sockets::listen_at;
 use std::fs::File;
 use std::io;
 use std::io::{Read, Write};
@@ -129,7 +130,8 @@ where
     R: Net<Stream = TcpStream, Listener = TcpListener>,
 {
     let is_done = serve::serve(rt, plan, out, err)?;
-    if !is_done && is_verbose && !has_port(plan.listen) {
+    let lacks_port = plan.listen.is_some_and(|address| !has_port(address));
+    if !is_done && is_verbose && lacks_port {
         writeln!(err, "recorderd: {ADDRESS}")?;
     }
     Ok(is_done)
@@ -168,7 +170,7 @@ where
         Chosen::Info(paths) => info(rt, &paths, is_verbose, progress, out, err),
         Chosen::Browse(what) => {
             let address = what.listen;
-            let listen = || browse::listen_at(rt, alloc, address);
+            let listen = || listen_at(rt, alloc, address);
             browse::browse(rt, what, listen, progress, out, err)
         }
         Chosen::Serve(plan) => served(rt, &plan, is_verbose, out, err),

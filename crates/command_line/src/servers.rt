@@ -111,6 +111,14 @@ fn told(matches: &ArgMatches<'_>, is_verbose: bool) -> Told {
     }
 }
 
+// Where viewers and browsers connect to, of which one has to be given.
+fn addresses<'a>(matches: &ArgMatches<'a>) -> Result<(Option<&'a str>, Option<&'a str>), Wrong> {
+    match (matches.get_str("ADDR"), matches.get_str("WEB")) {
+        (None, None) => Err(Wrong::Words("one of --listen and --web is needed")),
+        addresses => Ok(addresses),
+    }
+}
+
 /// What is recorded and served, to whom, and how it ends.
 pub fn plan<'a>(matches: &ArgMatches<'a>, is_verbose: bool) -> Result<Plan<'a>, Wrong> {
     let key_interval = within(matches.get_str("K"), 1, 4096, 256);
@@ -118,10 +126,12 @@ pub fn plan<'a>(matches: &ArgMatches<'a>, is_verbose: bool) -> Result<Plan<'a>, 
         Ok(playing) => playing,
         Err(wrong) => return Err(wrong),
     };
+    let file = word(matches, "PATH")?;
+    let (listen, web) = addresses(matches)?;
     Ok(Plan {
-        file: word(matches, "PATH")?,
-        listen: word(matches, "ADDR")?,
-        web: matches.get_str("WEB"),
+        file,
+        listen,
+        web,
         web_name: matches.get_str("NAME"),
         host: matches.get_str("HOST"),
         format: format(matches.get_str("FORMAT"))?,

@@ -214,11 +214,15 @@ const COMMANDS: [CommandWords; 16] = [
                 "PATH",
                 "The recording; made for a host where it isn't there",
             ),
-            NeededValue("listen", "ADDR", "Where viewers connect to"),
+            Value(
+                "listen",
+                "ADDR",
+                "Where viewers connect to; may be left out with --web",
+            ),
             Value(
                 "web",
                 "WEB",
-                "Where browsers connect to, for the page on which the session is watched",
+                "Where browsers connect to, to watch on a page; a number is a port of this machine alone",
             ),
             Value(
                 "web-name",

@@ -2,6 +2,7 @@
 
 use carriage::Status;
 use std::sync::atomic::{AtomicBool, AtomicU32, Ordering};
+use steering::Course;
 
 /// How a session stands: how long it is, how many watch, and whether it has ended.
 #[derive(Drop)]
@@ -46,13 +47,18 @@ impl Facts {
         self.has_ended.store(true, Ordering::SeqCst);
     }
 
-    /// What is told to a viewer who is shown so many messages, the last of this time.
-    pub fn status(&self, message: u64, time: u32) -> Status {
+    /// What is told to a viewer who is shown so many messages, on this course.
+    pub fn status(&self, message: u64, course: Option<Course>) -> Status {
+        let (time, orders) = match course {
+            Some(Course { time, orders, .. }) => (time, orders),
+            None => (0, 0),
+        };
         Status {
             message,
             time,
             length: self.length(),
             watching: self.watching.load(Ordering::SeqCst),
+            orders,
             has_ended: self.has_ended.load(Ordering::SeqCst),
         }
     }

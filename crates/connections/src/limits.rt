@@ -14,3 +14,7 @@ pub const REQUEST: u64 = 30;
 
 /// How many seconds a viewer may take to ask for the rest once all is recorded.
 pub const FAREWELL: u64 = 10;
+
+/// After how many seconds without an update a viewer in a browser is told how the session stands, so
+/// that it, and what lies between, knows that the connection is there.
+pub const PULSE: u64 = 15;

@@ -5,21 +5,21 @@ ghost use Rattle.shared_book.specs.Receipts.{IsOfSize, size_of};
 
 use crate::facts::Facts;
 use crate::guest::{Guest, VERSION, hear_version, say};
-use crate::limits::{ANSWER, FAREWELL, HANDSHAKE, PARTING};
+use crate::limits::{ANSWER, FAREWELL, HANDSHAKE, PARTING, PULSE};
 use crate::room::Room;
 use carriage::{Carriage, Ending, Status};
 use disk::Disk;
 use replay::Slice;
 use rfb_wire::HostMessage;
 use shared_book::{Mark, Shared};
-use sockets::{Bell, Connection};
-use std::alloc::Global;
+use sockets::{Bell, Connection, Woken};
+use std::alloc::{AllocError, Global};
 use std::io;
 use std::marker::PhantomData;
 use std::sync::atomic::{AtomicBool, Ordering};
 use std::sync::{Condvar, Mutex, Wait};
 use std::time::{Clock, Duration};
-use steering::Steering;
+use steering::{Course, Steering};
 use terms::four_bytes;
 use viewer_session::Session;
 use web_frames::Heard;
@@ -57,10 +57,10 @@ struct Talk<M: Mark, G: Carriage> {
     carriage: G,
     /// What came last; what it is to be answered waits here.
     heard: Heard,
-    /// What a viewer in a browser is to be shown; `None` for any other.
-    steering: Option<Steering>,
-    /// The time of the last message that was shown.
-    time: u32,
+    /// What a viewer in a browser has asked for; `None` for any other.
+    course: Option<Course>,
+    /// What it was told last.
+    told: Option<Status>,
     /// The first message count that the viewer is shown.
     shows_from: u64,
     /// Whether the whole screen has changed since the viewer was sent an update: it is sent all of
@@ -84,15 +84,24 @@ fn is_of_whole_screen(message: &HostMessage) -> bool {
     left == 0
 }
 
+// Goes on by what a viewer was handed.
+fn follow(course: &mut Course, slice: &Slice) {
+    if slice.start.is_some() {
+        course.hand_screen();
+    }
+    if let Some(last) = slice.messages.last() {
+        course.hand_message(last.time);
+    }
+}
+
 impl<M: Mark, G: Carriage> Talk<M, G> {
     // Takes the orders that came: whether there were some; `None` if one asks for what there isn't.
-    fn heed(&mut self) -> Option<bool> {
+    fn heed(&mut self, facts: &Facts) -> Option<bool> {
         let mut has_some = false;
         for text in self.heard.words.split(|byte| *byte == b'\n') {
             if !text.is_empty() {
-                let time = self.time;
                 let order = order_of(text)?;
-                self.steering.as_mut()?.take(order, time);
+                self.course.as_mut()?.take(order, facts.length());
                 has_some = true;
             }
         }
@@ -100,16 +109,14 @@ impl<M: Mark, G: Carriage> Talk<M, G> {
     }
 
     // Takes a piece of what the viewer sends.
-    fn feed(&mut self, piece: &[u8]) -> Heeded {
+    fn feed(&mut self, piece: &[u8], facts: &Facts) -> Heeded {
         self.heard.payload.clear();
         self.heard.words.clear();
         let is_carried = self.carriage.take(piece, &mut self.heard);
         let is_heard = self.session.feed(&self.heard.payload).is_ok();
-        match self.heed() {
+        match self.heed(facts) {
             Some(is_steered) if is_carried && is_heard => {
                 if is_steered {
-                    // It is answered once it stands at what it has asked for.
-                    self.shows_from = u64::MAX;
                     Heeded::Steered
                 } else {
                     Heeded::Same
@@ -132,8 +139,8 @@ impl<M: Mark, G: Carriage> Talk<M, G> {
             return false;
         }
         self.session.advance(slice);
-        if let Some(last) = slice.messages.last() {
-            self.time = last.time;
+        if let Some(course) = &mut self.course {
+            follow(course, slice);
         }
         self.is_answered = self.is_answered && slice.start.is_none() && slice.messages.is_empty();
         self.lacks_all = self.lacks_all || slice.start.is_some();
@@ -143,8 +150,14 @@ impl<M: Mark, G: Carriage> Talk<M, G> {
         true
     }
 
-    // Writes what is due, with an update if one is, within the time that an answer may take. A
-    // viewer that has not come to the position at which it begins isn't answered yet.
+    // Whether it may be answered: it has come to the position at which it begins, by a screen that
+    // obeys all its orders.
+    fn is_there(&self) -> bool {
+        let is_obeyed = self.course.is_none_or(|course| course.is_obeyed());
+        is_obeyed && self.shows_from <= self.session.position()
+    }
+
+    // Writes what is due, with an update if one is, within the time that an answer may take.
     fn answer<C: Connection, R: Clock>(
         &mut self,
         rt: &R,
@@ -154,14 +167,14 @@ impl<M: Mark, G: Carriage> Talk<M, G> {
     ) -> io::Result<()> {
         let mut out = Vec::new(alloc);
         out.append(&mut self.heard.replies)?;
-        if self.shows_from <= self.session.position() {
+        if self.is_there() {
             let mut due = Vec::new(alloc);
             let is_asked = self.session.wants();
             self.session.answer(&mut due)?;
             if is_asked && !self.session.wants() {
                 self.lacks_all = false; // an update is among what is due
                 self.is_answered = true;
-                self.carriage.tell(self.status(facts), &mut out)?;
+                self.tell(facts, &mut out)?;
             }
             self.carriage.wrap(&due, &mut out)?;
         }
@@ -170,19 +183,32 @@ impl<M: Mark, G: Carriage> Talk<M, G> {
 
     // What the viewer is shown, and how the session stands.
     fn status(&self, facts: &Facts) -> Status {
-        facts.status(self.session.position(), self.time)
+        facts.status(self.session.position(), self.course)
     }
 
-    // Tells how the session stands, without an update.
-    fn tell<C: Connection, R: Clock>(
+    // Appends how the session stands.
+    fn tell(&mut self, facts: &Facts, out: &mut Vec<u8>) -> Result<(), AllocError> {
+        let status = self.status(facts);
+        self.told = Some(status);
+        self.carriage.tell(status, out)
+    }
+
+    // Tells how the session stands if that is news, or a sign of life is due.
+    fn tell_news<C: Connection, R: Clock>(
         &mut self,
         rt: &R,
         alloc: Global,
         connection: &C,
         facts: &Facts,
+        is_due: bool,
     ) -> io::Result<()> {
+        let status = self.status(facts);
+        let is_news = self.told.is_some_and(|told| status.is_news_after(told));
+        if !is_news && !is_due {
+            return Ok(());
+        }
         let mut out = Vec::new(alloc);
-        self.carriage.tell(self.status(facts), &mut out)?;
+        self.tell(facts, &mut out)?;
         connection.write_within(rt, &out, ANSWER)
     }
 
@@ -248,8 +274,8 @@ pub struct Viewer<M: Mark, C: Connection> {
 
 impl<M: Mark, C: Connection> Viewer<M, C> {
     /// The viewer that a guest becomes, whose handshake is whole, and who was told of the recording's
-    /// size; with what it is to be shown if it is one in a browser.
-    pub fn of(guest: Guest<C>, steering: Option<Steering>) -> Viewer<M, C>
+    /// size; with what it has asked for if it is one in a browser.
+    pub fn of(guest: Guest<C>, course: Option<Course>) -> Viewer<M, C>
         requires size { guest.size ≡ size_of M.head }
     {
         let Guest {
@@ -267,8 +293,8 @@ impl<M: Mark, C: Connection> Viewer<M, C> {
                 session,
                 carriage,
                 heard,
-                steering,
-                time: 0,
+                course,
+                told: None,
                 shows_from: 0,
                 lacks_all: false,
                 is_answered: false,
@@ -290,11 +316,11 @@ impl<M: Mark, C: Connection> Viewer<M, C> {
         self.has_left() || self.is_steered.load(Ordering::SeqCst)
     }
 
-    /// What a viewer in a browser is to be shown now, which it has asked for last.
-    pub fn take_steering<R: Wait>(&self, rt: &R) -> Option<Steering> {
-        let talk = self.talk.lock(rt);
+    /// What a viewer in a browser is to be shown from now on, which it has asked for last.
+    pub fn begin<R: Wait>(&self, rt: &R) -> Option<Steering> {
+        let mut talk = self.talk.lock(rt);
         self.is_steered.store(false, Ordering::SeqCst);
-        talk.steering
+        Some(talk.course.as_mut()?.begin())
     }
 
     /// Ends the connection. A write that waits for the viewer fails then.
@@ -315,24 +341,21 @@ impl<M: Mark, C: Connection> Viewer<M, C> {
         }
     }
 
-    /// Tells how the session stands, to a viewer that has a way to hear it.
-    pub fn tell<R: Clock + Wait>(&self, rt: &R, facts: &Facts) {
+    // Tells how the session stands, if it has come further since the viewer was told, or that is due.
+    fn tell_news<R: Clock + Wait>(&self, rt: &R, facts: &Facts, is_due: bool) {
         let is_told = self
             .talk
             .lock(rt)
-            .tell(rt, self.alloc, &self.connection, facts)
+            .tell_news(rt, self.alloc, &self.connection, facts, is_due)
             .is_ok();
         if !is_told {
             self.leave(rt);
         }
     }
 
-    /// Says that the viewer is shown nothing before it stands at this count, and at which time it
-    /// stands now. Its handshake is over.
-    pub fn show_from<R: Wait>(&self, rt: &R, count: u64, time: u32) {
-        let mut talk = self.talk.lock(rt);
-        talk.shows_from = count;
-        talk.time = time;
+    /// Says that the viewer is shown nothing before it stands at this count. Its handshake is over.
+    pub fn show_from<R: Wait>(&self, rt: &R, count: u64) {
+        self.talk.lock(rt).shows_from = count;
     }
 
     /// Holds back the next update until the viewer stands further on, if it is one of the whole
@@ -395,7 +418,7 @@ impl<M: Mark, C: Connection> Viewer<M, C> {
     // Takes a piece of what the viewer sends, and answers what is due: how the viewer goes on.
     fn hear<R: Clock + Wait>(&self, rt: &R, piece: &[u8], facts: &Facts) -> Heeded {
         let mut talk = self.talk.lock(rt);
-        let heeded = talk.feed(piece);
+        let heeded = talk.feed(piece, facts);
         if heeded == Heeded::Steered {
             self.is_steered.store(true, Ordering::SeqCst);
         }
@@ -403,6 +426,21 @@ impl<M: Mark, C: Connection> Viewer<M, C> {
         drop(talk);
         self.changed.notify_all();
         if is_answered { heeded } else { Heeded::Over }
+    }
+
+    // Waits until something comes from a viewer in a browser, who is told each second meanwhile what
+    // is new, and now and then that the connection is there. Any other is waited for in the read.
+    fn wait_for_more<R: Clock + Wait>(&self, rt: &R, room: &Room<M>) {
+        let mut quiet = 0u64;
+        for _ in rt.forever() {
+            match self.connection.wait(&room.bell, Duration::from_secs(1)) {
+                Woken::TimedOut => {
+                    quiet = (quiet + 1) % PULSE;
+                    self.tell_news(rt, &room.facts, quiet == 0);
+                }
+                Woken::Ready | Woken::Rung => return,
+            }
+        }
     }
 
     // Reads what the viewer sends, until it ends, or the socket fails.
@@ -414,7 +452,11 @@ impl<M: Mark, C: Connection> Viewer<M, C> {
     ) -> io::Result<()> {
         let mut buffer = Vec::new(self.alloc);
         buffer.resize(PIECE, 0)?;
+        let is_in_browser = self.talk.lock(rt).course.is_some();
         for _ in 0..u64::MAX {
+            if is_in_browser {
+                self.wait_for_more(rt, room);
+            }
             let count = self.connection.read(&mut buffer)?;
             if count == 0 {
                 return Ok(());

@@ -1,4 +1,4 @@
-//! What `recorderd serve` begins with: the recording, the host, and the listener for viewers.
+//! What `recorderd serve` begins with: the recording, the host, and the listeners.
 #![tactic(auto)]
 
 mod beginning;
@@ -7,6 +7,6 @@ mod opening;
 mod reading;
 mod recording;
 
-pub use opening::{Begun, Opened, Opening, Source};
+pub use opening::{Begun, Listened, Opened, Opening, Source};
 pub use reading::Reading;
 pub use recording::is_still_at;

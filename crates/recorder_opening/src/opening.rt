@@ -1,4 +1,4 @@
-//! A recorder's beginning: the recording, the host, and the listener for viewers.
+//! A recorder's beginning: the recording, the host, and the listeners.
 
 use crate::beginning::beginning_of;
 use crate::reading::Reading;
@@ -12,6 +12,7 @@ use gated_journal::Header;
 use recording_name::Identity;
 use refusals::{Refusal, Stopped};
 use serve_plan::Plan;
+use sockets::Listeners;
 use std::alloc::Global;
 use std::fs::File;
 use std::io;
@@ -33,6 +34,14 @@ pub struct Opening<'a, R> {
     pub written: &'a Written,
     /// How far it is read, if there is a recording.
     pub reading: &'a Reading,
+}
+
+/// The listeners for viewers and for browsers, or why the system gives none; none if there is to be
+/// none.
+#[derive(Drop)]
+pub struct Listened {
+    pub viewers: Option<io::Result<TcpListener>>,
+    pub web: Option<io::Result<TcpListener>>,
 }
 
 /// A host, if there is one, and a second handle of its stream.
@@ -100,18 +109,31 @@ impl<'a, R: Eprint + Wait> Opening<'a, R> {
         }
     }
 
-    // The listener for viewers, as the closure makes it.
-    fn listener<L: FnOnce() -> io::Result<TcpListener> + Drop>(
+    // A listener that the system gave at this address of the plan, if it was asked for one.
+    fn listener(
         &self,
-        listen: L,
-    ) -> Result<TcpListener, Stopped>
-        requires { L.IsAlwaysCallable listen }
-    {
-        let listener = self.given(listen(), "listen at", self.plan.listen, Refusal::Net)?;
+        listened: Option<io::Result<TcpListener>>,
+        address: Option<&str>,
+    ) -> Result<Option<TcpListener>, Stopped> {
+        let Some(outcome) = listened else {
+            return Ok(None);
+        };
+        let address = address.unwrap_or("");
+        let listener = self.given(outcome, "listen at", address, Refusal::Net)?;
         listener.set_nonblocking(true)?;
-        self.telling
-            .tell(self.rt, Event::Listening(listener.local_addr()?));
-        Ok(listener)
+        Ok(Some(listener))
+    }
+
+    // The listeners, of which is told at which addresses they are.
+    fn listeners(&self, listened: Listened) -> Result<Listeners, Stopped> {
+        let Listened { viewers, web } = listened;
+        let viewers = self.listener(viewers, self.plan.listen)?;
+        let web = self.listener(web, self.plan.web)?;
+        if let Some(listener) = &viewers {
+            let address = listener.local_addr()?;
+            self.telling.tell(self.rt, Event::Listening(address));
+        }
+        Ok(Listeners { viewers, web })
     }
 }
 
@@ -178,30 +200,16 @@ impl<
     }
 
     /// Finds the recording, connects to the host, and listens.
-    pub fn begin<L: FnOnce() -> io::Result<TcpListener> + Drop>(
+    pub fn begin<L: FnOnce() -> Listened + Drop>(
         &self,
         listen: L,
-    ) -> Result<(Begun, TcpListener), Stopped>
+    ) -> Result<(Begun, Listeners), Stopped>
         requires { L.IsAlwaysCallable listen }
     {
         let found = self.find()?;
         let host = self.host(&found)?;
-        let listener = self.listener(listen)?;
-        Ok((Begun { found, host }, listener))
-    }
-
-    /// The listener for browsers, if they are to connect.
-    pub fn web(&self) -> Result<Option<TcpListener>, Stopped>
-    where
-        R: Net<Listener = TcpListener>,
-    {
-        let Some(address) = self.plan.web else {
-            return Ok(None);
-        };
-        let listener = TcpListener::bind(self.rt, address);
-        let listener = self.given(listener, "listen for browsers at", address, Refusal::Net)?;
-        listener.set_nonblocking(true)?;
-        Ok(Some(listener))
+        let listeners = self.listeners(listen())?;
+        Ok((Begun { found, host }, listeners))
     }
 
     // Tells the position at which a host goes on with a recording: the file has no mark there.

@@ -8,6 +8,7 @@ use flusher_core::BlockStart;
 use live_page::{PAGE, SCRIPT, STYLE};
 use playing::Pace;
 use reception::Arrival;
+use screen_script::PAINTER;
 use shared_book::Mark;
 use sockets::{WebStream, watch_over};
 use std::io::{BufWriter, Write};
@@ -16,7 +17,7 @@ use std::sync::{Arc, Wait};
 use std::thread::{Scope, Threads};
 use std::time::Clock;
 use std::{io, thread};
-use steering::Steering;
+use steering::{Course, Steering};
 use telling::Event;
 use terms::ScreenSize;
 use web_door::{Judged, Refusal, judge, write_answer};
@@ -66,23 +67,16 @@ impl<'a, D: Disk, M: Mark, R: Clock + Wait> Service<'a, D, M, R> {
         )?;
         let mut block = from;
         for start in &starts {
-            let BlockStart {
-                message,
-                time,
-                count,
-            } = *start;
+            let BlockStart { start, end, time } = *start;
+            let updates = end.saturating_sub(start);
             let comma = if block == from { "" } else { "," };
             write!(
                 &mut text,
-                "{comma}{{\"time\":{time},\"message\":{message},\"block\":{block},\"updates\":{count}}}"
+                "{comma}{{\"time\":{time},\"message\":{start},\"block\":{block},\"updates\":{updates}}}"
             )?;
             block = block.saturating_add(1);
         }
-        if starts.len() as u64 == MOST_BLOCKS {
-            write!(&mut text, "],\"next\":{block}}}\n")?;
-        } else {
-            write!(&mut text, "],\"next\":null}}\n")?;
-        }
+        write!(&mut text, "],\"next\":{block}}}\n")?;
         write_head(
             out,
             Head {
@@ -103,6 +97,9 @@ impl<'a, D: Disk, M: Mark, R: Clock + Wait> Service<'a, D, M, R> {
                 "text/html; charset=utf-8",
                 PAGE,
             ),
+            Judged::Asked(Asked::Painter) => {
+                write_text(out, "200 OK", "text/javascript; charset=utf-8", PAINTER)
+            }
             Judged::Asked(Asked::Script) => {
                 write_text(out, "200 OK", "text/javascript; charset=utf-8", SCRIPT)
             }
@@ -167,8 +164,8 @@ impl<'a, D: Disk + Send, M: Mark + Send + Sync, R: Threads + Clock + Wait + Sync
         let Some(pace) = Pace::from_thousandths(AS_IT_HAPPENED) else {
             return;
         };
-        let steering = Steering::of(beginning, pace);
-        self.attend(WebStream(stream), from, arrival, Some(steering));
+        let course = Course::of(Steering::of(beginning, pace), room.facts.length());
+        self.attend(WebStream(stream), from, arrival, Some(course));
     }
 
     // Hears and answers a connection. What goes wrong ends it alone.

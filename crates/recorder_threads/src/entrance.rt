@@ -19,7 +19,7 @@ use std::sync::Wait;
 use std::thread;
 use std::thread::{Scope, Threads};
 use std::time::Clock;
-use steering::{Showing, Steering};
+use steering::{Course, Showing};
 use telling::Event;
 use watching::{Guide, Live, Played, Still, Watching};
 
@@ -36,11 +36,11 @@ impl<'a, D: Disk, M: Mark, R: Clock + Wait> Service<'a, D, M, R> {
         let (rt, shared, room) = (self.rt, self.shared, self.room);
         let start = match start {
             Start::Live => {
-                viewer.show_from(rt, 0, room.facts.length());
+                viewer.show_from(rt, 0);
                 Start::Live
             }
             Start::At(count) => {
-                viewer.show_from(rt, count, 0);
+                viewer.show_from(rt, count);
                 // With one message more there is one before it, whose time is told with it.
                 Start::At(shared.key_before(rt, count.saturating_sub(1)))
             }
@@ -95,7 +95,7 @@ impl<'a, D: Disk, M: Mark, R: Clock + Wait> Service<'a, D, M, R> {
     // Shows a viewer in a browser what it asks for, one thing after another, until it leaves.
     fn watch_steered<C: Connection>(&self, viewer: &Viewer<M, C>) -> Result<(), ViewerEnd> {
         for _ in self.rt.forever() {
-            let Some(steering) = viewer.take_steering(self.rt) else {
+            let Some(steering) = viewer.begin(self.rt) else {
                 return self.watch(viewer);
             };
             self.watch_showing(viewer, steering.showing)?;
@@ -172,7 +172,7 @@ impl<'a, D: Disk + Send, M: Mark + Send + Sync, R: Threads + Clock + Wait + Sync
         &self,
         mut guest: Guest<C>,
         from: SocketAddr,
-        steering: Option<Steering>,
+        course: Option<Course>,
     ) {
         let (rt, room) = (self.rt, self.room);
         match guest.greet(rt, &room.bell) {
@@ -185,7 +185,7 @@ impl<'a, D: Disk + Send, M: Mark + Send + Sync, R: Threads + Clock + Wait + Sync
         }
         room.facts.come();
         room.telling.tell(rt, Event::Came(from));
-        let viewer = Viewer::<M, C>::of(guest, steering);
+        let viewer = Viewer::<M, C>::of(guest, course);
         let ended = self.serve_viewer(&viewer, from);
         room.facts.leave();
         room.hall.leave(rt);
@@ -197,11 +197,11 @@ impl<'a, D: Disk + Send, M: Mark + Send + Sync, R: Threads + Clock + Wait + Sync
         &self,
         stream: C,
         from: SocketAddr,
-        steering: Option<Steering>,
+        course: Option<Course>,
     ) {
         let room = self.room;
         match Guest::new(room.alloc, stream, room.screen.size, &room.name) {
-            Ok(guest) => self.receive(guest, from, steering),
+            Ok(guest) => self.receive(guest, from, course),
             Err(_) => self.end_handshake(Event::Unheard(from)),
         }
     }
@@ -212,7 +212,7 @@ impl<'a, D: Disk + Send, M: Mark + Send + Sync, R: Threads + Clock + Wait + Sync
         stream: C,
         from: SocketAddr,
         arrival: Arrival,
-        steering: Option<Steering>,
+        course: Option<Course>,
     ) {
         if let Arrival::TurnedAway(reason) = arrival {
             return self.refuse(
@@ -221,8 +221,8 @@ impl<'a, D: Disk + Send, M: Mark + Send + Sync, R: Threads + Clock + Wait + Sync
                 Ending::TurnedAway(reason),
             );
         }
-        let from_count = match (steering, self.room.from) {
-            (Some(steering), _) => match steering.showing {
+        let from_count = match (course, self.room.from) {
+            (Some(course), _) => match course.steering.showing {
                 Showing::After(count) => count,
                 _ => 0,
             },
@@ -232,7 +232,7 @@ impl<'a, D: Disk + Send, M: Mark + Send + Sync, R: Threads + Clock + Wait + Sync
         if from_count > self.shared.committed(self.rt) {
             self.refuse(&stream, Event::TooFar(from), Ending::TooFar);
         } else {
-            self.welcome(stream, from, steering);
+            self.welcome(stream, from, course);
         }
     }
 
@@ -266,11 +266,16 @@ impl<'a, D: Disk + Send, M: Mark + Send + Sync, R: Threads + Clock + Wait + Sync
         for comer in comers {
             self.go_on(scope, comer);
         }
+        let room = self.room;
+        let Some(listener) = &self.listeners.viewers else {
+            room.bell.wait(None, None);
+            return true;
+        };
         accept_until_rung(
             self.rt,
-            self.listener,
-            &self.room.bell,
-            &self.room.telling,
+            listener,
+            &room.bell,
+            &room.telling,
             |stream, from| self.take(scope, stream, from),
         )
     }

@@ -14,9 +14,9 @@ use host_stream::HostEnd;
 use reception::Stop;
 use refusals::{Refusal, Stopped};
 use shared_book::{FlusherPen, HostPen, Mark, Shared};
-use sockets::{Woken, wait_for_stop};
+use sockets::{Listeners, Woken, wait_for_stop};
 use std::io::Write;
-use std::net::{Shutdown, TcpListener, TcpStream};
+use std::net::{Shutdown, TcpStream};
 use std::sync::{Mutex, Wait};
 use std::thread::{JoinHandle, Scope, Threads};
 use std::time::{Clock, Duration};
@@ -30,10 +30,8 @@ pub struct Service<'a, D: Disk, M: Mark, R> {
     pub rt: &'a R,
     pub shared: &'a Shared<D, M>,
     pub room: &'a Room<M>,
-    /// The listener for viewers.
-    pub listener: &'a TcpListener,
-    /// The listener for browsers, if there is one.
-    pub web: &'a Option<TcpListener>,
+    /// The listeners for viewers and for browsers.
+    pub listeners: &'a Listeners,
     /// By which names browsers may ask, besides addresses and `localhost`.
     pub names: &'a [&'a [u8]],
     /// The browsers that are served.
@@ -242,7 +240,7 @@ impl<'a, D: Disk + Send, M: Mark + Send + Sync, R: Threads + Clock + Wait + Sync
         if host.is_some() && self.room.telling.tells_all() {
             scope.spawn(move || self.watch_device()).ok()?;
         }
-        if let Some(listener) = self.web {
+        if let Some(listener) = &self.listeners.web {
             scope.spawn(move || self.accept_browsers(listener)).ok()?;
         }
         let viewers = scope.spawn(move || self.accept_all(comers)).ok()?;

@@ -7,12 +7,12 @@ use crate::greeter::{Door, Greeter};
 use connections::{Device, Hall, Room};
 use file_disk::{LastError, Written};
 use libc::STDERR_FILENO;
-use recorder_opening::{Begun, Opened, Opening, Reading, Source, is_still_at};
+use recorder_opening::{Begun, Listened, Opened, Opening, Reading, Source, is_still_at};
 use recorder_threads::{Comer, Service, Work, refuse, run_threads};
 use refusals::{Refusal, Stopped};
 use serve_plan::{Origin, Plan};
 use shared_book::{Mark, Shared, Sharing, Token};
-use sockets::Bell;
+use sockets::{Bell, Listeners, listen_at};
 use std::fmt::Display;
 use std::fs::File;
 use std::io::Write;
@@ -77,8 +77,7 @@ fn serve_opened<M: Mark + Send + Sync, R: Threads + Clock + Wait + Sync + AllocG
     requires names { token ≡ M.names }
 {
     let Arrivals {
-        listener,
-        web,
+        listeners,
         lobby,
         hall,
         comers,
@@ -106,8 +105,7 @@ fn serve_opened<M: Mark + Send + Sync, R: Threads + Clock + Wait + Sync + AllocG
         rt,
         shared: &shared,
         room: &room,
-        listener: &listener,
-        web: &web,
+        listeners: &listeners,
         names: &names,
         lobby: &lobby,
         stream: &stream,
@@ -144,8 +142,7 @@ impl WatchedReading<'_> {
 // The listeners, who is answered, who watches, and who came already.
 #[derive(Drop)]
 struct Arrivals {
-    listener: TcpListener,
-    web: Option<TcpListener>,
+    listeners: Listeners,
     lobby: Lobby,
     hall: Hall,
     comers: Vec<Comer>,
@@ -162,11 +159,11 @@ fn greets_early(origin: Origin) -> bool {
 fn greeter_of<'a, R: AllocGlobal + Net<Stream = TcpStream, Listener = TcpListener>>(
     opening: &Opening<'a, R>,
     begun: &Begun,
-    listener: &'a TcpListener,
+    listeners: &'a Listeners,
     hall: &'a Hall,
 ) -> io::Result<Option<Greeter<'a, R>>> {
-    match begun.header() {
-        Some(header) if greets_early(opening.plan.from) => {
+    match (begun.header(), &listeners.viewers) {
+        (Some(header), Some(listener)) if greets_early(opening.plan.from) => {
             let door = Door {
                 rt: opening.rt,
                 alloc: opening.rt.alloc(),
@@ -204,27 +201,26 @@ where
     })
 }
 
-// Finds the recording, the host and the listener for viewers, and reads or makes the recording.
+// Finds the recording, the host and the listeners, and reads or makes the recording.
 fn open<R, L>(opening: &Opening<'_, R>, listen: L) -> Result<(Box<Opened>, Box<Arrivals>), Stopped>
 where
     R: AllocGlobal + Clock + Eprint + Files<File = File> + Sync + Threads + Wait,
     R: Net<Stream = TcpStream, Listener = TcpListener>,
-    L: FnOnce() -> io::Result<TcpListener> + Drop,
+    L: FnOnce() -> Listened + Drop,
     requires { L.IsAlwaysCallable listen }
 {
     let alloc = opening.rt.alloc();
-    let (begun, listener) = opening.begin(listen)?;
+    let (begun, listeners) = opening.begin(listen)?;
     let seats = begun.format(opening.plan).limits().seats as u32;
     let hall = Hall::new(opening.plan.term(), seats);
-    let greeter = greeter_of(opening, &begun, &listener, &hall)?;
+    let greeter = greeter_of(opening, &begun, &listeners, &hall)?;
     let opened = finish(opening, begun, &greeter);
     let comers = match greeter {
         Some(greeter) => greeter.into_comers(),
         None => Vec::new(alloc),
     };
     let arrivals = Arrivals {
-        listener,
-        web: opening.web()?,
+        listeners,
         lobby: Lobby::new(opening.rt)?,
         hall,
         comers,
@@ -244,7 +240,7 @@ fn run<'a, R, L, O, W>(
 where
     R: AllocGlobal + Clock + Eprint + Files<File = File> + Sync + Threads + Wait,
     R: Net<Stream = TcpStream, Listener = TcpListener>,
-    L: FnOnce() -> io::Result<TcpListener> + Drop,
+    L: FnOnce() -> Listened + Drop,
     O: Write,
     W: Write,
     requires { L.IsAlwaysCallable listen }
@@ -260,13 +256,17 @@ where
         reading: watched.reading,
     };
     // These come first, so that no file is made if they can't be had.
-    let bell = opening.given(Bell::new(rt), "make a bell for", plan.listen, Refusal::Net)?;
+    let bell = opening.given(Bell::new(rt), "make a bell for", plan.file, Refusal::Net)?;
     let token = Token::new(rt.alloc())?;
     let opened = open(&opening, listen);
     watched.end(rt);
     let (opened, arrivals) = opened?;
     let identity = opened.identity;
     say(out, "serving")?;
+    if let Some(listener) = &arrivals.listeners.web {
+        let address = listener.local_addr()?;
+        say(out, format_args!("browsing http://{address}/"))?;
+    }
     let committed = serve_opened::<Brand, R, W>(
         rt, plan, token, opened, arrivals, bell, telling, last_error, err,
     )?;
@@ -295,11 +295,11 @@ fn outcome_of<R: Clock + Wait, E: Write>(
     }
 }
 
-/// Records a host into a file, and serves the recording to viewers, who connect to the listener
+/// Records a host into a file, and serves the recording to viewers, who connect to the listeners
 /// that the closure makes; without a host it serves the recording alone. It writes `serving` once
-/// viewers may come, and when all is done `committed` with the number of messages. Answers whether
-/// it is done; else a line on `err` says why it is refused, as soon as nothing more is recorded. An
-/// error is of the two writers, or of memory.
+/// viewers may come, the address of the page if there is one, and when all is done `committed` with
+/// the number of messages. Answers whether it is done; else a line on `err` says why it is refused,
+/// as soon as nothing more is recorded. An error is of the two writers, or of memory.
 pub fn serve_on<R, L, O: Write, E: Write>(
     rt: &R,
     plan: &Plan<'_>,
@@ -308,7 +308,7 @@ pub fn serve_on<R, L, O: Write, E: Write>(
     err: &mut E,
 ) -> io::Result<bool>
 where
-    L: FnOnce() -> io::Result<TcpListener> + Drop,
+    L: FnOnce() -> Listened + Drop,
     R: AllocGlobal + Clock + Eprint + Files<File = File> + Sync + Threads + Wait,
     R: Net<Stream = TcpStream, Listener = TcpListener>,
     requires { L.IsAlwaysCallable listen }
@@ -346,7 +346,7 @@ where
     )
 }
 
-/// The same with viewers who connect to the plan's address.
+/// The same with viewers and browsers who connect to the plan's addresses.
 pub fn serve<R, O: Write, E: Write>(
     rt: &R,
     plan: &Plan<'_>,
@@ -357,6 +357,10 @@ where
     R: AllocGlobal + Clock + Eprint + Files<File = File> + Sync + Threads + Wait,
     R: Net<Stream = TcpStream, Listener = TcpListener>,
 {
-    let address = plan.listen;
-    serve_on(rt, plan, || TcpListener::bind(rt, address), out, err)
+    let (viewers, web) = (plan.listen, plan.web);
+    let listen = || Listened {
+        viewers: viewers.map(|address| TcpListener::bind(rt, address)),
+        web: web.map(|address| listen_at(rt, rt.alloc(), address)),
+    };
+    serve_on(rt, plan, listen, out, err)
 }

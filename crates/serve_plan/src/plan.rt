@@ -40,9 +40,9 @@ pub struct Playing {
 pub struct Plan<'a> {
     /// The recording's file.
     pub file: &'a str,
-    /// The address that viewers connect to.
-    pub listen: &'a str,
-    /// The address that browsers connect to, if there is one.
+    /// The address that viewers connect to; without one only browsers watch.
+    pub listen: Option<&'a str>,
+    /// The address that browsers connect to; without one only viewers watch.
     pub web: Option<&'a str>,
     /// By which name browsers may ask, besides addresses and `localhost`.
     pub web_name: Option<&'a str>,

@@ -21,7 +21,7 @@ pub fn plan_of<'a>(
 {
     Plan {
         file,
-        listen: "",
+        listen: None,
         web: None,
         web_name: None,
         host,

@@ -5,6 +5,7 @@
 mod bell;
 mod connection;
 mod limits;
+mod listeners;
 mod listening;
 mod stop;
 mod web_stream;
@@ -12,6 +13,7 @@ mod web_stream;
 pub use bell::{Bell, Woken};
 pub use connection::Connection;
 pub use limits::{pause, time_left, watch_over, write_within};
-pub use listening::{Accepted, accept};
+pub use listeners::Listeners;
+pub use listening::{Accepted, accept, listen_at};
 pub use stop::wait_for_stop;
 pub use web_stream::WebStream;

@@ -1,9 +1,10 @@
-//! Accepting connections, until a bell rings.
+//! Listening at an address, and accepting connections until a bell rings.
 
 use crate::bell::{Bell, Woken};
 use crate::limits::pause;
+use std::alloc::Global;
 use std::io;
-use std::net::{SocketAddr, TcpListener, TcpStream};
+use std::net::{Net, SocketAddr, TcpListener, TcpStream};
 use std::os::fd::AsRawFd;
 
 /// What the system answers when it is short of descriptors or memory: ENOMEM, ENFILE, EMFILE and
@@ -27,6 +28,19 @@ pub enum Accepted {
     Shortage(io::Error),
     /// The listener is of no more use.
     Broken(io::Error),
+}
+
+/// Listens at an address; a number alone is a port of this machine, which no other machine reaches.
+pub fn listen_at<R: Net<Stream = TcpStream, Listener = TcpListener>>(
+    rt: &R,
+    alloc: Global,
+    address: &str,
+) -> io::Result<TcpListener> {
+    if address.bytes().all(|byte| byte.is_ascii_digit()) {
+        let address = format!(in alloc; "127.0.0.1:{address}")?;
+        return TcpListener::bind(rt, address.as_str());
+    }
+    TcpListener::bind(rt, address)
 }
 
 /// Waits for a connection to a listener that doesn't block, until the bell rings.

@@ -1,10 +1,9 @@
 -- What a viewer is shown once it has given an order.
-use Rattle.std.specs.Prelude.{ℕ, true, false, Option, None, Some}
+use Rattle.std.specs.Prelude.{ℕ, true, false, Option, None}
 use Rattle.web_target.specs.declared.asked.Beginning.{Beginning}
 use Rattle.web_target.specs.declared.asked.Beginning.TheVariants as begins
 use Rattle.web_target.specs.declared.asked.Order.{Order}
 use Rattle.web_target.specs.declared.asked.Order.TheVariants as order
-use Rattle.web_target.specs.declared.asked.Playback.{Playback}
 use Rattle.steering.specs.declared.steering.Showing.{Showing}
 use Rattle.steering.specs.declared.steering.Showing.TheVariants as shows
 use Rattle.steering.specs.declared.steering.Steering.{Steering}
@@ -13,6 +12,7 @@ use Rattle.steering.specs.declared.steering.Steering.{Steering}
 abbrev pub first_of : Beginning → ℕ → Steering
 first_of begins.Live pace = record { showing = shows.Live; pace = pace; longest_pause = None }
 first_of (begins.After count) pace = record { showing = shows.After count; pace = pace; longest_pause = None }
+first_of (begins.Still time) pace = record { showing = shows.Still time; pace = pace; longest_pause = None }
 first_of (begins.Played playback) pace = record { showing = shows.Played playback; pace = playback.pace; longest_pause = playback.longest_pause }
 
 -- the recording from a time on
@@ -39,6 +39,13 @@ resumed s (shows.Still time) = played_from time s.pace s.longest_pause
 resumed s shows.Live = shows.Live
 resumed s (shows.After count) = shows.After count
 resumed s (shows.Played before) = shows.Played before
+
+-- the time at which this begins, in a session that is so long, for who is at that time
+abbrev pub begins_at : ℕ → ℕ → Showing → ℕ
+begins_at length now shows.Live = length
+begins_at length now (shows.After count) = now
+begins_at length now (shows.Played playback) = playback.time
+begins_at length now (shows.Still time) = time
 
 -- what follows on an order at a time
 abbrev pub after_order : Order → ℕ → Steering → Steering

@@ -45,6 +45,11 @@ impl Steering {
                 pace,
                 longest_pause: None,
             },
+            Beginning::Still(time) => Steering {
+                showing: Showing::Still(time),
+                pace,
+                longest_pause: None,
+            },
             Beginning::Played(playback) => {
                 let (pace, longest_pause) = (playback.pace, playback.longest_pause);
                 Steering {

@@ -128,11 +128,10 @@ impl<'a, M: Mark, C: Connection, R: Clock + Wait> Viewing<'a, M, C, R> {
         }
     }
 
-    // At the end of the recording: tells that, and stays until the viewer was shown the rest, or it
-    // is over; if viewers stay, first until the recorder is closing.
+    // At the end of the recording: stays until the viewer was shown the rest, or it is over; if
+    // viewers stay, first until the recorder is closing.
     fn rest(&self) {
         let viewer = self.viewer;
-        viewer.tell(self.rt, &self.room.facts);
         if self.room.stays {
             self.room
                 .hall

@@ -7,10 +7,10 @@ use Rattle.std.proofs.lemmas.Bool.{and_parts}
 use Rattle.terms.specs.Decimal.{number_of}
 use Rattle.web_target.specs.declared.asked.Playback.{Playback}
 use Rattle.web_target.specs.declared.asked.Asked.{Asked}
-use Rattle.web_target.specs.declared.asked.Asked.TheVariants.{Page, Script, Style, Times, Watch}
+use Rattle.web_target.specs.declared.asked.Asked.TheVariants.{Page, Painter, Script, Style, Times, Watch}
 use Rattle.web_target.specs.declared.asked.Beginning.{Beginning}
-use Rattle.web_target.specs.declared.asked.Beginning.TheVariants.{Live, After, Played}
-use Rattle.web_target.specs.Targets.{IsDigits, IsBare, IsPauseOf, IsPlayedBy, IsQueryOf, IsTargetOf}
+use Rattle.web_target.specs.declared.asked.Beginning.TheVariants.{Live, After, Played, Still}
+use Rattle.web_target.specs.Targets.{IsDigits, IsBare, IsPauseOf, IsPlayedBy, IsQueryOf, IsTargetOf, Says}
 
 chosen : (b c : Bool) (value number : ℕ) → (if b && c then Some value else None) ≡ Some number → b ≡ true
 chosen true c value number is = refl
@@ -70,9 +70,18 @@ no_pause text some other (Some seconds) is = other is.0 is.1
 pub other_byte : (one other : ℕ) → one < other → one ≡ other → ⊥
 other_byte one other less same = omega arith
 
+-- a query that asks for nothing there is
+pub no_query : (query : List ℕ) → ((rest : List ℕ) → query ≢ codes "message=" ++ rest) → ((time : ℕ) → Says (codes "at=") (2 ^ 32) time query → ⊥)
+    → ((playback : Playback) → IsPlayedBy playback query → ⊥) → (beginning : Beginning) → IsQueryOf beginning query → ⊥
+no_query query count still played Live of = of
+no_query query count still played (After n) of = count of.0 of.1
+no_query query count still played (Played playback) of = played playback of
+no_query query count still played (Still time) of = still time of
+
 -- a query that begins nowhere
 pub no_beginning : (target query : List ℕ) → target ≡ codes "/watch?" ++ query → ((beginning : Beginning) → IsQueryOf beginning query → ⊥) → (asked : Asked) → IsTargetOf asked target → ⊥
 no_beginning target query is none Page t = other_byte 0 119 (lit< tt) (ap (λ (z : List ℕ). slice_index z 1) (sym t ∙ is))
+no_beginning target query is none Painter t = other_byte 112 119 (lit< tt) (ap (λ (z : List ℕ). slice_index z 1) (sym t ∙ is))
 no_beginning target query is none Script t = other_byte 108 119 (lit< tt) (ap (λ (z : List ℕ). slice_index z 1) (sym t ∙ is))
 no_beginning target query is none Style t = other_byte 108 119 (lit< tt) (ap (λ (z : List ℕ). slice_index z 1) (sym t ∙ is))
 no_beginning target query is none (Times block) t = other_byte 116 119 (lit< tt) (ap (λ (z : List ℕ). slice_index z 1) (sym t.1 ∙ is))
@@ -85,14 +94,20 @@ no_beginning target query is none (Watch (Played playback)) t =
     let both : codes "/watch?" ++ query ≡ codes "/watch?" ++ t.0 = sym is ∙ t.1 in
     let same : query ≡ t.0 = cc both in
     none (Played playback) (rw same t.2)
+no_beginning target query is none (Watch (Still time)) t =
+    let both : codes "/watch?" ++ query ≡ codes "/watch?" ++ t.0 = sym is ∙ t.1 in
+    let same : query ≡ t.0 = cc both in
+    none (Still time) (rw same t.2)
 
 -- none of the targets that there are
-pub no_target : (target : List ℕ) → target ≢ codes "/" → target ≢ codes "/live.js" → target ≢ codes "/live.css" → target ≢ codes "/watch"
+pub no_target : (target : List ℕ) → target ≢ codes "/" → target ≢ codes "/painter.js" → target ≢ codes "/live.js" → target ≢ codes "/live.css" → target ≢ codes "/watch"
     → ((rest : List ℕ) → target ≢ codes "/times?from=" ++ rest) → ((rest : List ℕ) → target ≢ codes "/watch?" ++ rest) → (asked : Asked) → IsTargetOf asked target → ⊥
-no_target target page script style watch times seat Page t = page t
-no_target target page script style watch times seat Script t = script t
-no_target target page script style watch times seat Style t = style t
-no_target target page script style watch times seat (Times block) t = times t.0 t.1
-no_target target page script style watch times seat (Watch Live) t = watch t
-no_target target page script style watch times seat (Watch (After count)) t = seat t.0 t.1
-no_target target page script style watch times seat (Watch (Played playback)) t = seat t.0 t.1
+no_target target page painter script style watch times seat Page t = page t
+no_target target page painter script style watch times seat Painter t = painter t
+no_target target page painter script style watch times seat Script t = script t
+no_target target page painter script style watch times seat Style t = style t
+no_target target page painter script style watch times seat (Times block) t = times t.0 t.1
+no_target target page painter script style watch times seat (Watch Live) t = watch t
+no_target target page painter script style watch times seat (Watch (After count)) t = seat t.0 t.1
+no_target target page painter script style watch times seat (Watch (Played playback)) t = seat t.0 t.1
+no_target target page painter script style watch times seat (Watch (Still time)) t = seat t.0 t.1

@@ -5,9 +5,9 @@ use Rattle.std.specs.List.{list_all}
 use Rattle.terms.specs.Decimal.{number_of}
 use Rattle.playing.specs.Playing.{IsPace}
 use Rattle.web_target.specs.declared.asked.Asked.{Asked}
-use Rattle.web_target.specs.declared.asked.Asked.TheVariants.{Page, Script, Style, Times, Watch}
+use Rattle.web_target.specs.declared.asked.Asked.TheVariants.{Page, Painter, Script, Style, Times, Watch}
 use Rattle.web_target.specs.declared.asked.Beginning.{Beginning}
-use Rattle.web_target.specs.declared.asked.Beginning.TheVariants.{Live, After, Played}
+use Rattle.web_target.specs.declared.asked.Beginning.TheVariants.{Live, After, Played, Still}
 use Rattle.web_target.specs.declared.asked.Playback.{Playback}
 
 -- each byte is a digit
@@ -44,16 +44,19 @@ abbrev pub IsQueryOf : Beginning → List ℕ → Type 0
 IsQueryOf Live query = ⊥
 IsQueryOf (After count) query = Says (codes "message=") (2 ^ 64) count query
 IsQueryOf (Played playback) query = IsPlayedBy playback query
+IsQueryOf (Still time) query = Says (codes "at=") (2 ^ 32) time query
 
 -- the target asks for this
 abbrev pub IsBeginningOf : Beginning → List ℕ → Type 0
 IsBeginningOf Live target = target ≡ codes "/watch"
 IsBeginningOf (After count) target = (query : List ℕ) × (target ≡ codes "/watch?" ++ query) × IsQueryOf (After count) query
 IsBeginningOf (Played playback) target = (query : List ℕ) × (target ≡ codes "/watch?" ++ query) × IsQueryOf (Played playback) query
+IsBeginningOf (Still time) target = (query : List ℕ) × (target ≡ codes "/watch?" ++ query) × IsQueryOf (Still time) query
 
 -- The target of a request asks for this (RFC 9112, section 3.2.1).
 abbrev pub IsTargetOf : Asked → List ℕ → Type 0
 IsTargetOf Page target = target ≡ codes "/"
+IsTargetOf Painter target = target ≡ codes "/painter.js"
 IsTargetOf Script target = target ≡ codes "/live.js"
 IsTargetOf Style target = target ≡ codes "/live.css"
 IsTargetOf (Times block) target = Says (codes "/times?from=") (2 ^ 64) block target

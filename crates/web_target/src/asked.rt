@@ -22,6 +22,8 @@ pub enum Beginning {
     After(u64),
     /// At a moment, and in the recording's own time.
     Played(Playback),
+    /// At this time, in milliseconds, where it stands still.
+    Still(u32),
 }
 
 /// What is asked for by a request's target.
@@ -29,15 +31,17 @@ pub enum Beginning {
 pub enum Asked {
     /// `/`, the page.
     Page,
-    /// `/live.js`, its script.
+    /// `/painter.js`, the part of its script that paints.
+    Painter,
+    /// `/live.js`, the rest of its script.
     Script,
     /// `/live.css`, its style.
     Style,
     /// `/times?from=BLOCK`: what came when, from a block on.
     Times(u64),
-    /// `/watch`, `/watch?message=COUNT`, or `/watch?at=TIME&pace=PACE`, which may end in
-    /// `&longest-pause=TIME`: a viewer's connection, over a WebSocket. Times are in milliseconds, a
-    /// pace is in thousandths.
+    /// `/watch`, `/watch?message=COUNT`, `/watch?at=TIME`, or `/watch?at=TIME&pace=PACE`, which may
+    /// end in `&longest-pause=TIME`: a viewer's connection, over a WebSocket. Times are in
+    /// milliseconds, a pace is in thousandths.
     Watch(Beginning),
 }
 

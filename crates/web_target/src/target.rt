@@ -1,10 +1,10 @@
 //! The targets that there are.
 
-ghost use Rattle.std.specs.Prelude.{◌≡◌, MatchOption, Some};
+ghost use Rattle.std.specs.Prelude.{◌≡◌, ◌^◌, ℕ, MatchOption, Some, codes};
 ghost use Rattle.web_target.specs.declared.asked.Asked.{Asked as AskedValue};
 ghost use Rattle.web_target.specs.declared.asked.Beginning.{Beginning as BeginningValue};
 ghost use Rattle.web_target.specs.declared.asked.Playback.{Playback as PlaybackValue};
-ghost use Rattle.web_target.specs.Targets.{IsPauseOf, IsPlayedBy, IsQueryOf, IsTargetOf};
+ghost use Rattle.web_target.specs.Targets.{IsPauseOf, IsPlayedBy, IsQueryOf, IsTargetOf, Says};
 
 use crate::asked::{Asked, Beginning, Playback};
 use crate::words::{digits_first, following, small_number};
@@ -35,12 +35,22 @@ fn playback(query: &[u8]) -> Option<Playback>
     })
 }
 
+// The time that a query names, and nothing else.
+fn still(query: &[u8]) -> Option<u32>
+    ensures { MatchOption result ((time : ℕ) → Says (codes "at=") (2 ^ 32) time query.now → ⊥) (λ time. Says (codes "at=") (2 ^ 32) time query.now) }
+{
+    small_number(following(query, b"at=")?)
+}
+
 // What the query of a `/watch` asks for.
 fn beginning(query: &[u8]) -> Option<Beginning>
     ensures { MatchOption result ((beginning : BeginningValue) → IsQueryOf beginning query.now → ⊥) (λ beginning. IsQueryOf beginning query.now) }
 {
     if let Some(digits) = following(query, b"message=") {
         return Some(Beginning::After(decimal_number(digits)?));
+    }
+    if let Some(time) = still(query) {
+        return Some(Beginning::Still(time));
     }
     Some(Beginning::Played(playback(query)?))
 }
@@ -52,6 +62,9 @@ pub fn asked_by(target: &[u8]) -> Option<Asked>
 {
     if target == b"/".as_slice() {
         return Some(Asked::Page);
+    }
+    if target == b"/painter.js".as_slice() {
+        return Some(Asked::Painter);
     }
     if target == b"/live.js".as_slice() {
         return Some(Asked::Script);

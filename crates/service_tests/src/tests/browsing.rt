@@ -1,9 +1,10 @@
 //! The page over loopback, in one process with a browser of the test.
 
 use browse::page::{PAGE, SCRIPT, STYLE};
-use browse::{Browsing, browse, listen_at};
+use browse::{Browsing, browse};
 use file_disk::Progress;
 use reception::Stop;
+use sockets::listen_at;
 use std::fs::File;
 use std::io::{Read, Write};
 use std::net::{Net, SocketAddr, TcpListener, TcpStream};
