@@ -53,8 +53,8 @@ FILES = {"/": ("live_page/src/page.rt", "PAGE", "text/html; charset=utf-8"),
          "/live.css": ("live_page/src/page.rt", "STYLE", "text/css; charset=utf-8")}
 RATE, PAST_RATE = 10, 5
 BLOCK, KEY, MOST_STRETCHES, MOST_MERGED = 4, 32, 100, 64
-# How often is told by itself how the session stands, at most, in seconds.
-NEWS = 1
+# How often is told by itself how the session stands, in seconds: at most, and at least.
+NEWS, PULSE = 1, 15
 NAME = "<b>&name"
 # What the page must ask for: 32 bits, the lowest byte first, red in the lowest one.
 FORMAT = bytes([0, 0, 0, 0, 32, 24, 0, 1, 0, 255, 0, 255, 0, 255, 0, 8, 16, 0, 0, 0])
@@ -349,8 +349,10 @@ class Viewer:
                            "orders": self.orders, "ended": self.told[2]}, separators=(",", ":")).encode()
 
     def is_news(self):
-        """Whether the session has come further since it was told how it stands."""
-        return self.told is not None and self.news() != self.told and time.monotonic() > self.told_at + NEWS
+        """Whether it is told how the session stands, without an update."""
+        if self.told is None:
+            return False
+        return time.monotonic() > self.told_at + (PULSE if self.news() == self.told else NEWS)
 
     def go_to(self, count):
         last = self.recording.times[max(count, 1) - 1]

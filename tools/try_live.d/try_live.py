@@ -428,6 +428,21 @@ def wifi(browser, _):
     yield AS_RECORDED, page.screens(5)
 
 
+def silence(browser, _):
+    server = Mock("--past", "20")
+    page = Page(browser, server)
+    page.until_state("Live")
+    server.ask("quiet")
+    time.sleep(45)
+    yield ("Live", 1), (page.state()["state"], len(server.ask("log")["watched"]))
+    server.ask("stall", seconds=50)
+    yield "Not connected", page.until_state("Not connected", 45)
+    server.ask("busy")
+    yield "Live", page.until_state("Live", 30)
+    time.sleep(1)
+    yield AS_RECORDED, page.screens(5)
+
+
 def without_network(browser, page, server):
     """The browser notices that the network is gone, and nothing comes meanwhile."""
     network = {"latency": 0, "downloadThroughput": -1, "uploadThroughput": -1}
@@ -757,7 +772,7 @@ def storm(browser, _):
     yield AS_RECORDED, page.screens(20)
 
 
-EVENINGS = [support, wifi, ending, lesson, audit, doors, hidden, phone, eyes, large, storm]
+EVENINGS = [support, wifi, silence, ending, lesson, audit, doors, hidden, phone, eyes, large, storm]
 
 
 def spend(evening, browser, folder, pictures):

@@ -86,8 +86,9 @@ const FORMAT = [32, 24, 0, 1, 0, 255, 0, 255, 0, 255, 0, 8, 16, 0, 0, 0];
 // CopyRect, Hextile, RRE, Raw.
 const ENCODINGS = [1, 5, 2, 0];
 
-// How long an answer may take, in milliseconds.
-const LONGEST_ANSWER = 10000;
+// How long an answer may take, and how long nothing may come, in milliseconds: the recorder tells how
+// the session stands each 15 seconds at least.
+const LONGEST_ANSWER = 10000, LONGEST_SILENCE = 40000;
 
 // A session of RFB 3.8 (RFC 6143) over a WebSocket. Its owner is told what comes: `opened`, `heard`,
 // `glimpsed`, `painted`; and how it ends: `closed` or `failed`.
@@ -151,11 +152,12 @@ class Session {
     this.isAsked = true;
     this.askedAt = performance.now();
   }
-  // Whether an answer that must come has taken so long that the connection is lost, whatever the
-  // browser says. Nothing comes, and nothing is wrong, while the host is quiet.
+  // Whether the connection is lost, whatever the browser says: an answer that must come, or any sign
+  // of life, has taken too long. An update needn't come while the host is quiet.
   get isOverdue() {
     const isDue = !this.painter || this.isAsked && (!this.hasPainted || this.obeyed < this.orders);
-    return isDue && !this.isOver && performance.now() > Math.max(this.heardAt, this.askedAt) + LONGEST_ANSWER;
+    const longest = isDue ? LONGEST_ANSWER : LONGEST_SILENCE;
+    return !this.isOver && performance.now() > Math.max(this.heardAt, this.askedAt) + longest;
   }
   receive(data) {
     this.heardAt = performance.now();
@@ -540,7 +542,7 @@ class Player {
     history.replaceState(null, '', address);
   }
   save() {
-    if (this.shown) this.picture.save(`${document.title} ${clockOf(this.shown.time).replaceAll(':', '-')}.png`);
+    if (this.shown) this.picture.save(`${document.title} ${clockOf(this.moment).replaceAll(':', '-')}.png`);
   }
 }
 
