@@ -16,7 +16,7 @@ impl<D: Disk> Desk<D> {
     ghost use Rattle.flusher_core.specs.State.{committed_of};
     ghost use Rattle.flusher_core.specs.Book.{OnlyReads};
     ghost use Rattle.replay.specs.Screens.{IsScreenAt};
-    ghost use Rattle.replay.specs.Times.{IsShownAt};
+    ghost use Rattle.replay.specs.Moments.{IsShownAt};
     ghost use Rattle.broadcast.specs.Seats.{book_of};
 
     /// How many committed messages from number `first` on are handed on at a time: those up to the

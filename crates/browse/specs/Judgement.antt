@@ -2,16 +2,12 @@
 use Rattle.std.specs.Prelude.{◌≡◌, ◌<◌, ℕ, List, [], length, take}
 use Rattle.request_head.specs.declared.head.Fault.{Fault}
 use Rattle.request_head.specs.declared.head.Fault.TheVariants.{BadRequest, Forbidden, NotFound, MethodNotAllowed, TooLarge}
-use Rattle.request_head.specs.Heads.{longest_head, IsBeginning}
+use Rattle.request_head.specs.Heads.{front_of, longest_head, IsBeginning}
 use Rattle.request_head.specs.Judgement.{BeginWith, IsFaultOf, TakesHead}
 use Rattle.browse.specs.declared.request.Asked.{Asked}
 use Rattle.browse.specs.declared.request.Judged.{Judged}
 use Rattle.browse.specs.declared.request.Judged.TheVariants as Is
 use Rattle.browse.specs.Requests.{IsTargetOf}
-
--- as many of them as a head may have
-abbrev pub front_of : List ℕ → List ℕ
-front_of bytes = take longest_head bytes
 
 -- Why they are refused: for what the head of a request is, which has to be a GET to an address or to
 -- `localhost`, and last for what it asks for.

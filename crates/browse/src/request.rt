@@ -5,13 +5,13 @@ ghost use Rattle.file_commands.specs.declared.picturing.Moment.{Moment as Moment
 ghost use Rattle.browse.specs.declared.request.Asked.{Asked as AskedValue};
 ghost use Rattle.browse.specs.declared.request.Judged.{Judged as JudgedValue};
 ghost use Rattle.browse.specs.Requests.{IsQueryOf, IsTargetOf};
-ghost use Rattle.browse.specs.Judgement.{front_of, IsJudged, IsJudgedBy};
+ghost use Rattle.browse.specs.Judgement.{IsJudged, IsJudgedBy};
 ghost use Rattle.request_head.specs.Heads.{longest_head};
 ghost use Rattle.terms.specs.Decimal.{number_of};
 
 use file_commands::Moment;
 use httparse::spans::EMPTY_HEADER_SPAN;
-use request_head::{Fault, LONGEST_HEAD, MOST_FIELDS, Reading, read_head};
+use request_head::{Fault, MOST_FIELDS, Reading, front, read_head};
 use terms::decimal_number;
 
 /// What is asked for.
@@ -90,18 +90,6 @@ pub fn asked_by(target: &[u8]) -> Option<Asked>
     ensures only { (asked : AskedValue) → IsTargetOf asked target.now → result ≡ Some asked }
 {
     find(target)
-}
-
-// As many bytes as a head may have.
-fn front(bytes: &[u8]) -> &[u8]
-    ensures front { result.now ≡ front_of bytes.now }
-    ensures length { length result.now ≤ longest_head }
-{
-    if bytes.len() <= LONGEST_HEAD {
-        bytes
-    } else {
-        &bytes[..LONGEST_HEAD]
-    }
 }
 
 // What the front of the bytes is.

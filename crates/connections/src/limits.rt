@@ -18,3 +18,7 @@ pub const FAREWELL: u64 = 10;
 /// After how many seconds without an update a viewer in a browser is told how the session stands, so
 /// that it, and what lies between, knows that the connection is there.
 pub const PULSE: u64 = 15;
+
+/// For how many milliseconds a viewer isn't heard after an order, which wakes all others: many orders
+/// cost them little.
+pub const AFTER_ORDER: u64 = 5;

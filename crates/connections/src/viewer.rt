@@ -5,7 +5,7 @@ ghost use Rattle.shared_book.specs.Receipts.{IsOfSize, size_of};
 
 use crate::facts::Facts;
 use crate::guest::{Guest, VERSION, hear_version, say};
-use crate::limits::{ANSWER, FAREWELL, HANDSHAKE, PARTING, PULSE};
+use crate::limits::{AFTER_ORDER, ANSWER, FAREWELL, HANDSHAKE, PARTING, PULSE};
 use crate::room::Room;
 use carriage::{Carriage, Ending, Status};
 use disk::Disk;
@@ -435,7 +435,7 @@ impl<M: Mark, C: Connection> Viewer<M, C> {
         for _ in rt.forever() {
             match self.connection.wait(&room.bell, Duration::from_secs(1)) {
                 Woken::TimedOut => {
-                    quiet = (quiet + 1) % PULSE;
+                    quiet = quiet.saturating_add(1) % PULSE;
                     self.tell_news(rt, &room.facts, quiet == 0);
                 }
                 Woken::Ready | Woken::Rung => return,
@@ -466,6 +466,9 @@ impl<M: Mark, C: Connection> Viewer<M, C> {
                 Heeded::Steered => {
                     shared.wake(rt);
                     room.hall.wake(rt);
+                    let _passed = room
+                        .bell
+                        .wait(None, Some(Duration::from_millis(AFTER_ORDER)));
                 }
                 Heeded::Over => return Ok(()),
             }

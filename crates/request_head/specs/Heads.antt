@@ -1,10 +1,14 @@
 -- Which heads of a request are sound (RFC 9112, sections 2.1, 3 and 5), and what begins one.
-use Rattle.std.specs.Prelude.{ℕ, List, [], ◌++◌, IsAscii}
+use Rattle.std.specs.Prelude.{ℕ, List, [], ◌++◌, take, IsAscii}
 use Rattle.httparse.specs.Grammar.{ReadsRequest, RequestHead}
 
 -- no head is longer, in bytes
 abbrev pub longest_head : ℕ
 longest_head = 8192
+
+-- as many of the bytes as a head may have
+abbrev pub front_of : List ℕ → List ℕ
+front_of bytes = take longest_head bytes
 
 -- no head has more fields: each has a name of a byte at least, a colon, and the end of a line
 abbrev pub most_fields : ℕ

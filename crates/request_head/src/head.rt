@@ -7,7 +7,7 @@ ghost use Rattle.httparse.specs.Grammar.{HasNoRequest, MayBecomeRequest, Request
 ghost use Rattle.httparse.specs.Spans.{IsHeaderWithin, IsRequestOf, IsRequestWithin, IsWithin, span_bytes};
 ghost use Rattle.request_head.specs.declared.head.Fault.{Fault as FaultValue};
 ghost use Rattle.request_head.specs.Fields.{covered, values_of};
-ghost use Rattle.request_head.specs.Heads.{longest_head, most_fields, ReadsHead, IsBeginning};
+ghost use Rattle.request_head.specs.Heads.{front_of, longest_head, most_fields, ReadsHead, IsBeginning};
 ghost use Rattle.request_head.specs.Judgement.{AreHostsOf, HasItsHost, IsTaken, IsRefused, TakesHead, IsFaultOf, IsReading, IsGetOf};
 ghost use Rattle.request_head.specs.Hosts.{IsAllowed};
 ghost use Rattle.request_head.specs.Lines.{is_plain_line, is_plain_start};
@@ -179,6 +179,18 @@ fn read(bytes: &[u8], names: &[&[u8]], fields: &mut [HeaderSpan]) -> Reading
         Ok(Status::Complete(request)) => judge(bytes, request, fields, names),
         Ok(Status::Partial) => judge_beginning(bytes),
         Err(_) => Reading::Refused(Fault::BadRequest),
+    }
+}
+
+/// The front of the bytes that have come so far, of at most as many as a head may have.
+pub fn front(bytes: &[u8]) -> &[u8]
+    ensures front { result.now ≡ front_of bytes.now }
+    ensures length { length result.now ≤ longest_head }
+{
+    if bytes.len() <= LONGEST_HEAD {
+        bytes
+    } else {
+        &bytes[..LONGEST_HEAD]
     }
 }
 

@@ -6,7 +6,7 @@ mod head;
 mod host;
 
 pub use fields::first_value;
-pub use head::{Fault, LONGEST_HEAD, MOST_FIELDS, Reading, read_head};
+pub use head::{Fault, LONGEST_HEAD, MOST_FIELDS, Reading, front, read_head};
 pub use host::is_allowed;
 
 #[cfg(test)]

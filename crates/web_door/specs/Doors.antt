@@ -1,10 +1,10 @@
 -- What the bytes of a browser's connection are.
-use Rattle.std.specs.Prelude.{◌≡◌, ◌≢◌, ◌⊎◌, ◌<◌, ℕ, List, [], length, take, Ok, Err}
+use Rattle.std.specs.Prelude.{◌≡◌, ◌≢◌, ◌⊎◌, ◌<◌, ℕ, List, [], length, Ok, Err}
 use denote.Ref.{Bor}
 use Rattle.httparse.specs.Grammar.{RequestHead}
 use Rattle.request_head.specs.declared.head.Fault.TheVariants.{BadRequest, Forbidden, NotFound, MethodNotAllowed, TooLarge}
 use Rattle.request_head.specs.Fields.{Fields, fields_of}
-use Rattle.request_head.specs.Heads.{longest_head, IsBeginning, ReadsHead}
+use Rattle.request_head.specs.Heads.{front_of, longest_head, IsBeginning, ReadsHead}
 use Rattle.request_head.specs.Judgement.{IsFaultOf, TakesHead}
 use Rattle.web_target.specs.declared.asked.Asked.{Asked}
 use Rattle.web_target.specs.declared.asked.Asked.TheVariants.{Watch}
@@ -17,10 +17,6 @@ use Rattle.web_door.specs.declared.request.Refusal.TheVariants.{Head, NoUpgrade,
 use Rattle.web_door.specs.declared.upgrade.NotUpgraded.{NotUpgraded}
 use Rattle.web_door.specs.declared.upgrade.NotUpgraded.TheVariants as cause
 use Rattle.web_door.specs.Upgrades.{IsAnswered}
-
--- as many of them as a head may have
-abbrev pub front_of : List ℕ → List ℕ
-front_of bytes = take longest_head bytes
 
 -- they begin with a head that is taken, and a rest, of which this holds
 abbrev pub Begin : List (Bor (List ℕ)) → List ℕ → (RequestHead → List ℕ → Type 0) → Type 0

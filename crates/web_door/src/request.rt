@@ -4,11 +4,11 @@ ghost use Rattle.std.specs.Prelude.{◌≡◌, ◌≤◌, length, take};
 ghost use Rattle.httparse.specs.Spans.{IsRequestWithin, span_bytes};
 ghost use Rattle.request_head.specs.Fields.{covered};
 ghost use Rattle.request_head.specs.Heads.{longest_head};
-ghost use Rattle.web_door.specs.Doors.{IsJudged, IsJudgedBy, IsRequests, IsViewers, front_of};
+ghost use Rattle.web_door.specs.Doors.{IsJudged, IsJudgedBy, IsRequests, IsViewers};
 
 use crate::upgrade::{NotUpgraded, answer_key};
 use httparse::spans::{EMPTY_HEADER_SPAN, HeaderSpan, RequestSpans};
-use request_head::{Fault, LONGEST_HEAD, MOST_FIELDS, Reading, read_head};
+use request_head::{Fault, MOST_FIELDS, Reading, front, read_head};
 use thiserror::Error;
 use web_target::{Asked, Beginning, asked_by};
 
@@ -68,18 +68,6 @@ fn judge_request(bytes: &[u8], request: &RequestSpans, spans: &[HeaderSpan]) -> 
         Some(Asked::Watch(beginning)) => judge_viewer(bytes, request, spans, beginning),
         Some(asked) => Judged::Asked(asked),
         None => Judged::Refused(Refusal::Head(Fault::NotFound)),
-    }
-}
-
-// As many bytes as a head may have.
-fn front(bytes: &[u8]) -> &[u8]
-    ensures front { result.now ≡ front_of bytes.now }
-    ensures length { length result.now ≤ longest_head }
-{
-    if bytes.len() <= LONGEST_HEAD {
-        bytes
-    } else {
-        &bytes[..LONGEST_HEAD]
     }
 }
 

@@ -1,6 +1,6 @@
 use Rattle.std.proofs.Common.{◌≤◌, ℕ, List, length, take, arith, sym}
 use Rattle.std.proofs.lemmas.List.{take_all, length-take-le}
-use Rattle.web_door.proofs.request.front.Goals as goal
+use Rattle.request_head.proofs.head.front.Goals as goal
 
 no_longer : (n : ℕ) (bytes : List ℕ) → n ≤ length bytes → length (take n bytes) ≤ n
 no_longer n bytes long = omega (arith, length-take-le n bytes long)
