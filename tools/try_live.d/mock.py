@@ -1,7 +1,7 @@
 #!/usr/bin/env python3
 """Serves the live page a session that is made up, to try the page without a recorder.
 
-    web/mock.py PORT [--size WIDTHxHEIGHT] [--past SECONDS] [--ended] [--slow]
+    tools/try_live.d/mock.py PORT [--size WIDTHxHEIGHT] [--past SECONDS] [--ended] [--slow]
 
 PORT 0 takes a free one. Prints `serving http://127.0.0.1:PORT/`, and serves until it is stopped. The
 session has random rectangles in all four encodings, and grows by ten updates a second. It began SECONDS
@@ -11,7 +11,7 @@ are cut at random, in pieces of 1 to 32,768 bytes, a twentieth of a second apart
 What tries the page steers it by GET, and each is answered in JSON:
 
     /mock/picture?message=N           the colours of the screen after N messages, as hexadecimal digits
-    /mock/log                         what came: connections, commands, requests, and how many answers
+    /mock/log                         what came: connections, orders, requests, and how many answers
     /mock/quiet, /mock/busy           the host sends nothing; it sends again
     /mock/end                         the host ends
     /mock/cut?seconds=S               each connection breaks off, and none is taken for S seconds
@@ -29,6 +29,7 @@ import importlib.util
 import json
 import os
 import random
+import re
 import socket
 import socketserver
 import struct
@@ -38,16 +39,22 @@ import time
 import urllib.parse
 
 HERE = os.path.dirname(os.path.realpath(__file__))
-LOADER = importlib.machinery.SourceFileLoader("try_page", f"{HERE}/../tools/try_page")
+ROOT = f"{HERE}/../.."
+LOADER = importlib.machinery.SourceFileLoader("try_page", f"{ROOT}/tools/try_page")
 try_page = importlib.util.module_from_spec(importlib.util.spec_from_loader("try_page", LOADER))
 LOADER.exec_module(try_page)
 
 POLICY = ("default-src 'none'; script-src 'self'; style-src 'self'; connect-src 'self'; img-src 'self' blob: data:; "
           "frame-ancestors 'none'")
-FILES = {"/": ("live.html", "text/html; charset=utf-8"), "/live.js": ("live.js", "text/javascript; charset=utf-8"),
-         "/live.css": ("live.css", "text/css; charset=utf-8")}
+# What is served: the constants of these files.
+FILES = {"/": ("live_page/src/page.rt", "PAGE", "text/html; charset=utf-8"),
+         "/painter.js": ("screen_script/src/painter.rt", "PAINTER", "text/javascript; charset=utf-8"),
+         "/live.js": ("live_page/src/page.rt", "SCRIPT", "text/javascript; charset=utf-8"),
+         "/live.css": ("live_page/src/page.rt", "STYLE", "text/css; charset=utf-8")}
 RATE, PAST_RATE = 10, 5
-BLOCK, KEY, EVERY, MOST_STRETCHES, MOST_MERGED = 8, 32, 1000, 100, 64
+BLOCK, KEY, MOST_STRETCHES, MOST_MERGED = 4, 32, 100, 64
+# How often is told by itself how the session stands, in seconds: at most, and at least.
+NEWS, PULSE = 1, 15
 NAME = "<b>&name"
 # What the page must ask for: 32 bits, the lowest byte first, red in the lowest one.
 FORMAT = bytes([0, 0, 0, 0, 32, 24, 0, 1, 0, 255, 0, 255, 0, 255, 0, 8, 16, 0, 0, 0])
@@ -231,17 +238,13 @@ class Recording:
 
     def told(self, block):
         """What `/times` answers of a block and those after it."""
-        stretches, number = [], block * BLOCK
-        while number < len(self.times) and not (len(stretches) > MOST_STRETCHES and number % BLOCK == 0):
-            moment, size = self.times[number], len(self.updates[number])
-            if stretches and stretches[-1]["time"] // EVERY == moment // EVERY:
-                stretches[-1]["updates"] += 1
-                stretches[-1]["bytes"] += size
-            else:
-                stretches.append({"time": moment, "message": number, "block": number // BLOCK, "updates": 1, "bytes": size})
-            number += 1
-        return {"length": self.length(), "messages": len(self.times), "width": self.wide, "height": self.high,
-                "every": EVERY, "next": number // BLOCK if number < len(self.times) else None, "stretches": stretches}
+        stretches, last = [], -(-len(self.times) // BLOCK)
+        for number in range(block, min(last, block + MOST_STRETCHES)):
+            message = number * BLOCK
+            count = min(BLOCK, len(self.times) - message)
+            stretches.append({"time": self.times[message], "message": message, "block": number, "updates": count})
+        return {"width": self.wide, "height": self.high, "messages": len(self.times), "length": self.length(),
+                "stretches": stretches, "next": block + len(stretches)}
 
 
 class World:
@@ -252,7 +255,7 @@ class World:
         self.is_quiet = False
         self.cut_until = self.stalled_until = 0
         self.refusal = None
-        self.watched, self.commands, self.requests, self.answers = [], [], 0, 0
+        self.watched, self.orders, self.requests, self.answers, self.looks = [], [], 0, 0, 0
 
     def remember(self, seconds, is_ended):
         moment = 0
@@ -280,52 +283,54 @@ class Viewer:
 
     def __init__(self, world, connection, stream, asked):
         self.world, self.recording, self.connection, self.stream = world, world.recording, connection, stream
-        self.position, self.needs_whole, self.is_requested, self.has_news = 0, True, False, False
-        self.is_paused, self.pace, self.longest_pause = False, 1.0, None
-        self.moment, self.moment_at = 0.0, time.monotonic()
+        self.position, self.needs_whole, self.is_requested = 0, True, False
+        self.pace, self.longest_pause, self.orders = 1.0, None, 0
+        self.told, self.told_at = None, 0
+        self.mode, self.time, self.begun = "live", 0, time.monotonic()
         self.closing, self.is_gone, self.input = None, False, b""
         if "message" in asked:
             self.mode, self.position = "message", int(asked["message"])
-        elif "at" in asked:
+        elif "pace" in asked:
             self.pace = int(asked["pace"]) / 1000
             self.longest_pause = int(asked["longest-pause"]) if "longest-pause" in asked else None
-            self.seek(int(asked["at"]))
+            self.begin("played", int(asked["at"]))
+        elif "at" in asked:
+            self.begin("still", int(asked["at"]))
         else:
-            self.mode = "live"
+            self.time = self.recording.length()
 
-    # What is shown next.
+    # What is shown next. Its time is that at which it begins, and then that of the last message.
+
+    def begin(self, mode, moment):
+        self.mode, self.time, self.needs_whole = mode, moment, True
+        self.origin, self.begun = moment, time.monotonic()
 
     def now(self):
-        passed = 0 if self.is_paused else 1000 * (time.monotonic() - self.moment_at) * self.pace
-        return self.moment + passed
-
-    def stand(self, moment):
-        self.moment, self.moment_at = moment, time.monotonic()
-
-    def seek(self, moment):
-        self.mode, self.is_paused, self.needs_whole = "played", False, True
-        self.stand(min(moment, self.recording.length()))
+        return self.origin + 1000 * (time.monotonic() - self.begun) * self.pace
 
     def skip(self):
         """Ends a pause that has lasted long enough."""
         times, now = self.recording.times, self.now()
-        is_skipped = self.longest_pause is not None and not self.is_paused and 0 < self.position < len(times)
+        is_skipped = self.longest_pause is not None and 0 < self.position < len(times)
         if is_skipped and times[self.position] > now > times[self.position - 1] + self.longest_pause:
-            self.stand(times[self.position])
+            self.origin, self.begun = times[self.position], time.monotonic()
 
     def due(self):
         """How many messages are to be shown, or None."""
         if not self.is_requested or time.monotonic() < self.world.stalled_until:
             return None
+        count = self.count()
+        return count if self.needs_whole or self.position < count <= len(self.recording.times) else None
+
+    def count(self):
         if self.mode == "message":
-            count = self.position + (0 if self.needs_whole else 1)
-            return count if count <= len(self.recording.times) else None
-        if self.mode == "played":
-            self.skip()
-        if self.is_paused and not self.needs_whole:
-            return None
-        count = len(self.recording.times) if self.mode == "live" else self.recording.count_at(self.now())
-        return count if self.needs_whole or count > self.position else None
+            return self.position + (0 if self.needs_whole else 1)
+        if self.mode == "live":
+            return len(self.recording.times)
+        if self.mode == "still":
+            return self.recording.count_at(self.time) if self.needs_whole else self.position
+        self.skip()
+        return self.recording.count_at(self.now())
 
     def answer(self, count):
         """The update that shows so many messages."""
@@ -335,10 +340,25 @@ class Viewer:
         rectangles = sum(struct.unpack(">H", update[2:4])[0] for update in updates)
         return struct.pack(">HH", 0, rectangles) + b"".join(update[4:] for update in updates)
 
+    def news(self):
+        return self.recording.length(), len(self.recording.viewers), self.recording.has_ended
+
     def status(self):
-        return json.dumps({"message": self.position, "time": self.recording.times[max(self.position, 1) - 1],
-                           "length": self.recording.length(), "watching": len(self.recording.viewers),
-                           "ended": self.recording.has_ended}).encode()
+        self.told, self.told_at = self.news(), time.monotonic()
+        return json.dumps({"message": self.position, "time": self.time, "length": self.told[0], "watching": self.told[1],
+                           "orders": self.orders, "ended": self.told[2]}, separators=(",", ":")).encode()
+
+    def is_news(self):
+        """Whether it is told how the session stands, without an update."""
+        if self.told is None:
+            return False
+        return time.monotonic() > self.told_at + (PULSE if self.news() == self.told else NEWS)
+
+    def go_to(self, count):
+        last = self.recording.times[max(count, 1) - 1]
+        if self.mode in ("live", "message") or not self.needs_whole:
+            self.time = last
+        self.position, self.needs_whole, self.is_requested = count, False, False
 
     # Writing.
 
@@ -359,14 +379,13 @@ class Viewer:
     def write_due(self):
         with self.recording.changed:
             count = self.due()
-            if count is None and not self.has_news:
+            if count is None and (not self.is_news() or time.monotonic() < self.world.stalled_until):
                 self.recording.changed.wait(0.02)
                 return
             update = None if count is None else self.answer(count)
             if count is not None:
-                self.position, self.needs_whole, self.is_requested = count, False, False
+                self.go_to(count)
                 self.world.answers += 1
-            self.has_news = False
             status = self.status()
         self.write(TEXT, status)
         if update:
@@ -399,13 +418,13 @@ class Viewer:
     # Reading.
 
     def take(self, count):
-        """The next bytes of the page's stream; commands in between are done."""
+        """The next bytes of the page's stream; orders in between are obeyed."""
         while len(self.input) < count:
             kind, payload = read_frame(self.stream)
             if kind == BINARY:
                 self.input += payload
             elif kind == TEXT:
-                self.command(json.loads(payload))
+                self.obey(json.loads(payload))
             elif kind == CLOSE:
                 raise ConnectionError("closed")
         taken, self.input = self.input[:count], self.input[count:]
@@ -437,25 +456,39 @@ class Viewer:
         else:
             raise ValueError(f"unknown message {kind}")
 
-    def command(self, told):
+    def obey(self, told):
         with self.recording.changed:
-            self.world.commands.append(told)
+            self.world.orders.append(told)
+            self.orders += 1
             (name, value), = told.items()
             if name == "at":
-                self.seek(value)
+                self.begin("still" if self.mode == "still" else "played", value)
+            elif name == "message":
+                self.mode, self.position, self.needs_whole = "message", value, True
             elif name == "live":
-                self.mode, self.is_paused, self.needs_whole = "live", False, True
-            elif name in ("pause", "pace"):
-                self.stand(self.now())
-                if name == "pause":
-                    self.is_paused = value
-                else:
-                    self.pace = value / 1000
-            elif name == "longest-pause":
-                self.longest_pause = value
+                self.mode, self.time, self.needs_whole = "live", self.recording.length(), True
+            elif name in ("pause", "pace", "longest-pause"):
+                self.steer(name, value)
             else:
-                raise ValueError(f"unknown command {name}")
+                raise ValueError(f"unknown order {name}")
             self.recording.changed.notify_all()
+
+    def steer(self, name, value):
+        if name == "pause" and (value or self.mode == "still"):
+            self.begin("still" if value else "played", self.time)
+        elif name == "pace":
+            self.pace = value / 1000
+        elif name == "longest-pause":
+            self.longest_pause = value
+        if self.mode == "played":
+            self.begin("played", self.time)
+        self.needs_whole = True
+
+
+def constant(path, name):
+    """A text of the program."""
+    with open(f"{ROOT}/crates/{path}", encoding="utf-8") as file:
+        return re.search(rf'pub const {name}: &str =\s*r##"(.*?)"##;', file.read(), re.DOTALL)[1]
 
 
 class Handler(http.server.BaseHTTPRequestHandler):
@@ -487,11 +520,11 @@ class Handler(http.server.BaseHTTPRequestHandler):
         if time.monotonic() < self.world.cut_until:
             self.close_connection = True
         elif url.path in FILES:
-            name, media = FILES[url.path]
-            with open(f"{HERE}/{name}", "rb") as file:
-                self.reply(file.read(), media)
+            path, name, media = FILES[url.path]
+            self.reply(constant(path, name).encode(), media)
         elif url.path == "/times":
             with self.world.recording.changed:
+                self.world.looks += 1
                 told = self.world.recording.told(int(asked["from"]))
             self.reply_json(told)
         elif url.path == "/watch":
@@ -528,8 +561,8 @@ class Handler(http.server.BaseHTTPRequestHandler):
 
     def mock_log(self, _):
         world = self.world
-        return {"watched": world.watched, "commands": world.commands, "requests": world.requests,
-                "answers": world.answers, "length": world.recording.length(), "messages": len(world.recording.times),
+        return {"watched": world.watched, "orders": world.orders, "requests": world.requests,
+                "answers": world.answers, "looks": world.looks, "length": world.recording.length(), "messages": len(world.recording.times),
                 "watching": len(world.recording.viewers)}
 
     def mock_quiet(self, _):
@@ -540,8 +573,6 @@ class Handler(http.server.BaseHTTPRequestHandler):
 
     def mock_end(self, _):
         self.world.recording.has_ended = True
-        for viewer in list(self.world.recording.viewers):
-            viewer.has_news = True
 
     def mock_cut(self, asked):
         self.world.cut_until = time.monotonic() + float(asked.get("seconds", 0))

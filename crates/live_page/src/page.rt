@@ -86,10 +86,15 @@ const FORMAT = [32, 24, 0, 1, 0, 255, 0, 255, 0, 255, 0, 8, 16, 0, 0, 0];
 // CopyRect, Hextile, RRE, Raw.
 const ENCODINGS = [1, 5, 2, 0];
 
+// How long an answer may take, and how long nothing may come, in milliseconds: the recorder tells how
+// the session stands each 15 seconds at least.
+const LONGEST_ANSWER = 10000, LONGEST_SILENCE = 40000;
+
 // A session of RFB 3.8 (RFC 6143) over a WebSocket. Its owner is told what comes: `opened`, `heard`,
 // `glimpsed`, `painted`; and how it ends: `closed` or `failed`.
 class Session {
-  // The recorder shows what is `live`, what is `played` from a moment on, or what is `stepped` through.
+  // The recorder shows what is `live`, what is `played` from a moment on, the screen that stands
+  // `still` at one, or what is `stepped` through.
   constructor(query, mode, owner) {
     this.mode = mode;
     this.owner = owner;
@@ -98,25 +103,46 @@ class Session {
     this.status = null;
     this.hasPainted = false;
     this.isAsked = false;
+    this.isOver = false;
+    // How many orders were given, how many of them are obeyed, and those that wait for the handshake.
+    this.orders = this.obeyed = 0;
     this.unsent = [];
-    this.heardAt = performance.now();
+    // How the recorder plays, unless it is told otherwise.
+    this.pace = 1000;
+    this.longestPause = null;
+    this.heardAt = this.askedAt = performance.now();
     this.steps = this.run();
     const address = new URL('watch' + query, location.href);
     address.protocol = address.protocol.replace('http', 'ws');
     this.socket = new WebSocket(address);
     this.socket.binaryType = 'arraybuffer';
     this.socket.onmessage = ({ data }) => this.receive(data);
-    this.socket.onclose = ({ code, reason }) => owner.closed(code, reason);
+    this.socket.onclose = ({ code, reason }) => {
+      this.isOver = true;
+      owner.closed(code, reason);
+    };
   }
   end() {
+    this.isOver = true;
     this.socket.onmessage = this.socket.onclose = null;
     this.socket.close();
   }
   send(...bytes) { this.socket.send(new Uint8Array(bytes)); }
-  // Commands wait until the handshake is over.
-  tell(command) {
-    if (this.painter) this.socket.send(JSON.stringify(command));
-    else this.unsent.push(command);
+  tell(order) { this.socket.send(JSON.stringify(order)); }
+  // Orders wait until the handshake is over.
+  order(...orders) {
+    this.orders += orders.length;
+    this.askedAt = performance.now();
+    if (this.painter) orders.forEach(order => this.tell(order)); else this.unsent.push(...orders);
+    this.ask();
+  }
+  // The orders by which the recorder plays so from now on, if it doesn't yet.
+  ordersToPlay(pace, longestPause) {
+    const orders = [];
+    if (pace !== this.pace) orders.push({ pace });
+    if (longestPause !== this.longestPause) orders.push({ 'longest-pause': longestPause });
+    Object.assign(this, { pace, longestPause });
+    return orders;
   }
   // Asks for the next update, unless that was done, or nobody looks.
   ask() {
@@ -124,6 +150,14 @@ class Session {
     const { width, height } = this.painter;
     this.send(3, this.hasPainted ? 1 : 0, 0, 0, 0, 0, width >> 8, width & 255, height >> 8, height & 255);
     this.isAsked = true;
+    this.askedAt = performance.now();
+  }
+  // Whether the connection is lost, whatever the browser says: an answer that must come, or any sign
+  // of life, has taken too long. An update needn't come while the host is quiet.
+  get isOverdue() {
+    const isDue = !this.painter || this.isAsked && (!this.hasPainted || this.obeyed < this.orders);
+    const longest = isDue ? LONGEST_ANSWER : LONGEST_SILENCE;
+    return !this.isOver && performance.now() > Math.max(this.heardAt, this.askedAt) + longest;
   }
   receive(data) {
     this.heardAt = performance.now();
@@ -148,11 +182,12 @@ class Session {
       if (type !== 0) throw new Error('unknown message ' + type);
       const { status } = this, update = this.painter.update(this.input);
       while (!update.next().done) {
-        this.owner.glimpsed(this.painter);
+        this.owner.glimpsed(this.painter, status);
         yield;
       }
       this.isAsked = false;
       this.hasPainted = true;
+      this.obeyed = status.orders;
       this.owner.painted(this.painter, status);
     }
   }
@@ -178,7 +213,7 @@ class Session {
     this.send(2, 0, 0, ENCODINGS.length, ...ENCODINGS.flatMap(encoding => [0, 0, 0, encoding]));
     this.painter = new Painter(width, height);
     this.owner.opened(this.painter, name);
-    this.unsent.forEach(command => this.tell(command));
+    this.unsent.forEach(order => this.tell(order));
     this.ask();
   }
   *text() {
@@ -247,6 +282,10 @@ class Picture {
     this.pen.putImageData(this.image, 0, 0, left, top, right - left, bottom - top);
     this.putAt = performance.now();
   }
+  putAll() {
+    this.pen.putImageData(this.image, 0, 0);
+    this.putAt = performance.now();
+  }
   glimpse(painter) {
     if (performance.now() > this.putAt + GLIMPSE) this.put(painter);
   }
@@ -261,9 +300,13 @@ class Picture {
   }
 }
 
+// How a connection ends after which another one is tried: it goes away, it is lost, there is no seat.
+const RETRIED = [1001, 1006, 4001];
+
 // What is watched: live, or from a moment on. It keeps that over connections that come and go.
 class Player {
-  constructor() {
+  constructor(overview) {
+    this.overview = overview;
     this.picture = new Picture(at('screen'));
     this.isLive = true;
     this.isPaused = false;
@@ -279,7 +322,8 @@ class Player {
     this.rightAt = { wall: 0, moment: 0 };
     // What the recorder said of the screen that is shown.
     this.shown = null;
-    // The moment that the recorder was asked for, and the one to ask for after it.
+    // What the recorder was asked for, by how many orders: a moment, or null for a message. And the
+    // moment to ask for after it.
     this.sought = null;
     this.wanted = null;
   }
@@ -289,10 +333,12 @@ class Player {
   // Connects to what is to be shown.
   watch() {
     this.wanted = null;
-    this.sought = this.isLive ? null : this.moment;
+    this.sought = this.isLive ? null : { moment: this.moment, orders: 0 };
     if (this.isLive) return this.connect('', 'live');
+    if (this.isPaused) return this.connect('?at=' + this.moment, 'still');
     const pause = longestPause();
     this.connect(`?at=${this.moment}&pace=${pace()}` + (pause === null ? '' : '&longest-pause=' + pause), 'played');
+    Object.assign(this.session, { pace: pace(), longestPause: pause });
   }
   connect(query, mode) {
     this.isLost = false;
@@ -302,13 +348,10 @@ class Player {
   }
   closed(code, reason) {
     this.isConnected = false;
-    const isLost = code === 1001 || code === 1006;
     const isSaid = reason && (code === 1000 || code >= 4000);
-    const text = isLost ? 'The connection is lost.' : isSaid ? sentence(reason)
+    const text = code === 1001 || code === 1006 ? 'The connection is lost.' : isSaid ? sentence(reason)
       : `The recorder closed the connection: ${reason || 'code ' + code}.`;
-    // Whoever was shown something may be turned away until the recorder misses the connection before.
-    if (isLost || code >= 4000 && this.shown) this.lose(text);
-    else complain('connection', text, true);
+    if (RETRIED.includes(code)) this.lose(text); else complain('connection', text, true);
     showState(this);
   }
   failed(message) {
@@ -324,12 +367,13 @@ class Player {
   // Goes on after a loss, or after the page was hidden.
   goOn() {
     if (document.hidden) return;
-    if (this.isLost) this.watch();
-    else if (this.session.mode !== 'stepped' || !this.session.hasPainted) this.session.ask();
+    if (this.isLost) return this.watch();
+    if (this.session.mode !== 'stepped' || this.sought) this.session.ask();
+    this.overview.follow(this.length, this);
   }
   // Nothing else is answered either: if nothing came since, the connection is lost, whatever the browser says.
   missed(since) {
-    if (!this.isConnected || this.session.heardAt > since) return;
+    if (this.session.isOver || this.session.heardAt > since) return;
     this.session.end();
     this.closed(1006);
   }
@@ -347,102 +391,113 @@ class Player {
     say('watching', watching === 1 ? '1 viewer' : watching + ' viewers');
     const wasEnded = this.hasEnded;
     this.hasEnded = ended;
+    if (this.isLive) this.moment = length;
     if (ended && this.isLive) this.stopLive(wasEnded === null);
     if (ended !== wasEnded) showState(this); else showClock(this);
+    this.overview.follow(length, this);
   }
   // Nothing is live any more: the last screen stays. A recording that had ended before the page was
   // opened begins at its first one.
   stopLive(isAtFirst) {
     this.isLive = false;
     this.isPaused = true;
-    this.moment = isAtFirst ? 0 : this.length;
-    if (isAtFirst) this.watch();
+    if (isAtFirst) this.want(0);
   }
   // Shows a long update as it comes, but no half of a screen over another that is whole.
-  glimpsed(painter) {
-    const isNext = this.session.hasPainted && this.sought === null;
-    if (isNext || !this.shown) this.picture.glimpse(painter);
+  glimpsed(painter, status) {
+    const isNext = this.session.hasPainted && !this.sought;
+    if (isNext || !this.shown && !this.isOld(status)) this.picture.glimpse(painter);
   }
+  // Whether the recorder said this before it knew of what is sought.
+  isOld({ orders }) { return this.sought !== null && orders < this.sought.orders; }
+  // What is old is painted, and isn't shown.
   painted(painter, status) {
-    // What isn't a whole screen was sent before the recorder knew of the moment that is sought.
-    if (this.sought === null || painter.area >= painter.width * painter.height) this.show(painter, status);
-    if (this.session.mode !== 'stepped') this.session.ask();
+    const isOld = this.isOld(status);
+    if (!isOld) this.show(painter, status);
+    if (isOld || this.session.mode !== 'stepped') this.session.ask();
   }
   show(painter, status) {
-    const isNew = !this.isConnected, isSought = this.sought !== null;
-    this.picture.put(painter);
+    const isNew = !this.isConnected, { sought } = this;
+    if (sought || isNew) this.picture.putAll(); else this.picture.put(painter);
     at('screen').dataset.message = status.message;
     this.isConnected = true;
     this.attempts = 0;
     this.shown = status;
     if (isNew) forgive('connection');
-    if (isSought) this.arrive(status, isNew); else this.stand(status.time);
+    if (sought) this.arrive(status);
+    else if (['played', 'stepped'].includes(this.session.mode)) this.stand(status.time);
     if (this.isPaused) this.acted();
-    else if (isNew || isSought) showState(this);
+    else if (isNew || sought) showState(this);
     else showClock(this);
     this.catchUp(status);
   }
-  arrive({ time }, isNew) {
-    // While the connection was made, the recorder has played on.
-    if (isNew && this.isPaused && time > this.sought) this.wanted ??= this.sought;
-    const to = Math.max(time, Math.min(this.sought, this.length));
+  arrive({ time }) {
+    const { moment } = this.sought;
     this.sought = null;
-    if (this.wanted !== null) return this.send(this.wanted);
-    this.stand(to);
-    if (this.isPaused) this.session.tell({ pause: true });
+    if (this.wanted !== null) this.send(this.wanted);
+    else this.stand(this.isLive ? this.length : Math.max(time, moment ?? 0));
   }
   // The clock is right.
   stand(moment) {
-    this.moment = moment;
+    this.moment = Math.min(moment, this.length);
     this.rightAt = { wall: performance.now(), moment };
   }
   // Whoever has seen all is live, or at the end.
   catchUp({ time }) {
-    if (this.isLive || this.isPaused || this.sought !== null || time < this.length) return;
+    if (this.isLive || this.isPaused || this.sought || time < this.length) return;
     if (this.hasEnded) this.stop(); else this.goLive();
   }
   // Until something comes, the clock goes on by itself.
   tick() {
-    if (this.isLive || this.isPaused || this.sought !== null || !this.isConnected) return;
+    if (this.session.isOverdue) return this.missed(performance.now());
+    if (this.isLive || this.isPaused || this.sought || !this.isConnected) return;
     const { wall, moment } = this.rightAt, passed = performance.now() - wall;
     const to = moment + (longestPause() === null ? passed : Math.min(passed, LONGEST_PAUSE)) * speed();
     this.moment = Math.min(Math.round(to), this.length);
-    if (this.hasEnded && this.moment === this.length) this.stop(); else showClock(this);
+    showClock(this);
+    this.catchUp({ time: this.moment });
   }
 
   // -- What is wanted.
 
-  tellPace() {
-    this.session.tell({ pace: pace() });
-    this.session.tell({ 'longest-pause': longestPause() });
-    this.stand(this.moment);
-  }
+  // Has the recorder show this moment, and play on from it unless it is paused. It goes on standing
+  // still if it does.
   send(to) {
-    this.sought = to;
+    const { session, isPaused } = this, wasStill = session.mode === 'still';
+    const orders = isPaused ? [] : session.ordersToPlay(pace(), longestPause());
+    if (isPaused && !wasStill) orders.push({ pause: true });
+    orders.push({ at: to });
+    if (!isPaused && wasStill) orders.push({ pause: false });
+    session.mode = isPaused ? 'still' : 'played';
+    session.order(...orders);
+    this.sought = { moment: to, orders: session.orders };
     this.wanted = null;
-    if (this.session.mode !== 'played') this.tellPace();
-    this.session.mode = 'played';
-    this.session.tell({ at: to });
-    this.session.ask();
   }
   // One moment is asked for at a time; after it the one that was wanted last.
+  want(to) {
+    this.moment = Math.round(Math.min(Math.max(to, 0), this.length));
+    if (this.sought) this.wanted = this.moment; else this.send(this.moment);
+  }
   seek(to) {
     if (to >= this.length && !this.hasEnded) return this.goLive();
     this.isLive = false;
-    this.moment = Math.round(Math.min(Math.max(to, 0), this.length));
-    if (this.sought === null) this.send(this.moment); else this.wanted = this.moment;
+    this.want(to);
     this.acted();
   }
   goLive() {
     if (this.hasEnded) return this.seek(this.length);
     this.isLive = true;
     this.isPaused = false;
-    this.sought = this.wanted = null;
+    this.wanted = null;
     this.moment = this.length;
     this.session.mode = 'live';
-    this.session.tell({ live: true });
-    this.session.ask();
+    this.session.order({ live: true });
+    this.sought = { moment: null, orders: this.session.orders };
     this.acted();
+  }
+  // What is played goes on at the new pace, from the moment that the clock shows.
+  changePace() {
+    if (!this.isLive && !this.isPaused) this.want(this.moment);
   }
   turn() {
     if (this.isPaused) this.play(); else this.stop();
@@ -450,31 +505,30 @@ class Player {
   stop() {
     this.isLive = false;
     this.isPaused = true;
-    if (this.sought === null) this.session.tell({ pause: true });
+    this.want(this.moment);
     this.acted();
   }
   play() {
     this.isPaused = false;
-    if (this.hasEnded && this.moment >= this.length) return this.seek(0);
-    if (this.sought === null) this.playOn();
+    if (this.hasEnded && this.moment >= this.length) this.moment = 0;
+    this.want(this.moment);
     this.acted();
-  }
-  playOn() {
-    if (this.session.mode !== 'played') return this.send(this.moment);
-    this.session.tell({ pause: false });
-    this.stand(this.moment);
   }
   // Changes are looked at one by one, so it stops.
   change(isNext) {
-    if (!this.session.hasPainted || this.sought !== null) return;
-    const { message, time } = this.shown;
-    if (isNext ? time >= this.length : message <= 1 && this.moment <= time) return;
+    const { session, shown } = this;
+    if (!session.hasPainted || this.sought) return;
+    if (isNext ? this.isLive || shown.time >= this.length : shown.message <= 1) return;
     this.isLive = false;
     this.isPaused = true;
-    if (!isNext && this.moment > time) return this.seek(time);
-    if (isNext && this.session.mode === 'stepped') this.session.ask();
-    else this.connect('?message=' + (message + (isNext ? 1 : -1)), 'stepped');
+    if (isNext && session.mode === 'stepped') session.ask();
+    else this.step(shown.message + (isNext ? 1 : -1));
     showState(this);
+  }
+  step(message) {
+    this.session.mode = 'stepped';
+    this.session.order({ message });
+    this.sought = { moment: null, orders: this.session.orders };
   }
   acted() {
     showState(this);
@@ -488,7 +542,7 @@ class Player {
     history.replaceState(null, '', address);
   }
   save() {
-    if (this.shown) this.picture.save(`${document.title} ${clockOf(this.shown.time).replaceAll(':', '-')}.png`);
+    if (this.shown) this.picture.save(`${document.title} ${clockOf(this.moment).replaceAll(':', '-')}.png`);
   }
 }
 
@@ -519,72 +573,111 @@ function stateOf({ shown, isLive, isPaused }) {
   return isLive ? 'Live' : isPaused ? 'Paused' : 'Playing';
 }
 
-// How often is looked for what came since, and how long an answer may take, in milliseconds.
-const LOOK = 5000, LONGEST_ANSWER = 10000;
+// How often is looked for what came since, at most, in milliseconds.
+const LOOK = 5000;
+// In how many parts of the recording updates are counted.
+const PARTS = 4096;
 
-// What came when, over the whole recording.
+// The recorder answers, and tells nothing.
+class Refusal extends Error {}
+
+const timesFrom = block => fetch('times?from=' + block, { signal: AbortSignal.timeout(LONGEST_ANSWER) });
+
+// How many updates came when, over the whole recording: in each of as many milliseconds as `every`.
 class Overview {
   constructor() {
-    this.stretches = [];
-    this.from = 0;
+    this.counts = new Float64Array(PARTS);
     this.every = 1;
+    // The block that is asked for next; how long the recording was when that was asked last, and when.
+    this.next = 0;
+    this.seen = -1;
+    this.lookedAt = -LOOK;
     this.length = 0;
+    this.isFollowing = false;
   }
-  // Takes all that came, in as many answers as that needs.
+  // Looks for what came since, until it has seen a recording that is so long.
+  async follow(length, player) {
+    this.length = Math.max(this.length, length);
+    if (this.isFollowing) return;
+    this.isFollowing = true;
+    while (this.seen < this.length && !document.hidden && !player.session.isOver) {
+      await new Promise(done => setTimeout(done, this.lookedAt + LOOK - performance.now()));
+      if (!await this.look(player)) break;
+    }
+    this.isFollowing = false;
+  }
+  // Whether that was told. If there was no answer, the connection may be lost.
+  async look(player) {
+    const began = this.lookedAt = performance.now();
+    try {
+      await this.load();
+      return true;
+    } catch (error) {
+      if (error instanceof Refusal) complain('times', error.message); else player.missed(began);
+      return false;
+    }
+  }
+  // Takes all that had come when it was first answered, in as many answers as that needs.
   async load() {
-    for (let from = this.from; from !== null;) {
-      const answer = await fetch('times?from=' + from, { signal: AbortSignal.timeout(LONGEST_ANSWER) });
-      if (!answer.ok) return complain('times', `What came when isn't known: ${(await answer.text()).trim()}.`);
-      const told = await answer.json();
-      this.add(from, told);
-      from = told.next;
+    for (let until = null, last = -1; until === null || last < until;) {
+      const answer = await timesFrom(this.next);
+      if (!answer.ok) throw new Refusal(`What came when isn't known: ${(await answer.text()).trim()}.`);
+      const { length, stretches, next } = await answer.json();
+      until ??= length;
+      last = stretches.length === 0 ? until : stretches.at(-1).time;
+      stretches.forEach(({ time, updates }) => this.count(time, updates));
+      this.next = next;
+      this.seen = Math.max(this.seen, length);
+      this.draw();
     }
     forgive('times');
   }
-  // What is told of a block again, and of those after it, is told anew.
-  add(from, { length, every, next, stretches }) {
-    this.stretches = this.stretches.filter(({ block }) => block < from).concat(stretches);
-    this.from = next ?? this.stretches.at(-1)?.block ?? 0;
-    this.every = every;
-    this.length = length;
-    this.draw();
+  count(time, updates) {
+    while (time >= PARTS * this.every) this.widen();
+    this.counts[Math.floor(time / this.every)] += updates;
+  }
+  // Each part is twice as long.
+  widen() {
+    const { counts } = this;
+    for (let part = 0; part < PARTS; part++) counts[part] = part < PARTS / 2 ? counts[2 * part] + counts[2 * part + 1] : 0;
+    this.every *= 2;
+  }
+  // The updates in each of so many columns, at most: none is shorter than a second.
+  columns(most) {
+    const wide = Math.max(1, Math.min(most, Math.ceil(this.seen / 1000)));
+    const columns = new Float64Array(wide), each = this.every * wide / Math.max(1, this.seen);
+    this.counts.forEach((updates, part) => {
+      if (updates > 0) columns[Math.min(wide - 1, Math.floor(part * each))] += updates;
+    });
+    return columns;
   }
   draw() {
-    const canvas = at('overview'), pen = canvas.getContext('2d'), wide = canvas.width / Math.max(1, this.length);
-    const most = this.stretches.reduce((most, { bytes }) => Math.max(most, bytes), 1);
+    const canvas = at('overview'), pen = canvas.getContext('2d'), columns = this.columns(canvas.width);
+    const most = columns.reduce((most, some) => Math.max(most, some), 1), wide = canvas.width / columns.length;
     pen.clearRect(0, 0, canvas.width, canvas.height);
     pen.fillStyle = getComputedStyle(document.documentElement).getPropertyValue('--mark');
-    for (const { time, bytes } of this.stretches) {
-      const high = Math.max(3, canvas.height * Math.log1p(bytes) / Math.log1p(most));
-      pen.fillRect(time * wide, canvas.height - high, Math.max(1, this.every * wide), high);
-    }
+    columns.forEach((updates, x) => {
+      if (updates === 0) return;
+      const high = Math.max(3, canvas.height * Math.log1p(updates) / Math.log1p(most));
+      pen.fillRect(x * wide, canvas.height - high, wide, high);
+    });
   }
 }
 
-// Looks at what came, and by that if the recorder can be reached.
-async function look(overview, player) {
-  if (document.hidden) return;
+// Looks if the recorder can be reached at all, when the browser's network has come or gone.
+async function probe(player) {
   const began = performance.now();
   try {
-    await overview.load();
-    player.length = Math.max(player.length, overview.length);
-    showClock(player);
+    await timesFrom(player.overview.next);
   } catch {
     player.missed(began);
-  }
-}
-
-async function lookOn(overview, player) {
-  for (;;) {
-    await look(overview, player);
-    await new Promise(done => setTimeout(done, LOOK));
   }
 }
 
 // The moment that the address names, or null.
 function linked() {
   const found = /^#at=(\d{1,15})$/.exec(location.hash);
-  return found && Number(found[1]);
+  return found && Math.min(Number(found[1]), 2 ** 32 - 1);
 }
 
 function follow(player) {
@@ -597,7 +690,7 @@ function follow(player) {
 function faster(player, step) {
   const speed = at('speed'), index = speed.selectedIndex + step;
   if (index >= 0 && index < speed.options.length) speed.selectedIndex = index;
-  player.tellPace();
+  player.changePace();
 }
 
 function fill() {
@@ -639,8 +732,8 @@ function listen(player) {
   on('live', 'click', () => player.goLive());
   on('before', 'click', () => player.change(false));
   on('next', 'click', () => player.change(true));
-  on('speed', 'change', () => player.tellPace());
-  on('skip', 'change', () => player.tellPace());
+  on('speed', 'change', () => player.changePace());
+  on('skip', 'change', () => player.changePace());
   on('link', 'click', () => player.mark(player.address));
   on('save', 'click', () => player.save());
   on('full', 'click', fill);
@@ -649,19 +742,18 @@ function listen(player) {
 }
 
 function start() {
-  const player = new Player(), overview = new Overview(), moment = linked();
+  const overview = new Overview(), player = new Player(overview), moment = linked();
   if (moment !== null) Object.assign(player, { isLive: false, isPaused: true, moment });
   player.watch();
   listen(player);
   listenToKeys(player);
   addEventListener('hashchange', () => follow(player));
-  addEventListener('online', () => player.goOn());
-  addEventListener('offline', () => look(overview, player));
+  addEventListener('online', () => player.isLost ? player.goOn() : probe(player));
+  addEventListener('offline', () => probe(player));
   document.addEventListener('visibilitychange', () => player.goOn());
   matchMedia('(prefers-color-scheme: dark)').addEventListener('change', () => overview.draw());
   const isCalm = matchMedia('(prefers-reduced-motion: reduce)').matches;
   setInterval(() => player.tick(), isCalm ? 1000 : 100);
-  lookOn(overview, player);
 }
 
 start();
