@@ -18,67 +18,96 @@ fn played(time: u32, pace: Pace, longest_pause: Option<u32>) -> Showing {
     })
 }
 
-// Whether an order of who is at the time 50, and is shown each of these, is followed by these.
-fn leads_to(order: Order, pace: Pace, before: &[Showing; 4], after: &[Steering; 4]) -> bool {
-    for (showing, expected) in before.iter().zip(after) {
-        let mut steering = Steering {
-            showing: *showing,
-            pace,
-            longest_pause: None,
-        };
-        steering.take(order, 50);
-        if steering != *expected {
-            return false;
-        }
-    }
-    true
+// What who is at the time 50, and is shown this, is shown after an order: at this pace, with this
+// longest pause.
+fn follows(
+    showing: Showing,
+    order: Order,
+    after: Showing,
+    pace: Pace,
+    longest_pause: Option<u32>,
+) -> Result<bool, Fail> {
+    let mut steering = Steering {
+        showing,
+        pace: pace_of(1000)?,
+        longest_pause: None,
+    };
+    steering.take(order, 50);
+    let expected = Steering {
+        showing: after,
+        pace,
+        longest_pause,
+    };
+    Ok(steering == expected)
 }
 
 #[test]
-fn orders_are_followed(rt: HostRuntime) -> Result<(), Fail> {
-    let (normal, fast) = (pace_of(1000)?, pace_of(2000)?);
-    let before = [
+fn viewers_go_elsewhere(rt: HostRuntime) -> Result<(), Fail> {
+    let normal = pace_of(1000)?;
+    // To a time: who stands still stands still there, too.
+    for (showing, after) in [
+        (Showing::Live, played(3, normal, None)),
+        (Showing::After(7), played(3, normal, None)),
+        (played(5, normal, None), played(3, normal, None)),
+        (Showing::Still(9), Showing::Still(3)),
+    ] {
+        assert!(rt; follows(showing, Order::At(3), after, normal, None)?);
+    }
+    // On: from where it stands still.
+    for (showing, after) in [
+        (Showing::Live, Showing::Live),
+        (Showing::After(7), Showing::After(7)),
+        (played(5, normal, None), played(5, normal, None)),
+        (Showing::Still(9), played(9, normal, None)),
+    ] {
+        assert!(rt; follows(showing, Order::Pause(false), after, normal, None)?);
+    }
+    Ok(())
+}
+
+#[test]
+fn some_orders_are_followed_by_all(rt: HostRuntime) -> Result<(), Fail> {
+    let normal = pace_of(1000)?;
+    for showing in [
         Showing::Live,
         Showing::After(7),
         played(5, normal, None),
         Showing::Still(9),
-    ];
-    let [live, after, _, still] = before;
-    let to = played(3, normal, None);
-    let rows = [
-        // Who stands still stands still at that time, too.
-        (Order::At(3), normal, None, [to, to, to, Showing::Still(3)]),
-        (Order::After(4), normal, None, [Showing::After(4); 4]),
-        // What is played goes on at its time; it begins so, later, if it isn't played now.
-        (
-            Order::Pace(fast),
-            fast,
-            None,
-            [live, after, played(50, fast, None), still],
-        ),
-        (
-            Order::LongestPause(Some(8)),
-            normal,
-            Some(8),
-            [live, after, played(50, normal, Some(8)), still],
-        ),
-        (Order::Pause(true), normal, None, [Showing::Still(50); 4]),
-        // Only who stands still goes on.
-        (
-            Order::Pause(false),
-            normal,
-            None,
-            [live, after, before[2], played(9, normal, None)],
-        ),
-        (Order::Live, normal, None, [live; 4]),
-    ];
-    for (order, pace, longest_pause, shown) in rows {
-        let expected = shown.map(|showing| Steering {
-            showing,
-            pace,
-            longest_pause,
-        });
-        assert!(rt; leads_to(order, normal, &before, &expected));
+    ] {
+        assert!(rt;
+            follows(
+                showing,
+                Order::Pause(true),
+                Showing::Still(50),
+                normal,
+                None
+            )?
+        );
+        assert!(rt; follows(showing, Order::Live, Showing::Live, normal, None)?);
+        assert!(rt; follows(showing, Order::After(4), Showing::After(4), normal, None)?);
+    }
+    Ok(())
+}
+
+#[test]
+fn what_is_played_goes_on_in_its_new_time(rt: HostRuntime) -> Result<(), Fail> {
+    let (normal, fast) = (pace_of(1000)?, pace_of(2000)?);
+    for (showing, after) in [
+        (Showing::Live, Showing::Live),
+        (Showing::After(7), Showing::After(7)),
+        (played(5, normal, None), played(50, fast, None)),
+        (Showing::Still(9), Showing::Still(9)),
+    ] {
+        assert!(rt; follows(showing, Order::Pace(fast), after, fast, None)?);
+    }
+    for (showing, after) in [
+        (Showing::Live, Showing::Live),
+        (Showing::After(7), Showing::After(7)),
+        (played(5, normal, None), played(50, normal, Some(8))),
+        (Showing::Still(9), Showing::Still(9)),
+    ] {
+        let order = Order::LongestPause(Some(8));
+        assert!(rt; follows(showing, order, after, normal, Some(8))?);
     }
     Ok(())
 }
