@@ -73,7 +73,7 @@ fn answers_are_framed(rt: HostRuntime) -> Result<(), Fail> {
 
 #[test]
 fn faults_end_a_connection(rt: HostRuntime) -> Result<(), Fail> {
-    let refused: [(&[u8], Fault); 10] = [
+    let refused: [(&[u8], Fault); 9] = [
         // Section 5.1: a client's frame is masked.
         (b"\x81\x05\x48\x65\x6c\x6c\x6f", Fault::Protocol),
         // Section 5.2: a reserved bit, and a reserved opcode.
@@ -82,9 +82,8 @@ fn faults_end_a_connection(rt: HostRuntime) -> Result<(), Fail> {
         // Section 5.4: nothing goes on that hasn't begun, and nothing begins within another.
         (b"\x80\x80\0\0\0\0", Fault::Protocol),
         (b"\x01\x80\0\0\0\0\x81\x80\0\0\0\0", Fault::Protocol),
-        // Section 5.5: a ping is one frame, of at most 125 bytes.
+        // Section 5.5: a ping is one frame.
         (b"\x09\x80\0\0\0\0", Fault::Protocol),
-        (b"\x89\xfe\0\x7e\0\0\0\0", Fault::Protocol),
         // Section 8.1, and RFC 3629, section 3: an octet that is in no UTF-8.
         (b"\x81\x81\0\0\0\0\xff", Fault::NotUtf8),
         // One byte more than is taken.
@@ -114,6 +113,16 @@ fn the_longest_frame_is_taken(rt: HostRuntime) -> Result<(), Fail> {
     bytes.resize(14 + LONGEST_FRAME, b'x')?;
     let (heard, end) = heard(&rt, &bytes, 4096)?;
     assert!(rt; end.is_ok() && heard.payload.len() == 65_536);
+    Ok(())
+}
+
+#[test]
+fn a_ping_is_short(rt: HostRuntime) -> Result<(), Fail> {
+    // Section 5.5: at most 125 bytes.
+    let mut bytes = b"\x89\xfe\0\x7e\0\0\0\0".to_vec(rt.alloc())?;
+    bytes.resize(8 + 126, b'x')?;
+    let (heard, end) = heard(&rt, &bytes, 200)?;
+    assert!(rt; end == Err(Fault::Protocol) && heard.replies.is_empty());
     Ok(())
 }
 
