@@ -10,3 +10,6 @@ pub use carriage::{Carriage, Plain};
 pub use ending::Ending;
 pub use framed::Framed;
 pub use status::Status;
+
+#[cfg(test)]
+mod tests;

@@ -19,6 +19,6 @@ pub const FAREWELL: u64 = 10;
 /// that it, and what lies between, knows that the connection is there.
 pub const PULSE: u64 = 15;
 
-/// For how many milliseconds a viewer isn't heard after an order, which wakes all others: many orders
-/// cost them little.
-pub const AFTER_ORDER: u64 = 5;
+/// How many milliseconds lie between two orders of a viewer that are obeyed: each reads the recording
+/// and wakes all others, so many orders cost them little.
+pub const BETWEEN_ORDERS: u64 = 50;

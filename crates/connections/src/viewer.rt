@@ -5,7 +5,7 @@ ghost use Rattle.shared_book.specs.Receipts.{IsOfSize, size_of};
 
 use crate::facts::Facts;
 use crate::guest::{Guest, VERSION, hear_version, say};
-use crate::limits::{AFTER_ORDER, ANSWER, FAREWELL, HANDSHAKE, PARTING, PULSE};
+use crate::limits::{ANSWER, BETWEEN_ORDERS, FAREWELL, HANDSHAKE, PARTING, PULSE};
 use crate::room::Room;
 use carriage::{Carriage, Ending, Status};
 use disk::Disk;
@@ -18,7 +18,7 @@ use std::io;
 use std::marker::PhantomData;
 use std::sync::atomic::{AtomicBool, Ordering};
 use std::sync::{Condvar, Mutex, Wait};
-use std::time::{Clock, Duration};
+use std::time::{Clock, Duration, Instant};
 use steering::{Course, Steering};
 use terms::four_bytes;
 use viewer_session::Session;
@@ -91,6 +91,15 @@ fn follow(course: &mut Course, slice: &Slice) {
     }
     if let Some(last) = slice.messages.last() {
         course.hand_message(last.time);
+    }
+}
+
+// Waits until so much has passed since an order that the next may be obeyed.
+fn wait_after<M: Mark, R: Clock>(rt: &R, room: &Room<M>, order: Option<Instant>) {
+    let passed = order.and_then(|order| order.elapsed(rt).ok());
+    let pause = Duration::from_millis(BETWEEN_ORDERS);
+    if let Some(left) = passed.and_then(|passed| pause.checked_sub(passed)) {
+        let _rung = room.bell.wait(None, Some(left));
     }
 }
 
@@ -419,9 +428,6 @@ impl<M: Mark, C: Connection> Viewer<M, C> {
     fn hear<R: Clock + Wait>(&self, rt: &R, piece: &[u8], facts: &Facts) -> Heeded {
         let mut talk = self.talk.lock(rt);
         let heeded = talk.feed(piece, facts);
-        if heeded == Heeded::Steered {
-            self.is_steered.store(true, Ordering::SeqCst);
-        }
         let is_answered = talk.answer(rt, self.alloc, &self.connection, facts).is_ok();
         drop(talk);
         self.changed.notify_all();
@@ -453,6 +459,7 @@ impl<M: Mark, C: Connection> Viewer<M, C> {
         let mut buffer = Vec::new(self.alloc);
         buffer.resize(PIECE, 0)?;
         let is_in_browser = self.talk.lock(rt).course.is_some();
+        let mut steered = None;
         for _ in 0..u64::MAX {
             if is_in_browser {
                 self.wait_for_more(rt, room);
@@ -464,11 +471,11 @@ impl<M: Mark, C: Connection> Viewer<M, C> {
             match self.hear(rt, &buffer[..count], &room.facts) {
                 Heeded::Same => {}
                 Heeded::Steered => {
+                    wait_after(rt, room, steered);
+                    steered = Instant::now(rt).ok();
+                    self.is_steered.store(true, Ordering::SeqCst);
                     shared.wake(rt);
                     room.hall.wake(rt);
-                    let _passed = room
-                        .bell
-                        .wait(None, Some(Duration::from_millis(AFTER_ORDER)));
                 }
                 Heeded::Over => return Ok(()),
             }

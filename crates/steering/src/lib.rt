@@ -6,3 +6,6 @@ mod steering;
 
 pub use course::{Course, Stage};
 pub use steering::{Showing, Steering};
+
+#[cfg(test)]
+mod tests;

@@ -6,3 +6,6 @@ mod upgrade;
 
 pub use request::{Judged, Refusal, judge};
 pub use upgrade::write_answer;
+
+#[cfg(test)]
+mod tests;

@@ -8,3 +8,6 @@ mod heard;
 pub use fault::Fault;
 pub use frames::{Frames, LONGEST_FRAME, cuts_do_not_matter, frames_are_read_as_written};
 pub use heard::Heard;
+
+#[cfg(test)]
+mod tests;

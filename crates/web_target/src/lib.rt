@@ -9,3 +9,6 @@ mod words;
 pub use asked::{Asked, Beginning, Order, Playback};
 pub use order::order_of;
 pub use target::asked_by;
+
+#[cfg(test)]
+mod tests;

@@ -1,16 +1,25 @@
 //! The recorder over loopback, in one process with a host and viewers of the test. Each waits for
 //! what it is sent, and for at most twenty seconds.
 
-// Serves what a plan says while a test plays: what is printed, once both are done.
-macro_rules! serve_while {
-    ($rt:ident, $plan:expr, $viewers:ident, $play:expr) => {{
+// Serves what a plan says over these listeners while a test plays: what is printed, once both are
+// done.
+macro_rules! serve_over {
+    ($rt:ident, $plan:expr, $listened:expr, $play:expr) => {{
         let plan = $plan;
+        let listened = $listened;
         super::told(std::thread::join(
             $rt,
-            move || super::print($rt, plan, $viewers),
+            move || super::print($rt, plan, listened),
             $play,
         ))
     }};
+}
+
+// The same for viewers alone.
+macro_rules! serve_while {
+    ($rt:ident, $plan:expr, $viewers:ident, $play:expr) => {
+        serve_over!($rt, $plan, super::viewers_alone($viewers), $play)
+    };
 }
 
 // Records a host of a test into a new file, and serves that: what is printed. The test is called
@@ -28,6 +37,7 @@ macro_rules! recorded {
     }};
 }
 
+mod browsers;
 mod ends;
 mod hosts;
 mod peers;
@@ -36,6 +46,7 @@ mod viewers;
 
 use file_commands::{FileCommand, run};
 use file_disk::Progress;
+use recorder_opening::Listened;
 use serve::serve_on;
 use serve_plan::Plan;
 use std::fs::File;
@@ -47,8 +58,16 @@ use std::thread::Threads;
 use std::time::Clock;
 use std::{fs, io};
 
+// A listener for viewers, and none for browsers.
+fn viewers_alone(listener: TcpListener) -> Listened {
+    Listened {
+        viewers: Some(Ok(listener)),
+        web: None,
+    }
+}
+
 // Serves a recording: whether it is done, and what is printed.
-fn print<R>(rt: &R, plan: &Plan<'_>, listener: TcpListener) -> io::Result<String>
+fn print<R>(rt: &R, plan: &Plan<'_>, listened: Listened) -> io::Result<String>
 where
     R: AllocGlobal + Clock + Eprint + Files<File = File> + Sync + Threads + Wait,
     R: Net<Stream = TcpStream, Listener = TcpListener>,
@@ -56,7 +75,7 @@ where
     let alloc = rt.alloc();
     let mut out = Vec::new(alloc);
     let mut err = Vec::new(alloc);
-    let is_done = serve_on(rt, plan, || Ok(listener), &mut out, &mut err)?;
+    let is_done = serve_on(rt, plan, || listened, &mut out, &mut err)?;
     out.extend_from_slice(&err)?;
     let Ok(said) = String::from_utf8(out) else {
         return Err(io::ErrorKind::InvalidData.into());

@@ -8,6 +8,7 @@ use super::UPDATE;
 use crate::{ONE_PLACE, desk_of_one_pixel};
 use broadcast::{Desk, Start};
 use disk::{Disk, MemoryDisk};
+use flusher_core::BlockStart;
 use pixel_format::Color;
 use rfb_wire::HostMessage;
 use shared_book::{Mark, Shared, Sharing, Token};
@@ -30,11 +31,12 @@ struct Begun {
     updates: usize,
 }
 
-// Records the update; `None` if that is refused.
+// Records the update, at this time; `None` if that is refused.
 fn record<D: Disk, M: Mark, R: Wait>(
     rt: &R,
     alloc: Global,
     sharing: &mut Sharing<D, M>,
+    time: u32,
 ) -> Option<()>
     requires { IsOfOnePixel M.head }
 {
@@ -44,7 +46,7 @@ fn record<D: Disk, M: Mark, R: Wait>(
         host,
         flusher,
     } = sharing;
-    shared.host(rt, host, 0, message).ok()?;
+    shared.host(rt, host, time, message).ok()?;
     shared.take(rt).ok()?;
     shared.body(rt).ok()?;
     shared.gate(rt, flusher).ok()?;
@@ -72,6 +74,21 @@ fn begin<D: Disk, M: Mark, R: Wait>(rt: &R, shared: &Shared<D, M>, start: Start)
     })
 }
 
+// Whether a second block has one message, of the time 20, and a viewer is shown another before it.
+fn has_second<D: Disk, M: Mark, R: Wait>(
+    rt: &R,
+    alloc: Global,
+    shared: &Shared<D, M>,
+) -> Option<bool> {
+    let second = BlockStart {
+        start: 1,
+        end: 2,
+        time: 20,
+    };
+    let starts = shared.block_starts(rt, alloc, 1, 8).ok()?;
+    Some(starts.as_slice() == [second].as_slice() && shared.count_at(rt, 19).ok()? == 1)
+}
+
 fn begin_all<D: Disk + Drop, M: Mark, R: Wait + Abort>(
     rt: &R,
     alloc: Global,
@@ -85,7 +102,7 @@ fn begin_all<D: Disk + Drop, M: Mark, R: Wait + Abort>(
     requires sized { IsOfOnePixel M.head }
 {
     let mut sharing = Shared::<D, M>::new(rt, token, desk);
-    assert!(rt; record(rt, alloc, &mut sharing).is_some());
+    assert!(rt; record(rt, alloc, &mut sharing, 10).is_some());
     for (start, position, color, updates) in [
         (Start::Live, 1, RED, 0),
         (Start::At(0), 0, BLACK, 1),
@@ -97,13 +114,14 @@ fn begin_all<D: Disk + Drop, M: Mark, R: Wait + Abort>(
         };
         assert!(rt; begin(rt, &sharing.shared, start) == Some(due));
     }
-    assert!(rt; record(rt, alloc, &mut sharing).is_some());
+    assert!(rt; record(rt, alloc, &mut sharing, 20).is_some());
     let due = Begun {
         position: 2,
         start: RED,
         updates: 0,
     };
     assert!(rt; begin(rt, &sharing.shared, Start::Live) == Some(due));
+    assert!(rt; has_second(rt, alloc, &sharing.shared) == Some(true));
 }
 
 #[test]

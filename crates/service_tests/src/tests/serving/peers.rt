@@ -131,6 +131,28 @@ impl Peer {
         }
     }
 
+    /// All that comes until the end.
+    pub fn rest(&self, alloc: Global) -> Result<Vec<u8>, Fail> {
+        let mut came = Vec::new(alloc);
+        (&mut &self.stream).read_to_end(&mut came)?;
+        Ok(came)
+    }
+
+    /// The frame that comes next (RFC 6455, section 5.2), which has fewer than 126 bytes: its first
+    /// byte, and its payload.
+    pub fn frame(&self, alloc: Global) -> Result<(u8, Vec<u8>), Fail> {
+        let mut head = [0u8; 2];
+        (&mut &self.stream).read_exact(&mut head)?;
+        let [first, length] = head;
+        if length >= 126 {
+            return Err("a long frame".into());
+        }
+        let mut payload = Vec::new(alloc);
+        payload.resize(usize::from(length), 0)?;
+        (&mut &self.stream).read_exact(&mut payload)?;
+        Ok((first, payload))
+    }
+
     /// Nothing more comes.
     pub fn ends(&self) -> Result<(), Fail> {
         let mut byte = [0u8; 1];

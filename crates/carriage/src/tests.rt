@@ -1,0 +1,137 @@
+//! What is told in a WebSocket, byte by byte (RFC 6455, sections 5.2, 5.5.1 and 7.4).
+
+use crate::{Carriage, Ending, Framed, Plain, Status};
+use reception::Reason;
+use std::test::Fail;
+use web_frames::{Fault, Heard};
+
+/// How a session stands.
+const STATUS: Status = Status {
+    message: 3,
+    time: 1500,
+    length: 2000,
+    watching: 2,
+    orders: 1,
+    has_ended: false,
+};
+
+#[test]
+fn a_status_is_told(rt: HostRuntime) -> Result<(), Fail> {
+    let alloc = rt.alloc();
+    let text =
+        "{\"message\":3,\"time\":1500,\"length\":2000,\"watching\":2,\"orders\":1,\"ended\":false}";
+    assert!(rt; STATUS.text(alloc)?.as_str() == text);
+    let mut out = Vec::new(alloc);
+    Framed::new(alloc).tell(STATUS, &mut out)?;
+    assert!(rt; out.strip_prefix(b"\x81\x4d") == Some(text.as_bytes()));
+    out.clear();
+    Plain.tell(STATUS, &mut out)?;
+    Plain.end(Ending::Ended, &mut out)?;
+    assert!(rt; out.is_empty());
+    // What a viewer is shown isn't news of the session.
+    let shown = Status {
+        message: 4,
+        time: 2000,
+        orders: 2,
+        ..STATUS
+    };
+    assert!(rt; !shown.is_news_after(STATUS));
+    let news = [
+        Status {
+            length: 2001,
+            ..STATUS
+        },
+        Status {
+            watching: 1,
+            ..STATUS
+        },
+        Status {
+            has_ended: true,
+            ..STATUS
+        },
+    ];
+    for status in news {
+        assert!(rt; status.is_news_after(STATUS));
+    }
+    Ok(())
+}
+
+#[test]
+fn answers_are_carried(rt: HostRuntime) -> Result<(), Fail> {
+    let alloc = rt.alloc();
+    let mut answer = Vec::new(alloc);
+    answer.resize(32_768, b'x')?;
+    answer.push(b'y')?;
+    let mut out = Vec::new(alloc);
+    Plain.wrap(&answer, &mut out)?;
+    assert!(rt; out == answer);
+    out.clear();
+    Framed::new(alloc).wrap(&answer, &mut out)?;
+    let mut expected = b"\x82\x7e\x80\0".to_vec(alloc)?;
+    expected.extend_from_slice(&answer[..32_768])?;
+    expected.extend_from_slice(b"\x82\x01y")?;
+    assert!(rt; out == expected);
+    Ok(())
+}
+
+#[test]
+fn what_comes_is_carried(rt: HostRuntime) -> Result<(), Fail> {
+    let alloc = rt.alloc();
+    let mut heard = Heard::new(alloc);
+    assert!(rt; Plain.take(b"Hi", &mut heard));
+    let mut framed = Framed::new(alloc);
+    // A binary message and the text of section 5.7, each masked.
+    assert!(rt; framed.take(b"\x82\x81\0\0\0\0!", &mut heard));
+    assert!(rt; framed.take(b"\x81\x85\x37\xfa\x21\x3d\x7f\x9f\x4d\x51\x58", &mut heard));
+    assert!(rt; heard.payload.as_slice() == b"Hi!".as_slice());
+    assert!(rt; heard.words.as_slice() == b"Hello\n".as_slice() && heard.replies.is_empty());
+    // One that isn't masked closes the connection, by 1002, and nothing is said any more.
+    assert!(rt; !framed.take(b"\x81\x05Hello", &mut heard));
+    let closed = b"\x88\x1f\x03\xeathe frames break the protocol";
+    assert!(rt; heard.replies.as_slice() == closed.as_slice());
+    let mut out = Vec::new(alloc);
+    framed.end(Ending::Ended, &mut out)?;
+    assert!(rt; out.is_empty() && framed.wrap(b"x", &mut out).is_err());
+    Ok(())
+}
+
+#[test]
+fn endings_have_codes(rt: HostRuntime) -> Result<(), Fail> {
+    let alloc = rt.alloc();
+    let endings: [(Ending, &[u8], u16); 8] = [
+        (Ending::Ended, b"the recorder has ended", 1000),
+        (
+            Ending::TurnedAway(Reason::Full),
+            b"all seats are taken",
+            4001,
+        ),
+        (
+            Ending::TurnedAway(Reason::Enough),
+            b"as many viewers have come as are served",
+            4002,
+        ),
+        (
+            Ending::TurnedAway(Reason::Closing),
+            b"the recording has ended",
+            4003,
+        ),
+        (Ending::TooFar, b"the recording has fewer messages", 4004),
+        (Ending::Unreadable, b"the recording can't be read", 4005),
+        (Ending::Unknown, b"there is no such thing to ask for", 1008),
+        (
+            Ending::Faulty(Fault::TooLong),
+            b"the frames break the protocol",
+            1009,
+        ),
+    ];
+    for (ending, reason, code) in endings {
+        let mut out = Vec::new(alloc);
+        Framed::new(alloc).end(ending, &mut out)?;
+        let mut expected = b"\x88".to_vec(alloc)?;
+        expected.push(2 + reason.len() as u8)?;
+        expected.extend_from_slice(&code.to_be_bytes())?;
+        expected.extend_from_slice(reason)?;
+        assert!(rt; out == expected, "{code}");
+    }
+    Ok(())
+}

@@ -1,0 +1,357 @@
+//! Browsers: the page, and viewers over a WebSocket (RFC 6455), whose frames are worked by hand.
+
+use super::checked;
+use super::peers::{
+    ALL, BLACK, CHANGES, Endpoint, GREEN, Loopback, Peer, RED, listener, silent_viewer, small_host,
+};
+use crate::plan_of;
+use live_page::{PAGE, SCRIPT, STYLE};
+use reception::Stop;
+use recorder_opening::Listened;
+use screen_script::PAINTER;
+use serve_plan::{Audience, Origin, Plan};
+use std::alloc::Global;
+use std::fs;
+use std::net::{Net, TcpListener, TcpStream};
+use std::test::Fail;
+
+/// A recording of one pixel with two messages: red after 3 seconds, and green after 25 minutes.
+const RECORDING: [u8; 83] =
+    *b"ORFBREC1\0\x01\0\x01\0\x04\0\x01xO\0\0\0\x3a\0\x02\0\0\0\x0b\xb8\0\0\0\x14\0\0\0\x01\0\0\0\0\0\x01\0\x01\0\0\0\0\0\0\xff\0\0\0\x16\xe3\x60\0\0\0\x14\0\0\0\x01\0\0\0\0\0\x01\0\x01\0\0\0\0\0\xff\0\0C";
+
+/// What the page is told of it.
+const TIMES: &[u8] =
+    b"\r\n\r\n{\"width\":1,\"height\":1,\"messages\":2,\"length\":1500000,\"stretches\":[{\"time\":3000,\"message\":0,\"block\":0,\"updates\":2}],\"next\":1}\n";
+
+/// What follows the target in a request for a WebSocket of a page from here: the key is that of
+/// section 1.3.
+const UPGRADE: &[u8] =
+    b" HTTP/1.1\r\nHost: localhost\r\nUpgrade: websocket\r\nConnection: Upgrade\r\nSec-WebSocket-Key: dGhlIHNhbXBsZSBub25jZQ==\r\nOrigin: http://localhost\r\nSec-WebSocket-Version: 13\r\n\r\n";
+
+/// The same of a page from elsewhere.
+const FOREIGN: &[u8] =
+    b"GET /watch HTTP/1.1\r\nHost: localhost\r\nUpgrade: websocket\r\nConnection: Upgrade\r\nSec-WebSocket-Key: dGhlIHNhbXBsZSBub25jZQ==\r\nOrigin: http://example.com\r\nSec-WebSocket-Version: 13\r\n\r\n";
+
+/// The answer, with the Sec-WebSocket-Accept of section 1.3.
+const UPGRADED: &[u8] =
+    b"HTTP/1.1 101 Switching Protocols\r\nconnection: Upgrade\r\nupgrade: websocket\r\nsec-websocket-accept: s3pPLMBiTxaQ9kYGzzhZRbK+xOo=\r\n\r\n";
+
+/// By which a client's frames are masked.
+const MASK: [u8; 4] = *b"\x37\xfa\x21\x3d";
+
+/// The first bytes of whole frames: a text, a binary message and a close.
+const TEXT: u8 = 0x81;
+
+const BINARY: u8 = 0x82;
+
+const CLOSE: u8 = 0x88;
+
+// Asks for something: whether it is answered by this status and media type, and this at the end.
+fn is_answered(
+    rt: &HostRuntime,
+    endpoint: Endpoint,
+    request: &[u8],
+    front: &str,
+    end: &[u8],
+) -> Result<(), Fail> {
+    let browser = silent_viewer(rt, endpoint)?;
+    browser.say(request)?;
+    let answer = browser.rest(rt.alloc())?;
+    let front = format!(in rt.alloc(); "HTTP/1.1 {front}\r\n")?;
+    if answer.starts_with(front.as_bytes()) && answer.ends_with(end) {
+        return Ok(());
+    }
+    Err("another answer".into())
+}
+
+// What is asked for, and given.
+fn all_is_given(rt: &HostRuntime, endpoint: Endpoint) -> Result<(), Fail> {
+    let answers: [(&[u8], &str, &[u8]); 5] = [
+        (
+            b"GET / HTTP/1.1\r\nHost: localhost:80\r\n\r\n",
+            "200 OK\r\nContent-Type: text/html; charset=utf-8",
+            PAGE.as_bytes(),
+        ),
+        (
+            b"GET /painter.js HTTP/1.1\r\nHost: 127.0.0.1\r\n\r\n",
+            "200 OK\r\nContent-Type: text/javascript; charset=utf-8",
+            PAINTER.as_bytes(),
+        ),
+        (
+            b"GET /live.js HTTP/1.1\r\nHost: [::1]\r\n\r\n",
+            "200 OK\r\nContent-Type: text/javascript; charset=utf-8",
+            SCRIPT.as_bytes(),
+        ),
+        (
+            b"GET /live.css HTTP/1.0\r\n\r\n",
+            "200 OK\r\nContent-Type: text/css; charset=utf-8",
+            STYLE.as_bytes(),
+        ),
+        (
+            b"GET /times?from=0 HTTP/1.0\r\n\r\n",
+            "200 OK\r\nContent-Type: application/json",
+            TIMES,
+        ),
+    ];
+    for (request, front, end) in answers {
+        is_answered(rt, endpoint, request, front, end)?;
+    }
+    Ok(())
+}
+
+// What is asked for in vain.
+fn others_are_refused(rt: &HostRuntime, endpoint: Endpoint) -> Result<(), Fail> {
+    let answers: [(&[u8], &str); 3] = [
+        (
+            b"GET / HTTP/1.1\r\nHost: example.com\r\n\r\n",
+            "403 Forbidden",
+        ),
+        (FOREIGN, "403 Forbidden"),
+        (b"GET /watch HTTP/1.0\r\n\r\n", "426 Upgrade Required"),
+    ];
+    for (request, front) in answers {
+        is_answered(rt, endpoint, request, front, b"\n")?;
+    }
+    Ok(())
+}
+
+// Says a message of fewer than 126 bytes, masked.
+fn say(browser: &Peer, alloc: Global, first: u8, payload: &[u8]) -> Result<(), Fail> {
+    let mut frame = Vec::new(alloc);
+    frame.extend_from_slice(&[first, 0x80 | payload.len() as u8])?;
+    frame.extend_from_slice(&MASK)?;
+    for (byte, mask) in payload.iter().zip(MASK.iter().cycle()) {
+        frame.push(byte ^ mask)?;
+    }
+    browser.say(&frame)
+}
+
+// Hears a frame of fewer than 126 bytes: these.
+fn hear(browser: &Peer, alloc: Global, first: u8, payload: &[u8]) -> Result<(), Fail> {
+    browser.hear(alloc, &[first, payload.len() as u8])?;
+    browser.hear(alloc, payload)
+}
+
+// Hears how the session stands, and then an update, which is this one: what was told last. It may be
+// told more than once.
+fn hear_update(browser: &Peer, alloc: Global, update: &[u8]) -> Result<Vec<u8>, Fail> {
+    let mut told = Vec::new(alloc);
+    for _ in 0..100 {
+        let (first, payload) = browser.frame(alloc)?;
+        if first == BINARY {
+            return if payload.as_slice() == update {
+                Ok(told)
+            } else {
+                Err("another update".into())
+            };
+        }
+        told = payload;
+    }
+    Err("no update".into())
+}
+
+// Says these, asks for an update, and hears it: what was told before it.
+fn shown(
+    browser: &Peer,
+    alloc: Global,
+    order: &[u8],
+    request: &[u8],
+    update: &[u8],
+) -> Result<Vec<u8>, Fail> {
+    if !order.is_empty() {
+        say(browser, alloc, TEXT, order)?;
+    }
+    say(browser, alloc, BINARY, request)?;
+    hear_update(browser, alloc, update)
+}
+
+// A connection for this target, whose upgrade is answered, and the version of RFB heard.
+fn upgraded(rt: &HostRuntime, endpoint: Endpoint, target: &[u8]) -> Result<Peer, Fail> {
+    let alloc = rt.alloc();
+    let browser = silent_viewer(rt, endpoint)?;
+    let mut request = b"GET ".to_vec(alloc)?;
+    request.extend_from_slice(target)?;
+    request.extend_from_slice(UPGRADE)?;
+    browser.talk(alloc, &request, UPGRADED)?;
+    hear(&browser, alloc, BINARY, b"RFB 003.008\n")?;
+    say(&browser, alloc, BINARY, b"RFB 003.008\n")?;
+    Ok(browser)
+}
+
+// A viewer after its handshake, in frames.
+fn viewer(rt: &HostRuntime, endpoint: Endpoint, target: &[u8]) -> Result<Peer, Fail> {
+    let alloc = rt.alloc();
+    let browser = upgraded(rt, endpoint, target)?;
+    hear(&browser, alloc, BINARY, &[1, 1])?;
+    say(&browser, alloc, BINARY, &[1])?;
+    hear(&browser, alloc, BINARY, &[0, 0, 0, 0])?;
+    say(&browser, alloc, BINARY, &[1])?;
+    let (first, init) = browser.frame(alloc)?;
+    if first != BINARY || init.len() != 25 {
+        return Err("another beginning".into());
+    }
+    Ok(browser)
+}
+
+// Hears why the connection ends, by this code, and that it does.
+fn is_closed(browser: &Peer, alloc: Global, code: u16, reason: &[u8]) -> Result<(), Fail> {
+    let mut payload = Vec::from_slice(alloc, &code.to_be_bytes())?;
+    payload.extend_from_slice(reason)?;
+    hear(browser, alloc, CLOSE, &payload)?;
+    browser.ends()
+}
+
+// One that begins after more messages than there are.
+fn too_far(rt: &HostRuntime, endpoint: Endpoint) -> Result<(), Fail> {
+    let alloc = rt.alloc();
+    let reason = b"the recording has fewer messages";
+    let browser = upgraded(rt, endpoint, b"/watch?message=9")?;
+    let mut refusal = b"\0\0\0\0\x20".to_vec(alloc)?;
+    refusal.extend_from_slice(reason)?;
+    hear(&browser, alloc, BINARY, &refusal)?;
+    is_closed(&browser, alloc, 4004, reason)
+}
+
+// Whether what is told says this of the screen, the orders that it obeys among it.
+fn stands(told: &[u8], message: &str, orders: &str) -> bool {
+    told.starts_with(message.as_bytes())
+        && told.windows(orders.len()).any(|it| it == orders.as_bytes())
+}
+
+// Goes to a moment, and back to the newest screen, and last asks for what there isn't.
+fn gives_orders(rt: &HostRuntime, endpoint: Endpoint) -> Result<(), Fail> {
+    let alloc = rt.alloc();
+    let browser = viewer(rt, endpoint, b"/watch")?;
+    let newest = "{\"message\":2,\"time\":1500000,\"length\":1500000,\"watching\":1,";
+    let told = shown(&browser, alloc, b"", &ALL, &GREEN)?;
+    if !stands(&told, newest, ",\"orders\":0,") {
+        return Err("the newest screen".into());
+    }
+    let told = shown(&browser, alloc, b"{\"at\":4000}", &ALL, &RED)?;
+    let earlier = "{\"message\":1,\"time\":3000,\"length\":1500000,\"watching\":1,";
+    if !stands(&told, earlier, ",\"orders\":1,") {
+        return Err("an earlier one".into());
+    }
+    let told = shown(&browser, alloc, b"{\"live\":true}", &ALL, &GREEN)?;
+    if !stands(&told, newest, ",\"orders\":2,") {
+        return Err("the newest again".into());
+    }
+    say(&browser, alloc, TEXT, b"{\"at\":-1}")?;
+    is_closed(&browser, alloc, 1008, b"there is no such thing to ask for")
+}
+
+// A recording that browsers look at.
+fn is_looked_at(rt: &HostRuntime, endpoint: Endpoint) -> Result<(), Fail> {
+    all_is_given(rt, endpoint)?;
+    others_are_refused(rt, endpoint)?;
+    too_far(rt, endpoint)?;
+    gives_orders(rt, endpoint)
+}
+
+// A listener for browsers, and none for viewers.
+fn browsers_alone(listener: TcpListener) -> Listened {
+    Listened {
+        viewers: None,
+        web: Some(Ok(listener)),
+    }
+}
+
+// What is printed of so many messages.
+fn printed(alloc: Global, endpoint: Endpoint, committed: u64) -> Result<String, Fail> {
+    let address = endpoint.address(alloc)?;
+    Ok(format!(in alloc; "true serving\nbrowsing http://{address}/\ncommitted {committed}\n")?)
+}
+
+#[test]
+fn browsers_look_at_a_recording(rt: HostRuntime) -> Result<(), Fail> {
+    let rt = &rt;
+    let file = "looked_at";
+    fs::write(rt, file, RECORDING.as_slice())?;
+    let (web, endpoint) = listener(rt)?;
+    let plan = Plan {
+        web: Some("127.0.0.1:0"),
+        ..plan_of(file, None, Audience::Count(1), Origin::Live)
+    };
+    let said = serve_over!(
+        rt,
+        &plan,
+        browsers_alone(web),
+        move || is_looked_at(rt, endpoint)
+    )?;
+    let expected = printed(rt.alloc(), endpoint, 2)?;
+    assert!(rt; said.as_str() == expected.as_str(), "{said}");
+    fs::remove_file(rt, file)?;
+    Ok(())
+}
+
+// Hears how the session stands until nothing more is recorded.
+fn hears_the_end(browser: &Peer, alloc: Global) -> Result<(), Fail> {
+    for _ in 0..100 {
+        let (first, told) = browser.frame(alloc)?;
+        if first != TEXT {
+            return Err("more than how it stands".into());
+        }
+        if told.ends_with(b",\"ended\":true}") {
+            return Ok(());
+        }
+    }
+    Err("no end".into())
+}
+
+// A viewer sees a host's update, and its end, and looks back then, until the recorder is stopped.
+fn host_is_watched(rt: &HostRuntime, ends: Loopback) -> Result<(), Fail> {
+    let alloc = rt.alloc();
+    let host = small_host(alloc, &ends.hosts)?;
+    let browser = viewer(rt, ends.viewers, b"/watch")?;
+    let told = shown(&browser, alloc, b"", &ALL, &BLACK)?;
+    let first: &[u8] =
+        b"{\"message\":0,\"time\":0,\"length\":0,\"watching\":1,\"orders\":0,\"ended\":false}";
+    if told.as_slice() != first {
+        return Err("the first screen".into());
+    }
+    host.talk(alloc, &RED, &CHANGES)?;
+    let told = shown(&browser, alloc, b"", &CHANGES, &RED)?;
+    if !stands(
+        &told,
+        "{\"message\":1,",
+        ",\"watching\":1,\"orders\":0,\"ended\":false}",
+    ) {
+        return Err("the update".into());
+    }
+    host.finish()?;
+    hears_the_end(&browser, alloc)?;
+    let told = shown(&browser, alloc, b"{\"at\":0}", &ALL, &RED)?;
+    if !stands(&told, "{\"message\":1,", ",\"orders\":1,\"ended\":true}") {
+        return Err("a look back".into());
+    }
+    is_closed(&browser, alloc, 1000, b"the recorder has ended")
+}
+
+#[test]
+fn a_browser_watches_a_host_past_its_end(rt: HostRuntime) -> Result<(), Fail> {
+    let rt = &rt;
+    let file = "past_its_end";
+    let _ = fs::remove_file(rt, file);
+    let (hosts, host) = listener(rt)?;
+    let (web, viewers) = listener(rt)?;
+    let address = host.address(rt.alloc())?;
+    let plan = Plan {
+        web: Some("127.0.0.1:0"),
+        stop: Stop {
+            at_end_of_input: false,
+            after: Some(5),
+        },
+        ..plan_of(file, Some(address.as_str()), Audience::Any, Origin::Live)
+    };
+    let ends = Loopback { hosts, viewers };
+    let said = serve_over!(
+        rt,
+        &plan,
+        browsers_alone(web),
+        move || host_is_watched(rt, ends)
+    )?;
+    let expected = printed(rt.alloc(), viewers, 1)?;
+    assert!(rt; said.as_str() == expected.as_str(), "{said}");
+    assert!(rt; checked(rt, file)?.as_str() == "recording 1 1 messages 1 blocks 1\n");
+    Ok(())
+}
