@@ -619,17 +619,18 @@ class Overview {
   }
   // Takes all that had come when it was first answered, in as many answers as that needs.
   async load() {
-    for (let until = null, last = -1; until === null || last < until;) {
+    let until = null, last;
+    do {
       const answer = await timesFrom(this.next);
       if (!answer.ok) throw new Refusal(`What came when isn't known: ${(await answer.text()).trim()}.`);
       const { length, stretches, next } = await answer.json();
       until ??= length;
-      last = stretches.length === 0 ? until : stretches.at(-1).time;
+      last = stretches.at(-1)?.time ?? Infinity;
       stretches.forEach(({ time, updates }) => this.count(time, updates));
       this.next = next;
       this.seen = Math.max(this.seen, length);
       this.draw();
-    }
+    } while (last <= until);
     forgive('times');
   }
   count(time, updates) {
@@ -639,7 +640,8 @@ class Overview {
   // Each part is twice as long.
   widen() {
     const { counts } = this;
-    for (let part = 0; part < PARTS; part++) counts[part] = part < PARTS / 2 ? counts[2 * part] + counts[2 * part + 1] : 0;
+    for (let part = 0; part < PARTS / 2; part++) counts[part] = counts[2 * part] + counts[2 * part + 1];
+    counts.fill(0, PARTS / 2);
     this.every *= 2;
   }
   // The updates in each of so many columns, at most: none is shorter than a second.
