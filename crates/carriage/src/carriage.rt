@@ -1,6 +1,6 @@
 //! What carries a viewer's bytes.
 
-ghost use Rattle.std.specs.Prelude.{◌≡◌, ◌++◌, OnOk};
+ghost use Rattle.std.specs.Prelude.{◌≡◌, ◌++◌, IsTrue, OnOk};
 
 use crate::ending::Ending;
 use crate::status::Status;
@@ -31,11 +31,16 @@ pub trait Carriage: Drop {
 pub struct Plain;
 
 impl Carriage for Plain {
-    fn take(&mut self, piece: &[u8], heard: &mut Heard) -> bool {
+    fn take(&mut self, piece: &[u8], heard: &mut Heard) -> bool
+        ensures carried { IsTrue result → heard.new.payload.items ≡ heard.old.payload.items ++ piece.now }
+        ensures unsaid { (heard.new.words.items ≡ heard.old.words.items) × (heard.new.replies.items ≡ heard.old.replies.items) }
+    {
         heard.payload.extend_from_slice(piece).is_ok()
     }
 
-    fn wrap(&mut self, answer: &[u8], out: &mut Vec<u8>) -> Result<(), AllocError> {
+    fn wrap(&mut self, answer: &[u8], out: &mut Vec<u8>) -> Result<(), AllocError>
+        ensures { OnOk result (out.new.items ≡ out.old.items ++ answer.now) }
+    {
         out.extend_from_slice(answer)
     }
 }

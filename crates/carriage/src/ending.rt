@@ -1,5 +1,8 @@
 //! Why a viewer's connection ends.
 
+ghost use Rattle.std.specs.Prelude.{◌≡◌};
+ghost use Rattle.carriage.specs.Endings.{code_of_ending};
+
 use reception::Reason;
 use web_frames::Fault;
 use websocket::protocol::CloseCode;
@@ -23,7 +26,9 @@ pub enum Ending {
 
 impl Ending {
     /// The code: one of the protocol's, or from 4000 on.
-    pub fn code(self) -> CloseCode {
+    pub fn code(self) -> CloseCode
+        ensures { result ≡ code_of_ending self }
+    {
         match self {
             Ending::Ended => CloseCode::Normal,
             Ending::TurnedAway(Reason::Full) => CloseCode::Library(4001),

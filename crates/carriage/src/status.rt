@@ -1,5 +1,7 @@
 //! What is told beside updates.
 
+ghost use Rattle.std.specs.Prelude.{◌≡◌, ◌↔◌, IsFalse};
+
 use std::alloc::{AllocError, Global};
 
 /// What a viewer is shown, and how the session stands. It is told before each update, of which it is
@@ -22,9 +24,12 @@ pub struct Status {
 
 impl Status {
     /// Whether the session has come further than as it stood `before`.
-    pub fn is_news_after(self, before: Status) -> bool {
-        (self.length, self.watching, self.has_ended)
-            != (before.length, before.watching, before.has_ended)
+    pub fn is_news_after(self, before: Status) -> bool
+        ensures { IsFalse result ↔ ((self.length ≡ before.length) × ((self.watching ≡ before.watching) × (self.has_ended ≡ before.has_ended))) }
+    {
+        self.length != before.length
+            || self.watching != before.watching
+            || self.has_ended != before.has_ended
     }
 
     /// As a JSON object (RFC 8259).

@@ -56,7 +56,8 @@ impl Facts {
         Status {
             message,
             time,
-            length: self.length(),
+            // Whoever is handed a message may be told of it before all others are.
+            length: self.length().max(time),
             watching: self.watching.load(Ordering::SeqCst),
             orders,
             has_ended: self.has_ended.load(Ordering::SeqCst),

@@ -1,5 +1,5 @@
 -- What a viewer is shown once it has given an order.
-use Rattle.std.specs.Prelude.{ℕ, true, false, Option, None}
+use Rattle.std.specs.Prelude.{ℕ, min, true, false, Option, None}
 use Rattle.web_target.specs.declared.asked.Beginning.{Beginning}
 use Rattle.web_target.specs.declared.asked.Beginning.TheVariants as begins
 use Rattle.web_target.specs.declared.asked.Order.{Order}
@@ -40,12 +40,13 @@ resumed s shows.Live = shows.Live
 resumed s (shows.After count) = shows.After count
 resumed s (shows.Played before) = shows.Played before
 
--- the time at which this begins, in a session that is so long, for who is at that time
+-- the time at which this begins, in a session that is so long, for who is at that time: none is
+-- later than its end
 abbrev pub begins_at : ℕ → ℕ → Showing → ℕ
 begins_at length now shows.Live = length
 begins_at length now (shows.After count) = now
-begins_at length now (shows.Played playback) = playback.time
-begins_at length now (shows.Still time) = time
+begins_at length now (shows.Played playback) = min playback.time length
+begins_at length now (shows.Still time) = min time length
 
 -- what follows on an order at a time
 abbrev pub after_order : Order → ℕ → Steering → Steering

@@ -37,8 +37,8 @@ fn beginning(showing: Showing, length: u32, now: u32) -> u32
     match showing {
         Showing::Live => length,
         Showing::After(_) => now,
-        Showing::Played(playback) => playback.time,
-        Showing::Still(time) => time,
+        Showing::Played(playback) => playback.time.min(length),
+        Showing::Still(time) => time.min(length),
     }
 }
 

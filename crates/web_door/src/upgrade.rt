@@ -1,10 +1,10 @@
 //! Which requests are answered by a WebSocket (RFC 6455, section 4.2), and for whose page.
 
-ghost use Rattle.std.specs.Prelude.{◌≡◌, ◌≢◌, ◌↔◌, ◌++◌, [], ℕ, List, length, take, All, OnOk, OnErr, IsTrue, MatchOption};
+ghost use Rattle.std.specs.Prelude.{◌≡◌, ◌≢◌, ◌↔◌, ◌⊎◌, ◌++◌, [], ℕ, List, length, take, All, Err, IfErr, IsFalse, OnOk, OnErr, IsTrue, MatchOption};
 ghost use Rattle.httparse.specs.Spans.{IsHeaderWithin, IsRequestWithin, span_bytes};
 ghost use Rattle.request_head.specs.Fields.{covered, values_of};
 ghost use Rattle.web_door.specs.Upgrades.{IsOriginOf, IsOnly, IsFromHere, IsAnswered};
-ghost use Rattle.websocket.specs.Handshake.{response_bytes};
+ghost use Rattle.websocket.specs.Handshake.{can_answer, response_bytes};
 
 use httparse::spans::{HeaderSpan, RequestSpans};
 use request_head::first_value;
@@ -90,6 +90,8 @@ pub fn answer_key(
 pub fn write_answer(answer: &[u8; 28], out: &mut Vec<u8>) -> Result<(), HandshakeError>
     ensures ok { OnOk result (out.new.items ≡ out.old.items ++ response_bytes answer.now []) }
     ensures err { OnErr result (out.new.items ≡ out.old.items) }
+    ensures cause { IfErr result (λ e. (e ≡ HandshakeError.InvalidHeader) ⊎ (e ≡ HandshakeError.OutOfMemory)) }
+    ensures invalid { (result ≡ Err HandshakeError.InvalidHeader) ↔ IsFalse (can_answer answer.now []) }
 {
     write_response(answer, &[], out)
 }
