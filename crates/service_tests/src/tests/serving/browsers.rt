@@ -115,10 +115,19 @@ fn others_are_refused(rt: &HostRuntime, endpoint: Endpoint) -> Result<(), Fail> 
     Ok(())
 }
 
+// The length of a frame of fewer than 126 bytes.
+fn length_of(payload: &[u8]) -> Result<u8, Fail> {
+    match u8::try_from(payload.len()) {
+        Ok(length) if length < 126 => Ok(length),
+        _ => Err("a long frame".into()),
+    }
+}
+
 // Says a message of fewer than 126 bytes, masked.
 fn say(browser: &Peer, alloc: Global, first: u8, payload: &[u8]) -> Result<(), Fail> {
+    let length = length_of(payload)?;
     let mut frame = Vec::new(alloc);
-    frame.extend_from_slice(&[first, 0x80 | payload.len() as u8])?;
+    frame.extend_from_slice(&[first, 0x80 | length])?;
     frame.extend_from_slice(&MASK)?;
     for (byte, mask) in payload.iter().zip(MASK.iter().cycle()) {
         frame.push(byte ^ mask)?;
@@ -128,7 +137,7 @@ fn say(browser: &Peer, alloc: Global, first: u8, payload: &[u8]) -> Result<(), F
 
 // Hears a frame of fewer than 126 bytes: these.
 fn hear(browser: &Peer, alloc: Global, first: u8, payload: &[u8]) -> Result<(), Fail> {
-    browser.hear(alloc, &[first, payload.len() as u8])?;
+    browser.hear(alloc, &[first, length_of(payload)?])?;
     browser.hear(alloc, payload)
 }
 
@@ -324,6 +333,7 @@ fn host_is_watched(rt: &HostRuntime, ends: Loopback) -> Result<(), Fail> {
     if !stands(&told, "{\"message\":1,", ",\"orders\":1,\"ended\":true}") {
         return Err("a look back".into());
     }
+    say(&browser, alloc, BINARY, &CHANGES)?;
     is_closed(&browser, alloc, 1000, b"the recorder has ended")
 }
 
