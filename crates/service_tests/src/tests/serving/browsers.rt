@@ -129,8 +129,10 @@ fn say(browser: &Peer, alloc: Global, first: u8, payload: &[u8]) -> Result<(), F
     let mut frame = Vec::new(alloc);
     frame.extend_from_slice(&[first, 0x80 | length])?;
     frame.extend_from_slice(&MASK)?;
-    for (byte, mask) in payload.iter().zip(MASK.iter().cycle()) {
-        frame.push(byte ^ mask)?;
+    for part in payload.chunks(MASK.len()) {
+        for (byte, mask) in part.iter().zip(&MASK) {
+            frame.push(*byte ^ *mask)?;
+        }
     }
     browser.say(&frame)
 }
@@ -147,14 +149,13 @@ fn hear_update(browser: &Peer, alloc: Global, update: &[u8]) -> Result<Vec<u8>, 
     let mut told = Vec::new(alloc);
     for _ in 0..100 {
         let (first, payload) = browser.frame(alloc)?;
-        if first == BINARY {
-            return if payload.as_slice() == update {
-                Ok(told)
-            } else {
-                Err("another update".into())
-            };
+        if first != BINARY {
+            told = payload;
+        } else if payload.as_slice() == update {
+            return Ok(told);
+        } else {
+            return Err("another update".into());
         }
-        told = payload;
     }
     Err("no update".into())
 }
@@ -223,8 +224,10 @@ fn too_far(rt: &HostRuntime, endpoint: Endpoint) -> Result<(), Fail> {
 
 // Whether what is told says this of the screen, the orders that it obeys among it.
 fn stands(told: &[u8], message: &str, orders: &str) -> bool {
-    told.starts_with(message.as_bytes())
-        && told.windows(orders.len()).any(|it| it == orders.as_bytes())
+    match str::from_utf8(told) {
+        Ok(told) => told.starts_with(message) && told.contains(orders),
+        Err(_) => false,
+    }
 }
 
 // Goes to a moment, and back to the newest screen, and last asks for what there isn't.
