@@ -101,7 +101,7 @@ fn answers_are_carried(rt: HostRuntime) -> Result<(), Fail> {
     out.clear();
     Framed::new(alloc).wrap(&answer, &mut out)?;
     let mut expected = b"\x82\x7e\x80\0".to_vec(alloc)?;
-    expected.extend_from_slice(&answer[..32_768])?;
+    expected.resize(4 + 32_768, b'x')?;
     expected.extend_from_slice(b"\x82\x01y")?;
     assert!(rt; out == expected);
     Ok(())
