@@ -15,6 +15,39 @@ const STATUS: Status = Status {
     has_ended: false,
 };
 
+/// Closes: codes of section 7.4.1, and private ones of section 7.4.2.
+const ENDINGS: [(Ending, &[u8]); 8] = [
+    (Ending::Ended, b"\x88\x18\x03\xe8the recorder has ended"),
+    (
+        Ending::TurnedAway(Reason::Full),
+        b"\x88\x15\x0f\xa1all seats are taken",
+    ),
+    (
+        Ending::TurnedAway(Reason::Enough),
+        b"\x88\x29\x0f\xa2as many viewers have come as are served",
+    ),
+    (
+        Ending::TurnedAway(Reason::Closing),
+        b"\x88\x19\x0f\xa3the recording has ended",
+    ),
+    (
+        Ending::TooFar,
+        b"\x88\x22\x0f\xa4the recording has fewer messages",
+    ),
+    (
+        Ending::Unreadable,
+        b"\x88\x1d\x0f\xa5the recording can't be read",
+    ),
+    (
+        Ending::Unknown,
+        b"\x88\x23\x03\xf0there is no such thing to ask for",
+    ),
+    (
+        Ending::Faulty(Fault::TooLong),
+        b"\x88\x1f\x03\xf1the frames break the protocol",
+    ),
+];
+
 #[test]
 fn a_status_is_told(rt: HostRuntime) -> Result<(), Fail> {
     let alloc = rt.alloc();
@@ -68,7 +101,7 @@ fn answers_are_carried(rt: HostRuntime) -> Result<(), Fail> {
     out.clear();
     Framed::new(alloc).wrap(&answer, &mut out)?;
     let mut expected = b"\x82\x7e\x80\0".to_vec(alloc)?;
-    expected.extend_from_slice(&answer[..32_768])?;
+    expected.resize(4 + 32_768, b'x')?;
     expected.extend_from_slice(b"\x82\x01y")?;
     assert!(rt; out == expected);
     Ok(())
@@ -98,40 +131,10 @@ fn what_comes_is_carried(rt: HostRuntime) -> Result<(), Fail> {
 #[test]
 fn endings_have_codes(rt: HostRuntime) -> Result<(), Fail> {
     let alloc = rt.alloc();
-    let endings: [(Ending, &[u8], u16); 8] = [
-        (Ending::Ended, b"the recorder has ended", 1000),
-        (
-            Ending::TurnedAway(Reason::Full),
-            b"all seats are taken",
-            4001,
-        ),
-        (
-            Ending::TurnedAway(Reason::Enough),
-            b"as many viewers have come as are served",
-            4002,
-        ),
-        (
-            Ending::TurnedAway(Reason::Closing),
-            b"the recording has ended",
-            4003,
-        ),
-        (Ending::TooFar, b"the recording has fewer messages", 4004),
-        (Ending::Unreadable, b"the recording can't be read", 4005),
-        (Ending::Unknown, b"there is no such thing to ask for", 1008),
-        (
-            Ending::Faulty(Fault::TooLong),
-            b"the frames break the protocol",
-            1009,
-        ),
-    ];
-    for (ending, reason, code) in endings {
+    for (ending, frame) in ENDINGS {
         let mut out = Vec::new(alloc);
         Framed::new(alloc).end(ending, &mut out)?;
-        let mut expected = b"\x88".to_vec(alloc)?;
-        expected.push(2 + reason.len() as u8)?;
-        expected.extend_from_slice(&code.to_be_bytes())?;
-        expected.extend_from_slice(reason)?;
-        assert!(rt; out == expected, "{code}");
+        assert!(rt; out.as_slice() == frame, "{}", ending.reason());
     }
     Ok(())
 }

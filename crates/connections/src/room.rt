@@ -273,7 +273,7 @@ impl<M: Mark> Room<M> {
         last_error: LastError,
         device: Device,
         committed: u64,
-        length: u32,
+        last_time: u32,
     ) -> Room<M>
         requires sized { screen ≡ screen_of M.head }
         requires named { length name.items < 2 ^ 32 }
@@ -291,7 +291,7 @@ impl<M: Mark> Room<M> {
             telling,
             last_error,
             device,
-            facts: Facts::new(length),
+            facts: Facts::new(last_time),
             stays: plan.host.is_none() || plan.web.is_some(),
             committed: AtomicU64::new(committed),
             recorded: Recorded {

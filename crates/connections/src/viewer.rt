@@ -162,7 +162,10 @@ impl<M: Mark, G: Carriage> Talk<M, G> {
     // Whether it may be answered: it has come to the position at which it begins, by a screen that
     // obeys all its orders.
     fn is_there(&self) -> bool {
-        let is_obeyed = self.course.is_none_or(|course| course.is_obeyed());
+        let is_obeyed = match &self.course {
+            Some(course) => course.is_obeyed(),
+            None => true,
+        };
         is_obeyed && self.shows_from <= self.session.position()
     }
 

@@ -4,6 +4,82 @@ use crate::{Asked, Beginning, Order, Playback, asked_by, order_of};
 use playing::Pace;
 use std::test::Fail;
 
+/// Targets that ask for nothing.
+const NO_TARGETS: [&[u8]; 33] = [
+    b"",
+    b"//",
+    b"/?",
+    b"/index.html",
+    b"/painter.js?",
+    b"/live.js/",
+    b"/Live.css",
+    // RFC 9112, section 3.2.2: a whole URI is for a proxy.
+    b"http://localhost/",
+    b"/times",
+    b"/times?from=",
+    b"/times?from=-1",
+    b"/times?from=3&",
+    b"/times?from=18446744073709551616",
+    b"/watch/",
+    b"/watch?",
+    b"/watch?at",
+    b"/watch?at=",
+    b"/watch?at=+1",
+    b"/watch?at=1.5",
+    b"/watch?at=4294967296",
+    b"/watch?message=",
+    b"/watch?message=18446744073709551616",
+    b"/watch?message=1&pace=1000",
+    b"/watch?at=1&longest-pause=1",
+    b"/watch?pace=1000&at=1",
+    b"/watch?at=&pace=1000",
+    b"/watch?at=4294967296&pace=1000",
+    b"/watch?at=1&pace=",
+    b"/watch?at=1&pace=99",
+    b"/watch?at=1&pace=100001",
+    b"/watch?at=1&pace=1000&",
+    b"/watch?at=1&pace=1000&longest-pause=",
+    b"/watch?at=1&pace=1000&longest-pause=4294967296",
+];
+
+/// Texts that give no order.
+const NO_ORDERS: [&[u8]; 30] = [
+    b"",
+    b"{}",
+    b"null",
+    b"[0]",
+    b"{\"at\":}",
+    b"{\"at\":0",
+    b"\"at\":0}",
+    b"{\"at\":4294967296}",
+    b"{\"message\":18446744073709551616}",
+    b"{\"pace\":99}",
+    b"{\"pace\":100001}",
+    b"{\"longest-pause\":4294967296}",
+    // RFC 8259, section 6: numbers that aren't natural ones, or not written so.
+    b"{\"at\":-1}",
+    b"{\"at\":+1}",
+    b"{\"at\":1.0}",
+    b"{\"at\":1e3}",
+    // Section 3: other values, and other words than the three.
+    b"{\"at\":\"0\"}",
+    b"{\"at\":null}",
+    b"{\"message\":true}",
+    b"{\"longest-pause\":NULL}",
+    b"{\"pause\":null}",
+    b"{\"pause\":1}",
+    b"{\"live\":false}",
+    b"{\"live\":True}",
+    // Section 4: another name, two members, or something after the object.
+    b"{\"At\":0}",
+    b"{\"time\":0}",
+    b"{\"at\":0,\"pace\":1000}",
+    b"{\"live\":true}{\"live\":true}",
+    b"{\"at\":0}\n",
+    // Section 2: white space, which no page of this server writes.
+    b"{\"at\": 0}",
+];
+
 // The recording from this time on, at a pace that there is.
 fn played(time: u32, thousandths: u32, longest_pause: Option<u32>) -> Result<Asked, Fail> {
     let pace = Pace::from_thousandths(thousandths).ok_or("pace")?;
@@ -55,43 +131,7 @@ fn targets_ask(rt: HostRuntime) -> Result<(), Fail> {
 
 #[test]
 fn other_targets_ask_for_nothing(rt: HostRuntime) {
-    let almost: [&[u8]; 33] = [
-        b"",
-        b"//",
-        b"/?",
-        b"/index.html",
-        b"/painter.js?",
-        b"/live.js/",
-        b"/Live.css",
-        // RFC 9112, section 3.2.2: a whole URI is for a proxy.
-        b"http://localhost/",
-        b"/times",
-        b"/times?from=",
-        b"/times?from=-1",
-        b"/times?from=3&",
-        b"/times?from=18446744073709551616",
-        b"/watch/",
-        b"/watch?",
-        b"/watch?at",
-        b"/watch?at=",
-        b"/watch?at=+1",
-        b"/watch?at=1.5",
-        b"/watch?at=4294967296",
-        b"/watch?message=",
-        b"/watch?message=18446744073709551616",
-        b"/watch?message=1&pace=1000",
-        b"/watch?at=1&longest-pause=1",
-        b"/watch?pace=1000&at=1",
-        b"/watch?at=&pace=1000",
-        b"/watch?at=4294967296&pace=1000",
-        b"/watch?at=1&pace=",
-        b"/watch?at=1&pace=99",
-        b"/watch?at=1&pace=100001",
-        b"/watch?at=1&pace=1000&",
-        b"/watch?at=1&pace=1000&longest-pause=",
-        b"/watch?at=1&pace=1000&longest-pause=4294967296",
-    ];
-    for target in almost {
+    for target in NO_TARGETS {
         assert!(rt; asked_by(target).is_none());
     }
 }
@@ -125,43 +165,7 @@ fn texts_give_orders(rt: HostRuntime) -> Result<(), Fail> {
 
 #[test]
 fn other_texts_give_none(rt: HostRuntime) {
-    let almost: [&[u8]; 30] = [
-        b"",
-        b"{}",
-        b"null",
-        b"[0]",
-        b"{\"at\":}",
-        b"{\"at\":0",
-        b"\"at\":0}",
-        b"{\"at\":4294967296}",
-        b"{\"message\":18446744073709551616}",
-        b"{\"pace\":99}",
-        b"{\"pace\":100001}",
-        b"{\"longest-pause\":4294967296}",
-        // RFC 8259, section 6: numbers that aren't natural ones, or not written so.
-        b"{\"at\":-1}",
-        b"{\"at\":+1}",
-        b"{\"at\":1.0}",
-        b"{\"at\":1e3}",
-        // Section 3: other values, and other words than the three.
-        b"{\"at\":\"0\"}",
-        b"{\"at\":null}",
-        b"{\"message\":true}",
-        b"{\"longest-pause\":NULL}",
-        b"{\"pause\":null}",
-        b"{\"pause\":1}",
-        b"{\"live\":false}",
-        b"{\"live\":True}",
-        // Section 4: another name, two members, or something after the object.
-        b"{\"At\":0}",
-        b"{\"time\":0}",
-        b"{\"at\":0,\"pace\":1000}",
-        b"{\"live\":true}{\"live\":true}",
-        b"{\"at\":0}\n",
-        // Section 2: white space, which no page of this server writes.
-        b"{\"at\": 0}",
-    ];
-    for text in almost {
+    for text in NO_ORDERS {
         assert!(rt; order_of(text).is_none());
     }
 }

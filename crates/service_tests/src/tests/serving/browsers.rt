@@ -115,20 +115,31 @@ fn others_are_refused(rt: &HostRuntime, endpoint: Endpoint) -> Result<(), Fail> 
     Ok(())
 }
 
+// The length of a frame of fewer than 126 bytes.
+fn length_of(payload: &[u8]) -> Result<u8, Fail> {
+    match u8::try_from(payload.len()) {
+        Ok(length) if length < 126 => Ok(length),
+        _ => Err("a long frame".into()),
+    }
+}
+
 // Says a message of fewer than 126 bytes, masked.
 fn say(browser: &Peer, alloc: Global, first: u8, payload: &[u8]) -> Result<(), Fail> {
+    let length = length_of(payload)?;
     let mut frame = Vec::new(alloc);
-    frame.extend_from_slice(&[first, 0x80 | payload.len() as u8])?;
+    frame.extend_from_slice(&[first, 0x80 | length])?;
     frame.extend_from_slice(&MASK)?;
-    for (byte, mask) in payload.iter().zip(MASK.iter().cycle()) {
-        frame.push(byte ^ mask)?;
+    for part in payload.chunks(MASK.len()) {
+        for (byte, mask) in part.iter().zip(&MASK) {
+            frame.push(*byte ^ *mask)?;
+        }
     }
     browser.say(&frame)
 }
 
 // Hears a frame of fewer than 126 bytes: these.
 fn hear(browser: &Peer, alloc: Global, first: u8, payload: &[u8]) -> Result<(), Fail> {
-    browser.hear(alloc, &[first, payload.len() as u8])?;
+    browser.hear(alloc, &[first, length_of(payload)?])?;
     browser.hear(alloc, payload)
 }
 
@@ -138,14 +149,13 @@ fn hear_update(browser: &Peer, alloc: Global, update: &[u8]) -> Result<Vec<u8>, 
     let mut told = Vec::new(alloc);
     for _ in 0..100 {
         let (first, payload) = browser.frame(alloc)?;
-        if first == BINARY {
-            return if payload.as_slice() == update {
-                Ok(told)
-            } else {
-                Err("another update".into())
-            };
+        if first != BINARY {
+            told = payload;
+        } else if payload.as_slice() == update {
+            return Ok(told);
+        } else {
+            return Err("another update".into());
         }
-        told = payload;
     }
     Err("no update".into())
 }
@@ -214,8 +224,10 @@ fn too_far(rt: &HostRuntime, endpoint: Endpoint) -> Result<(), Fail> {
 
 // Whether what is told says this of the screen, the orders that it obeys among it.
 fn stands(told: &[u8], message: &str, orders: &str) -> bool {
-    told.starts_with(message.as_bytes())
-        && told.windows(orders.len()).any(|it| it == orders.as_bytes())
+    match str::from_utf8(told) {
+        Ok(told) => told.starts_with(message) && told.contains(orders),
+        Err(_) => false,
+    }
 }
 
 // Goes to a moment, and back to the newest screen, and last asks for what there isn't.
@@ -324,6 +336,7 @@ fn host_is_watched(rt: &HostRuntime, ends: Loopback) -> Result<(), Fail> {
     if !stands(&told, "{\"message\":1,", ",\"orders\":1,\"ended\":true}") {
         return Err("a look back".into());
     }
+    say(&browser, alloc, BINARY, &CHANGES)?;
     is_closed(&browser, alloc, 1000, b"the recorder has ended")
 }
 
