@@ -115,6 +115,9 @@ fn told(matches: &ArgMatches<'_>, is_verbose: bool) -> Told {
 fn addresses<'a>(matches: &ArgMatches<'a>) -> Result<(Option<&'a str>, Option<&'a str>), Wrong> {
     match (matches.get_str("ADDR"), matches.get_str("WEB")) {
         (None, None) => Err(Wrong::Words("one of --listen and --web is needed")),
+        (_, None) if matches.get_str("NAME").is_some() => {
+            Err(Wrong::Words("--web-name needs --web"))
+        }
         addresses => Ok(addresses),
     }
 }

@@ -251,7 +251,7 @@ const COMMANDS: [CommandWords; 16] = [
             Value(
                 "viewers",
                 "N",
-                "How many viewers are waited for, 1 to 256, or any: whoever comes [default: 1]",
+                "How many viewers are waited for, 1 to 256, or any: whoever comes [default: 1; with --web: any]",
             ),
             Value(
                 "from",

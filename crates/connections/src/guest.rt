@@ -67,7 +67,9 @@ impl<C: Connection> Guest<C> {
     fn hear<R: Clock>(&mut self, rt: &R, piece: &[u8]) -> io::Result<bool>
         ensures size { self.new.size ≡ self.old.size }
     {
+        // Orders before the end of the handshake are about nothing.
         self.heard.payload.clear();
+        self.heard.words.clear();
         let is_carried = self.carriage.take(piece, &mut self.heard);
         let goes_on = self.session.feed(&self.heard.payload).is_ok() && is_carried;
         let mut due = Vec::new(self.alloc);
@@ -132,6 +134,8 @@ pub(crate) fn hear_version<C: Connection, R: Clock>(
                 if count == 0 || !carriage.take(&buffer[..count], &mut heard) {
                     return Ok(false);
                 }
+                heard.words.clear();
+                heard.replies.clear();
             }
         }
     }

@@ -90,6 +90,14 @@ const ENCODINGS = [1, 5, 2, 0];
 // the session stands each 15 seconds at least.
 const LONGEST_ANSWER = 10000, LONGEST_SILENCE = 40000;
 
+// What the page asks for. Browsers refuse addresses with the name and password by which the page itself may
+// have been opened, and have them without.
+function addressOf(target) {
+  const address = new URL(target, location.href);
+  address.username = address.password = '';
+  return address;
+}
+
 // A session of RFB 3.8 (RFC 6143) over a WebSocket. Its owner is told what comes: `opened`, `heard`,
 // `glimpsed`, `painted`; and how it ends: `closed` or `failed`.
 class Session {
@@ -112,7 +120,7 @@ class Session {
     this.longestPause = null;
     this.heardAt = this.askedAt = performance.now();
     this.steps = this.run();
-    const address = new URL('watch' + query, location.href);
+    const address = addressOf('watch' + query);
     address.protocol = address.protocol.replace('http', 'ws');
     this.socket = new WebSocket(address);
     this.socket.binaryType = 'arraybuffer';
@@ -581,7 +589,7 @@ const PARTS = 4096;
 // The recorder answers, and tells nothing.
 class Refusal extends Error {}
 
-const timesFrom = block => fetch('times?from=' + block, { signal: AbortSignal.timeout(LONGEST_ANSWER) });
+const timesFrom = block => fetch(addressOf('times?from=' + block), { signal: AbortSignal.timeout(LONGEST_ANSWER) });
 
 // How many updates came when, over the whole recording: in each of as many milliseconds as `every`.
 class Overview {

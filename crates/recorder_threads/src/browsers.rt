@@ -22,7 +22,8 @@ use telling::Event;
 use terms::ScreenSize;
 use web_door::{Judged, Refusal, judge, write_answer};
 use web_lobby::{
-    Head, Outlet, hear, status_of, wait_for_end, write_head, write_refusal, write_text,
+    Head, Outlet, UPGRADE_REQUIRED, hear, status_of, wait_for_end, write_head, write_refusal,
+    write_text,
 };
 use web_target::{Asked, Beginning};
 
@@ -45,7 +46,7 @@ enum Followed {
 fn status_of_refusal(refusal: Refusal) -> &'static str {
     match refusal {
         Refusal::Head(fault) => status_of(fault),
-        Refusal::NoUpgrade => "426 Upgrade Required",
+        Refusal::NoUpgrade => UPGRADE_REQUIRED,
         Refusal::Foreign => "403 Forbidden",
         Refusal::Early => "400 Bad Request",
     }

@@ -30,8 +30,8 @@ pub enum Fault {
     /// 400: it isn't HTTP/1, or hasn't the one Host field that it has to have.
     #[error("this isn't an HTTP request")]
     BadRequest,
-    /// 403: it was sent to another name than an address or `localhost`.
-    #[error("this server answers to addresses and to localhost alone")]
+    /// 403: it was sent to another name than an address, `localhost` or one of the server's own.
+    #[error("this server answers to addresses, to localhost and to its own names alone")]
     Forbidden,
     /// 404: there is no such thing. What there is knows only who reads a head.
     #[error("there is no such thing")]

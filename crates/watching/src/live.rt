@@ -48,7 +48,7 @@ impl Live {
             has_failed: viewing.has_failed,
             has_left: viewing.viewer.is_over(),
             is_closing: viewing.is_closing(),
-            is_alone: viewing.room.stays,
+            is_alone: viewing.room.is_alone,
         }
     }
 }

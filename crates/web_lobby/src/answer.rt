@@ -20,6 +20,10 @@ pub struct Head<'a> {
     pub size: u64,
 }
 
+/// The status of an answer that refuses what isn't a WebSocket of version 13. It names that protocol
+/// and that version (RFC 9110, section 15.5.22, and RFC 6455, section 4.4).
+pub const UPGRADE_REQUIRED: &str = "426 Upgrade Required";
+
 /// Writes what stands before the body. No other page may use what is served, nothing is kept by a
 /// browser, the page uses nothing from elsewhere, and the connection ends after the body.
 pub fn write_head<W: Write>(out: &mut W, head: Head<'_>) -> io::Result<()> {
@@ -40,6 +44,9 @@ pub fn write_head<W: Write>(out: &mut W, head: Head<'_>) -> io::Result<()> {
         out,
         "Cross-Origin-Resource-Policy: same-origin\r\nContent-Security-Policy: default-src 'self'; img-src 'self' blob: data:; frame-ancestors 'none'\r\n"
     )?;
+    if status == UPGRADE_REQUIRED {
+        write!(out, "Upgrade: websocket\r\nSec-WebSocket-Version: 13\r\n")?;
+    }
     write!(out, "Allow: GET\r\nConnection: close\r\n\r\n")
 }
 

@@ -6,7 +6,9 @@ mod guests;
 mod hearing;
 mod lobby;
 
-pub use answer::{Head, status_of, write_failure, write_head, write_refusal, write_text};
+pub use answer::{
+    Head, UPGRADE_REQUIRED, status_of, write_failure, write_head, write_refusal, write_text,
+};
 pub use guests::{Entrance, Guest, Guests};
 pub use hearing::{Outlet, hear, wait_for_end};
 pub use lobby::Lobby;
