@@ -1,6 +1,5 @@
 //! Bytes in the frames of a WebSocket.
 
-use crate::carriage::Carriage;
 use crate::ending::Ending;
 use crate::status::Status;
 use std::alloc::{AllocError, Global};
@@ -9,6 +8,12 @@ use web_frames::{Fault, Frames, Heard};
 /// How many bytes of an answer a frame carries at most, so that a browser paints while the rest
 /// comes.
 const LARGEST_PART: usize = 32_768;
+
+// What a fault in writing is to who writes: no memory, for a connection that is closed is written to
+// no more.
+fn unwritten(_fault: Fault) -> AllocError {
+    AllocError
+}
 
 /// The frames of a connection whose upgrade was answered.
 #[derive(Drop)]
@@ -25,16 +30,10 @@ impl Framed {
             frames: Frames::new(alloc),
         }
     }
-}
 
-// What a fault in writing is to who writes: no memory, for a connection that is closed is written to
-// no more.
-fn unwritten(_fault: Fault) -> AllocError {
-    AllocError
-}
-
-impl Carriage for Framed {
-    fn take(&mut self, piece: &[u8], heard: &mut Heard) -> bool {
+    /// Takes the next piece of what comes, and appends what it carries. `false` ends the connection,
+    /// which is told why.
+    pub fn take(&mut self, piece: &[u8], heard: &mut Heard) -> bool {
         match self.frames.feed(piece, heard) {
             Ok(()) => true,
             Err(fault) => {
@@ -44,19 +43,22 @@ impl Carriage for Framed {
         }
     }
 
-    fn wrap(&mut self, answer: &[u8], out: &mut Vec<u8>) -> Result<(), AllocError> {
+    /// Appends an answer in binary messages.
+    pub fn wrap(&mut self, answer: &[u8], out: &mut Vec<u8>) -> Result<(), AllocError> {
         for part in answer.chunks(LARGEST_PART) {
             self.frames.wrap(part, out).map_err(unwritten)?;
         }
         Ok(())
     }
 
-    fn tell(&mut self, status: Status, out: &mut Vec<u8>) -> Result<(), AllocError> {
+    /// Appends a status as a text.
+    pub fn tell(&mut self, status: Status, out: &mut Vec<u8>) -> Result<(), AllocError> {
         let text = status.text(self.alloc)?;
         self.frames.tell(text.as_str(), out).map_err(unwritten)
     }
 
-    fn end(&mut self, ending: Ending, out: &mut Vec<u8>) -> Result<(), AllocError> {
+    /// Appends the close of the connection, once.
+    pub fn end(&mut self, ending: Ending, out: &mut Vec<u8>) -> Result<(), AllocError> {
         self.frames
             .close(ending.code(), ending.reason(), out)
             .map_err(unwritten)

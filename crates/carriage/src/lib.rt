@@ -6,7 +6,7 @@ mod ending;
 mod framed;
 mod status;
 
-pub use carriage::{Carriage, Plain};
+pub use carriage::Carriage;
 pub use ending::Ending;
 pub use framed::Framed;
 pub use status::Status;

@@ -1,6 +1,6 @@
 //! What is told in a WebSocket, byte by byte (RFC 6455, sections 5.2, 5.5.1 and 7.4).
 
-use crate::{Carriage, Ending, Framed, Plain, Status};
+use crate::{Carriage, Ending, Status};
 use reception::Reason;
 use std::test::Fail;
 use web_frames::{Fault, Heard};
@@ -55,11 +55,11 @@ fn a_status_is_told(rt: HostRuntime) -> Result<(), Fail> {
         "{\"message\":3,\"time\":1500,\"length\":2000,\"watching\":2,\"orders\":1,\"ended\":false}";
     assert!(rt; STATUS.text(alloc)?.as_str() == text);
     let mut out = Vec::new(alloc);
-    Framed::new(alloc).tell(STATUS, &mut out)?;
+    Carriage::framed(alloc).tell(STATUS, &mut out)?;
     assert!(rt; out.strip_prefix(b"\x81\x4d") == Some(text.as_bytes()));
     out.clear();
-    Plain.tell(STATUS, &mut out)?;
-    Plain.end(Ending::Ended, &mut out)?;
+    Carriage::Plain.tell(STATUS, &mut out)?;
+    Carriage::Plain.end(Ending::Ended, &mut out)?;
     assert!(rt; out.is_empty());
     // What a viewer is shown isn't news of the session.
     let shown = Status {
@@ -96,10 +96,10 @@ fn answers_are_carried(rt: HostRuntime) -> Result<(), Fail> {
     answer.resize(32_768, b'x')?;
     answer.push(b'y')?;
     let mut out = Vec::new(alloc);
-    Plain.wrap(&answer, &mut out)?;
+    Carriage::Plain.wrap(&answer, &mut out)?;
     assert!(rt; out == answer);
     out.clear();
-    Framed::new(alloc).wrap(&answer, &mut out)?;
+    Carriage::framed(alloc).wrap(&answer, &mut out)?;
     let mut expected = b"\x82\x7e\x80\0".to_vec(alloc)?;
     expected.resize(4 + 32_768, b'x')?;
     expected.extend_from_slice(b"\x82\x01y")?;
@@ -111,8 +111,8 @@ fn answers_are_carried(rt: HostRuntime) -> Result<(), Fail> {
 fn what_comes_is_carried(rt: HostRuntime) -> Result<(), Fail> {
     let alloc = rt.alloc();
     let mut heard = Heard::new(alloc);
-    assert!(rt; Plain.take(b"Hi", &mut heard));
-    let mut framed = Framed::new(alloc);
+    assert!(rt; Carriage::Plain.take(b"Hi", &mut heard));
+    let mut framed = Carriage::framed(alloc);
     // A binary message and the text of section 5.7, each masked.
     assert!(rt; framed.take(b"\x82\x81\0\0\0\0!", &mut heard));
     assert!(rt; framed.take(b"\x81\x85\x37\xfa\x21\x3d\x7f\x9f\x4d\x51\x58", &mut heard));
@@ -133,7 +133,7 @@ fn endings_have_codes(rt: HostRuntime) -> Result<(), Fail> {
     let alloc = rt.alloc();
     for (ending, frame) in ENDINGS {
         let mut out = Vec::new(alloc);
-        Framed::new(alloc).end(ending, &mut out)?;
+        Carriage::framed(alloc).end(ending, &mut out)?;
         assert!(rt; out.as_slice() == frame, "{}", ending.reason());
     }
     Ok(())

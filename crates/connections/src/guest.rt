@@ -36,7 +36,7 @@ pub struct Guest<C: Connection> {
     pub(crate) alloc: Global,
     pub(crate) connection: C,
     pub(crate) session: Session,
-    pub(crate) carriage: C::Carriage,
+    pub(crate) carriage: Carriage,
     pub(crate) heard: Heard,
     /// The size of the screen that it is told of.
     pub size: ScreenSize,
@@ -115,7 +115,7 @@ pub(crate) fn hear_version<C: Connection, R: Clock>(
     rt: &R,
     alloc: Global,
     connection: &C,
-    carriage: &mut C::Carriage,
+    carriage: &mut Carriage,
     bell: &Bell,
 ) -> io::Result<bool> {
     let started = Instant::now(rt)?;
@@ -147,7 +147,7 @@ pub(crate) fn say<C: Connection, R: Clock>(
     rt: &R,
     alloc: Global,
     connection: &C,
-    carriage: &mut C::Carriage,
+    carriage: &mut Carriage,
     answer: &[u8],
 ) -> io::Result<()> {
     let mut out = Vec::new(alloc);

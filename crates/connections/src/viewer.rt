@@ -52,9 +52,9 @@ enum Heeded {
 
 /// A viewer's session of the recording's size, and what carries it.
 #[derive(Drop)]
-struct Talk<M: Mark, G: Carriage> {
+struct Talk<M: Mark> {
     session: Session,
-    carriage: G,
+    carriage: Carriage,
     /// What came last; what it is to be answered waits here.
     heard: Heard,
     /// What a viewer in a browser has asked for; `None` for any other.
@@ -103,7 +103,7 @@ fn wait_after<M: Mark, R: Clock>(rt: &R, room: &Room<M>, order: Option<Instant>)
     }
 }
 
-impl<M: Mark, G: Carriage> Talk<M, G> {
+impl<M: Mark> Talk<M> {
     // Takes the orders that came: whether there were some; `None` if one asks for what there isn't.
     fn heed(&mut self, facts: &Facts) -> Option<bool> {
         let mut has_some = false;
@@ -278,7 +278,7 @@ impl<M: Mark, G: Carriage> Talk<M, G> {
 pub struct Viewer<M: Mark, C: Connection> {
     alloc: Global,
     connection: C,
-    talk: Mutex<Talk<M, C::Carriage>>,
+    talk: Mutex<Talk<M>>,
     changed: Condvar,
     has_left: AtomicBool,
     is_steered: AtomicBool,

@@ -4,7 +4,7 @@ ghost use Rattle.std.specs.Prelude.{◌≤◌, IfOk, length};
 
 use crate::bell::{Bell, Woken};
 use crate::limits::{watch_over, write_within};
-use carriage::{Carriage, Plain};
+use carriage::Carriage;
 use std::alloc::Global;
 use std::io;
 use std::io::Read;
@@ -15,11 +15,8 @@ use std::time::{Clock, Duration};
 /// A way to a viewer, which one thread reads from and both write to. A TCP socket is one; a viewer's
 /// threads know no other of its sides.
 pub trait Connection: Drop {
-    /// How bytes are carried on it.
-    type Carriage: Carriage + Send;
-
     /// The carriage of a connection that begins.
-    fn carriage(&self, alloc: Global) -> Self::Carriage;
+    fn carriage(&self, alloc: Global) -> Carriage;
 
     /// Has small writes go out at once, and a viewer that vanished noticed.
     fn watch_over(&self) -> io::Result<()>;
@@ -41,10 +38,8 @@ pub trait Connection: Drop {
 }
 
 impl Connection for TcpStream {
-    type Carriage = Plain;
-
-    fn carriage(&self, _alloc: Global) -> Plain {
-        Plain
+    fn carriage(&self, _alloc: Global) -> Carriage {
+        Carriage::Plain
     }
 
     fn watch_over(&self) -> io::Result<()> {

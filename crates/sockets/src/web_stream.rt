@@ -4,7 +4,7 @@ ghost use Rattle.std.specs.Prelude.{◌≤◌, IfOk, length};
 
 use crate::bell::{Bell, Woken};
 use crate::connection::Connection;
-use carriage::Framed;
+use carriage::Carriage;
 use std::alloc::Global;
 use std::io;
 use std::net::TcpStream;
@@ -16,10 +16,8 @@ use std::time::{Clock, Duration};
 pub struct WebStream(pub Arc<TcpStream>);
 
 impl Connection for WebStream {
-    type Carriage = Framed;
-
-    fn carriage(&self, alloc: Global) -> Framed {
-        Framed::new(alloc)
+    fn carriage(&self, alloc: Global) -> Carriage {
+        Carriage::framed(alloc)
     }
 
     fn watch_over(&self) -> io::Result<()> {
