@@ -6,6 +6,7 @@ use crate::ending::Ending;
 use crate::framed::Framed;
 use crate::status::Status;
 use std::alloc::{AllocError, Global};
+use std::mem;
 use web_frames::Heard;
 
 /// Carries a viewer's bytes both ways. It knows no socket, and keeps the order of what it is given.
@@ -34,12 +35,17 @@ impl Carriage {
         }
     }
 
-    /// Appends an answer as it is carried. An error ends the connection.
-    pub fn wrap(&mut self, answer: &[u8], out: &mut Vec<u8>) -> Result<(), AllocError>
-        ensures { self.old ≡ Carriage.Plain → OnOk result (out.new.items ≡ out.old.items ++ answer.now) }
+    /// Appends an answer as it is carried, whose vector is used up: a plain one is copied only if
+    /// something comes before it. An error ends the connection.
+    pub fn wrap(&mut self, answer: &mut Vec<u8>, out: &mut Vec<u8>) -> Result<(), AllocError>
+        ensures { self.old ≡ Carriage.Plain → OnOk result (out.new.items ≡ out.old.items ++ answer.old.items) }
     {
         match self {
-            Carriage::Plain => out.extend_from_slice(answer),
+            Carriage::Plain if out.is_empty() => {
+                mem::swap(out, answer);
+                Ok(())
+            }
+            Carriage::Plain => out.append(answer),
             Carriage::Framed(framed) => framed.wrap(answer, out),
         }
     }

@@ -96,10 +96,10 @@ fn answers_are_carried(rt: HostRuntime) -> Result<(), Fail> {
     answer.resize(32_768, b'x')?;
     answer.push(b'y')?;
     let mut out = Vec::new(alloc);
-    Carriage::Plain.wrap(&answer, &mut out)?;
+    Carriage::Plain.wrap(&mut answer.to_vec(alloc)?, &mut out)?;
     assert!(rt; out == answer);
     out.clear();
-    Carriage::framed(alloc).wrap(&answer, &mut out)?;
+    Carriage::framed(alloc).wrap(&mut answer, &mut out)?;
     let mut expected = b"\x82\x7e\x80\0".to_vec(alloc)?;
     expected.resize(4 + 32_768, b'x')?;
     expected.extend_from_slice(b"\x82\x01y")?;
@@ -124,7 +124,7 @@ fn what_comes_is_carried(rt: HostRuntime) -> Result<(), Fail> {
     assert!(rt; heard.replies.as_slice() == closed.as_slice());
     let mut out = Vec::new(alloc);
     framed.end(Ending::Ended, &mut out)?;
-    assert!(rt; out.is_empty() && framed.wrap(b"x", &mut out).is_err());
+    assert!(rt; out.is_empty() && framed.wrap(&mut b"x".to_vec(alloc)?, &mut out).is_err());
     Ok(())
 }
 

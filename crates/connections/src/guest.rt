@@ -76,7 +76,7 @@ impl<C: Connection> Guest<C> {
         self.session.answer(&mut due)?;
         let mut out = Vec::new(self.alloc);
         out.append(&mut self.heard.replies)?;
-        self.carriage.wrap(&due, &mut out)?;
+        self.carriage.wrap(&mut due, &mut out)?;
         self.connection.write_within(rt, &out, HANDSHAKE)?;
         Ok(goes_on)
     }
@@ -151,6 +151,6 @@ pub(crate) fn say<C: Connection, R: Clock>(
     answer: &[u8],
 ) -> io::Result<()> {
     let mut out = Vec::new(alloc);
-    carriage.wrap(answer, &mut out)?;
+    carriage.wrap(&mut answer.to_vec(alloc)?, &mut out)?;
     connection.write_within(rt, &out, HANDSHAKE)
 }

@@ -85,9 +85,9 @@ fn is_of_whole_screen(message: &HostMessage) -> bool {
 }
 
 // Goes on by what a viewer was handed.
-fn follow(course: &mut Course, slice: &Slice) {
+fn follow(course: &mut Course, slice: &Slice, facts: &Facts) {
     if slice.start.is_some() {
-        course.hand_screen();
+        course.hand_screen(facts.length());
     }
     if let Some(last) = slice.messages.last() {
         course.hand_message(last.time);
@@ -140,7 +140,7 @@ impl<M: Mark> Talk<M> {
     }
 
     // Goes on by a slice that begins at the session's position, or has a start: whether it does.
-    fn advance(&mut self, slice: &Slice) -> bool
+    fn advance(&mut self, slice: &Slice, facts: &Facts) -> bool
         requires sized { IsOfSize (size_of M.head) slice.now }
         requires room { slice.now.first + length slice.now.messages.items < 2 ^ 64 }
     {
@@ -149,7 +149,7 @@ impl<M: Mark> Talk<M> {
         }
         self.session.advance(slice);
         if let Some(course) = &mut self.course {
-            follow(course, slice);
+            follow(course, slice, facts);
         }
         self.is_answered = self.is_answered && slice.start.is_none() && slice.messages.is_empty();
         self.lacks_all = self.lacks_all || slice.start.is_some();
@@ -188,7 +188,7 @@ impl<M: Mark> Talk<M> {
                 self.is_answered = true;
                 self.tell(facts, &mut out)?;
             }
-            self.carriage.wrap(&due, &mut out)?;
+            self.carriage.wrap(&mut due, &mut out)?;
         }
         connection.write_within(rt, &out, ANSWER)
     }
@@ -335,6 +335,14 @@ impl<M: Mark, C: Connection> Viewer<M, C> {
         Some(talk.course.as_mut()?.begin())
     }
 
+    // Says that it asks for something else, to who waits for it.
+    fn steer<R: Wait>(&self, rt: &R) {
+        self.is_steered.store(true, Ordering::SeqCst);
+        // Who looked before is asleep once the lock is free, and is woken.
+        drop(self.talk.lock(rt));
+        self.changed.notify_all();
+    }
+
     /// Ends the connection. A write that waits for the viewer fails then.
     pub fn leave<R: Wait>(&self, rt: &R) {
         self.has_left.store(true, Ordering::SeqCst);
@@ -382,7 +390,7 @@ impl<M: Mark, C: Connection> Viewer<M, C> {
         requires room { slice.now.first + length slice.now.messages.items < 2 ^ 64 }
     {
         let mut talk = self.talk.lock(rt);
-        let is_shown = talk.advance(slice)
+        let is_shown = talk.advance(slice, facts)
             && talk.answer(rt, self.alloc, &self.connection, facts).is_ok();
         drop(talk);
         if !is_shown {
@@ -476,7 +484,7 @@ impl<M: Mark, C: Connection> Viewer<M, C> {
                 Heeded::Steered => {
                     wait_after(rt, room, steered);
                     steered = Instant::now(rt).ok();
-                    self.is_steered.store(true, Ordering::SeqCst);
+                    self.steer(rt);
                     shared.wake(rt);
                     room.hall.wake(rt);
                 }

@@ -48,6 +48,13 @@ begins_at length now (shows.After count) = now
 begins_at length now (shows.Played playback) = min playback.time length
 begins_at length now (shows.Still time) = min time length
 
+-- the time of a screen that is handed out in a session that is so long, for who is at that time
+abbrev pub time_of_screen : ℕ → ℕ → Showing → ℕ
+time_of_screen length now shows.Live = length
+time_of_screen length now (shows.After count) = now
+time_of_screen length now (shows.Played playback) = now
+time_of_screen length now (shows.Still time) = now
+
 -- what follows on an order at a time
 abbrev pub after_order : Order → ℕ → Steering → Steering
 after_order (order.At time) now s = record s { showing = to_time time s s.showing }

@@ -1,7 +1,7 @@
 //! How far a viewer's orders are obeyed.
 
 ghost use Rattle.std.specs.Prelude.{◌≡◌, ◌≢◌, ◌↔◌, ◌+◌, ◌-◌, ◌^◌, IsTrue, min};
-ghost use Rattle.steering.specs.Steering.{after_order, begins_at};
+ghost use Rattle.steering.specs.Steering.{after_order, begins_at, time_of_screen};
 
 use crate::steering::{Showing, Steering};
 use web_target::Order;
@@ -82,13 +82,18 @@ impl Course {
         self.steering
     }
 
-    /// Hands it a screen, of what was begun last: of anything else it obeys nothing.
-    pub fn hand_screen(&mut self)
-        ensures obeyed { self.old.stage ≡ Stage.Begun → self.new ≡ record self.old { stage = Stage.Obeyed } }
-        ensures other { self.old.stage ≢ Stage.Begun → self.new ≡ self.old }
+    /// Hands it a screen of what was begun last, unless it has asked for something else: that is obeyed.
+    /// The newest screen, in a session of this length in milliseconds, is of its end.
+    pub fn hand_screen(&mut self, length: u32)
+        ensures obeyed { self.old.stage ≢ Stage.Ordered → self.new ≡ record self.old { stage = Stage.Obeyed; time = time_of_screen length self.old.time self.old.steering.showing } }
+        ensures other { self.old.stage ≡ Stage.Ordered → self.new ≡ self.old }
     {
-        if self.stage == Stage::Begun {
-            self.stage = Stage::Obeyed;
+        if self.stage == Stage::Ordered {
+            return;
+        }
+        self.stage = Stage::Obeyed;
+        if self.steering.showing == Showing::Live {
+            self.time = length;
         }
     }
 

@@ -119,14 +119,17 @@ fn an_order_is_obeyed_by_its_own_screen(rt: HostRuntime) -> Result<(), Fail> {
     assert!(rt; course.time == 900 && course.orders == 0 && !course.is_obeyed());
     assert!(rt; course.begin().showing == Showing::Live);
     course.hand_message(910);
+    // The newest screen is of the session's end.
+    course.hand_screen(912);
+    assert!(rt; course.is_obeyed() && course.time == 912);
     // It comes while what was asked for before is begun, of which a screen and a message come then.
     course.take(Order::At(3), 920);
-    course.hand_screen();
+    course.hand_screen(922);
     course.hand_message(915);
     assert!(rt; course.stage == Stage::Ordered && course.time == 3 && course.orders == 1);
     assert!(rt; course.begin().showing == played(3, normal, None));
     assert!(rt; !course.is_obeyed());
-    course.hand_screen();
+    course.hand_screen(925);
     course.hand_message(4);
     assert!(rt; course.is_obeyed() && course.time == 4);
     // It stands still at the time that it is at.
