@@ -11,7 +11,7 @@ use std::alloc::Global;
 use terms::ScreenSize;
 
 /// The size of a screen of one pixel.
-pub const ONE_PLACE: ScreenSize = ScreenSize {
+pub const ONE_PIXEL: ScreenSize = ScreenSize {
     width: 1,
     height: 1,
 };
@@ -19,9 +19,9 @@ pub const ONE_PLACE: ScreenSize = ScreenSize {
 /// A desk over a new recording of one pixel, with a key interval of 4 and the name 'x', boxed; none
 /// when memory runs out, the device fails, or the disk has bytes.
 pub fn desk_of_one_pixel<D: Disk + Drop>(alloc: Global, disk: D) -> Option<Box<Desk<D>>>
-    ensures offset { IfSome result (λ desk. IsOfOnePixel desk.value.head) }
+    ensures pixel { IfSome result (λ desk. IsOfOnePixel desk.value.head) }
 {
-    let header = Header::new(alloc, ONE_PLACE, 4, b"x").ok()?;
+    let header = Header::new(alloc, ONE_PIXEL, 4, b"x").ok()?;
     match Book::create(alloc, disk, header) {
         Ok(book) => Box::new(alloc, Desk::new(book)).ok(),
         Err(_) => None,

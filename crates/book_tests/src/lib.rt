@@ -3,7 +3,7 @@
 
 mod desk;
 
-pub use desk::{ONE_PLACE, desk_of_one_pixel};
+pub use desk::{ONE_PIXEL, desk_of_one_pixel};
 
 #[cfg(test)]
 mod tests;

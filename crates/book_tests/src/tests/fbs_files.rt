@@ -1,7 +1,7 @@
 //! What no clause says of `fbs_export`: a file worked by hand, and a reader and a writer that fail.
 //! Further files, and what is exported, are told by the program's transcripts.
 
-use crate::ONE_PLACE;
+use crate::ONE_PIXEL;
 use disk::MemoryDisk;
 use fbs_export::{ExportFault, FbsFault, Summary, check, export};
 use key_index::Indexed;
@@ -84,7 +84,7 @@ fn each_read_fails_once(rt: HostRuntime) -> Result<(), Fail> {
         assert!(rt; fault == Some(FbsFault::Read), "after {calls} calls");
     }
     let told = checked_after(rt.alloc(), 105)?;
-    assert!(rt; told.size == ONE_PLACE && told.rest == 0);
+    assert!(rt; told.size == ONE_PIXEL && told.rest == 0);
     assert!(rt; told.messages.len() == 1 && told.messages[0].time == 9);
     Ok(())
 }

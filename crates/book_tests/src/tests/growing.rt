@@ -2,7 +2,7 @@
 
 ghost use Rattle.std.specs.Prelude.{◌+◌, ◌<◌, ◌^◌, false, [], length};
 
-use crate::ONE_PLACE;
+use crate::ONE_PIXEL;
 use disk::{Disk, DiskFault, MemoryDisk};
 use gated_journal::{BlockText, Header, Journal, OpenFault, State};
 use key_index::{IndexFault, Indexed};
@@ -65,7 +65,7 @@ impl Disk for GrowingDisk {
         Ok(())
     }
 
-    fn write_at(&mut self, _place: u64, _bytes: &[u8]) -> Result<(), DiskFault> {
+    fn write_at(&mut self, _offset: u64, _bytes: &[u8]) -> Result<(), DiskFault> {
         Err(DiskFault)
     }
 
@@ -101,7 +101,7 @@ fn with_a_block(alloc: Global, file: &[u8], is_opened: bool) -> Result<Vec<u8>, 
 
 // The states of a recording of one block to which a recorder adds three more.
 fn states(alloc: Global, format: Format) -> Result<Vec<Vec<u8>>, Fail> {
-    let header = Header::with_format(alloc, format, ONE_PLACE, 4, b"x")?;
+    let header = Header::with_format(alloc, format, ONE_PIXEL, 4, b"x")?;
     let Ok(journal) = Journal::create(alloc, MemoryDisk::new(alloc), header) else {
         return Err("not created".into());
     };

@@ -8,7 +8,7 @@ ghost use Rattle.book_workers.specs.Accounts.{IsSettled, LacksLast, accepted_in}
 ghost use Rattle.book_tests.specs.OnePixel.{IsOfOnePixel};
 
 use super::UPDATE;
-use crate::{ONE_PLACE, desk_of_one_pixel};
+use crate::{ONE_PIXEL, desk_of_one_pixel};
 use book_workers::{
     FlusherEnd, HostSource, Point, ReceiptSink, Turnstile, ViewerSink, ViewerWish, run_flusher,
     run_host, run_viewer,
@@ -83,7 +83,7 @@ impl<M: Mark> Script<M> {
 fn update(alloc: Global, number: usize) -> Option<Stamped>
     ensures { IfSome result (λ s. (s.message.format ≡ One) × (s.message.width ≡ 1) × (s.message.height ≡ 1)) }
 {
-    let Ok(message) = HostMessage::from_bytes(alloc, ONE_PLACE, &UPDATE) else {
+    let Ok(message) = HostMessage::from_bytes(alloc, ONE_PIXEL, &UPDATE) else {
         return None;
     };
     let time = u32::try_from(number).unwrap_or(u32::MAX);

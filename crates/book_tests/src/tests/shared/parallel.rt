@@ -5,7 +5,7 @@ ghost use Rattle.flusher_core.specs.State.{accepted_count};
 ghost use Rattle.book_tests.specs.OnePixel.{IsOfOnePixel};
 
 use super::{UPDATE, confirm, find};
-use crate::{ONE_PLACE, desk_of_one_pixel};
+use crate::{ONE_PIXEL, desk_of_one_pixel};
 use book_workers::{
     FlusherEnd, HostSource, Point, ReceiptSink, Turnstile, ViewerEnd, ViewerSink, ViewerWish,
     run_flusher, run_host, run_viewer,
@@ -150,7 +150,7 @@ impl<'a, M: Mark, R: Clock> HostSource<Ticket<M>> for Updates<'a, M, R> {
             self.gates.hold_until(Order::Meeting, sending, 1);
         }
         self.given += 1;
-        match HostMessage::from_bytes(self.alloc, ONE_PLACE, &UPDATE) {
+        match HostMessage::from_bytes(self.alloc, ONE_PIXEL, &UPDATE) {
             Ok(message) => Some(Stamped { time: 0, message }),
             Err(_) => {
                 self.gates.lacks();

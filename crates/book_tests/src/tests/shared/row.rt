@@ -5,7 +5,7 @@ ghost use Rattle.flusher_core.specs.State.{accepted_count};
 ghost use Rattle.book_tests.specs.OnePixel.{IsOfOnePixel};
 
 use super::UPDATE;
-use crate::{ONE_PLACE, desk_of_one_pixel};
+use crate::{ONE_PIXEL, desk_of_one_pixel};
 use broadcast::{Desk, Start};
 use disk::{Disk, MemoryDisk};
 use flusher_core::BlockStart;
@@ -40,7 +40,7 @@ fn record<D: Disk, M: Mark, R: Wait>(
 ) -> Option<()>
     requires { IsOfOnePixel M.head }
 {
-    let message = HostMessage::from_bytes(alloc, ONE_PLACE, &UPDATE).ok()?;
+    let message = HostMessage::from_bytes(alloc, ONE_PIXEL, &UPDATE).ok()?;
     let Sharing {
         shared,
         host,

@@ -5,7 +5,7 @@ ghost use Rattle.flusher_core.specs.State.{accepted_count};
 ghost use Rattle.book_tests.specs.OnePixel.{IsOfOnePixel};
 
 use super::{UPDATE, confirm, find};
-use crate::{ONE_PLACE, desk_of_one_pixel};
+use crate::{ONE_PIXEL, desk_of_one_pixel};
 use Line::{At, Bell, Body, Foreign, Gate, Key, Leave, Live, Newest, Next, Seek, Take, Update};
 use broadcast::{Desk, Seat, Start};
 use disk::{Disk, FailingDisk, MemoryDisk, Switch};
@@ -123,12 +123,12 @@ fn host<D: Disk, M: Mark, R: Wait>(
     tickets: &mut Vec<Ticket<M>>,
     bytes: &[u8],
 ) -> Option<bool>
-    requires offset { IsOfOnePixel desk.old.head }
+    requires pixel { IsOfOnePixel desk.old.head }
     requires sized { IsOfOnePixel M.head }
     ensures head { desk.new.head ≡ desk.old.head }
 {
-    let message = HostMessage::from_bytes(alloc, ONE_PLACE, bytes).ok()?;
-    let again = HostMessage::from_bytes(alloc, ONE_PLACE, bytes).ok()?;
+    let message = HostMessage::from_bytes(alloc, ONE_PIXEL, bytes).ok()?;
+    let again = HostMessage::from_bytes(alloc, ONE_PIXEL, bytes).ok()?;
     let Sharing { shared, host, .. } = sharing;
     match (desk.host(0, message), shared.host(rt, host, 0, again)) {
         (Ok(number), Ok(ticket)) => {
@@ -192,7 +192,7 @@ fn both<D: Disk, M: Mark, R: Wait>(
     kept: &mut Kept<M>,
     line: Line,
 ) -> Option<bool>
-    requires offset { IsOfOnePixel desk.old.head }
+    requires pixel { IsOfOnePixel desk.old.head }
     requires sized { IsOfOnePixel M.head }
     ensures head { desk.new.head ≡ desk.old.head }
 {
@@ -248,7 +248,7 @@ fn run_lines<D: Disk, M: Mark, R: Wait + Abort>(
     kept: &mut Kept<M>,
     lines: &[Line],
 )
-    requires offset { IsOfOnePixel desk.old.head }
+    requires pixel { IsOfOnePixel desk.old.head }
     requires sized { IsOfOnePixel M.head }
 {
     for line in lines {
@@ -276,7 +276,7 @@ fn run_both<D: Disk + Drop, M: Mark, R: Wait + Abort>(
     twin: Box<Desk<D>>,
     lines: &[Line],
 ) -> Result<(), ReadFault>
-    requires offset { IsOfOnePixel desk.old.head }
+    requires pixel { IsOfOnePixel desk.old.head }
     requires head { twin.value.head ≡ M.head }
     requires modelled { (D.is_modelled → M.is_modelled) × (M.is_modelled → D.is_modelled) }
     requires first { accepted_count twin.value.state.book ≡ M.first }
@@ -302,7 +302,7 @@ fn run_both<D: Disk + Drop, M: Mark, R: Wait + Abort>(
 
 // A desk whose disk fails once, after so many calls.
 fn failing_desk(alloc: Global, calls: u64) -> Option<Box<Desk<FailingDisk<MemoryDisk>>>>
-    ensures offset { IfSome result (λ desk. IsOfOnePixel desk.value.head) }
+    ensures pixel { IfSome result (λ desk. IsOfOnePixel desk.value.head) }
 {
     let switch = Switch::new(alloc).ok()?;
     let disk = FailingDisk::new(MemoryDisk::new(alloc), switch.clone().ok()?);
