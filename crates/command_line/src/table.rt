@@ -212,7 +212,7 @@ const COMMANDS: [CommandWords; 16] = [
             NeededValue(
                 "file",
                 "PATH",
-                "The recording; made for a host where it isn't there",
+                "The recording; made for a host if it isn't there",
             ),
             Value(
                 "listen",
@@ -256,7 +256,7 @@ const COMMANDS: [CommandWords; 16] = [
             Value(
                 "from",
                 "FROM",
-                "A number of messages, or live: where viewers begin [default: live]",
+                "After how many messages viewers begin, or live [default: live]",
             ),
             Value(
                 "at",
