@@ -268,6 +268,18 @@ fn browsers_alone(listener: TcpListener) -> Listened {
     }
 }
 
+// A plan that is for browsers, and ends after so many seconds, if not before.
+fn for_browsers(plan: Plan<'_>, after: Option<u64>) -> Plan<'_> {
+    Plan {
+        web: Some("127.0.0.1:0"),
+        stop: Stop {
+            at_end_of_input: false,
+            after,
+        },
+        ..plan
+    }
+}
+
 // What is printed of so many messages.
 fn printed(alloc: Global, endpoint: Endpoint, committed: u64) -> Result<String, Fail> {
     let address = endpoint.address(alloc)?;
@@ -280,10 +292,7 @@ fn browsers_look_at_a_recording(rt: HostRuntime) -> Result<(), Fail> {
     let file = "looked_at";
     fs::write(rt, file, RECORDING.as_slice())?;
     let (web, endpoint) = listener(rt)?;
-    let plan = Plan {
-        web: Some("127.0.0.1:0"),
-        ..plan_of(file, None, Audience::Count(1), Origin::Live)
-    };
+    let plan = for_browsers(plan_of(file, None, Audience::Count(1), Origin::Live), None);
     let said = serve_over!(
         rt,
         &plan,
@@ -348,14 +357,10 @@ fn a_browser_watches_a_host_past_its_end(rt: HostRuntime) -> Result<(), Fail> {
     let (hosts, host) = listener(rt)?;
     let (web, viewers) = listener(rt)?;
     let address = host.address(rt.alloc())?;
-    let plan = Plan {
-        web: Some("127.0.0.1:0"),
-        stop: Stop {
-            at_end_of_input: false,
-            after: Some(5),
-        },
-        ..plan_of(file, Some(address.as_str()), Audience::Any, Origin::Live)
-    };
+    let plan = for_browsers(
+        plan_of(file, Some(address.as_str()), Audience::Any, Origin::Live),
+        Some(5),
+    );
     let ends = Loopback { hosts, viewers };
     let said = serve_over!(
         rt,
