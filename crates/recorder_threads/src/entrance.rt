@@ -22,6 +22,7 @@ use std::time::Clock;
 use steering::{Course, Showing};
 use telling::Event;
 use watching::{Guide, Live, Played, Still, Watching};
+use web_target::Playback;
 
 impl<'a, D: Disk, M: Mark, R: Clock + Wait> Service<'a, D, M, R> {
     // Shows a viewer the recording from a count of messages on, or live, as its guide decides. It
@@ -58,37 +59,48 @@ impl<'a, D: Disk, M: Mark, R: Clock + Wait> Service<'a, D, M, R> {
         }
     }
 
-    // Shows a viewer in a browser what it asks for, from a count of messages that are there.
+    // After how many messages a viewer is at this time, in milliseconds. What was painted first is shown
+    // at any time before it.
+    fn position_at(&self, time: u32) -> Result<u64, ViewerEnd> {
+        let (rt, shared) = (self.rt, self.shared);
+        let count = shared.count_at(rt, time).map_err(unread)?;
+        Ok(count.max(1).min(shared.committed(rt)))
+    }
+
+    // Shows a viewer in a browser the recording from a time on, in its own time.
+    fn watch_playback<C: Connection>(
+        &self,
+        viewer: &Viewer<M, C>,
+        playback: Playback,
+    ) -> Result<(), ViewerEnd> {
+        let from = self.position_at(playback.time)?;
+        let program = Program {
+            pace: playback.pace,
+            longest_pause: playback.longest_pause,
+            repeats: false,
+            from,
+            from_time: playback.time,
+        };
+        self.show(viewer, Start::At(from), Played::new(program))
+    }
+
+    // Shows a viewer in a browser what it asks for.
     fn watch_showing<C: Connection>(
         &self,
         viewer: &Viewer<M, C>,
         showing: Showing,
     ) -> Result<(), ViewerEnd> {
-        let (rt, shared, room) = (self.rt, self.shared, self.room);
-        let time = match showing {
-            Showing::Live => return self.show(viewer, Start::Live, Live::new(room, Start::Live)),
-            Showing::After(count) => {
-                let start = Start::At(count.min(shared.committed(rt)));
-                return self.show(viewer, start, Live::new(room, start));
-            }
-            Showing::Played(playback) => playback.time,
-            Showing::Still(time) => time,
-        };
-        // What was painted first is shown at any time before it.
-        let count = shared.count_at(rt, time).map_err(unread)?;
-        let from = count.max(1).min(shared.committed(rt));
         match showing {
-            Showing::Played(playback) => {
-                let program = Program {
-                    pace: playback.pace,
-                    longest_pause: playback.longest_pause,
-                    repeats: false,
-                    from,
-                    from_time: playback.time,
-                };
-                self.show(viewer, Start::At(from), Played::new(program))
+            Showing::Live => self.show(viewer, Start::Live, Live::new(self.room, Start::Live)),
+            Showing::After(count) => {
+                let start = Start::At(count.min(self.shared.committed(self.rt)));
+                self.show(viewer, start, Live::new(self.room, start))
             }
-            _ => self.show(viewer, Start::At(from), Still::new(from)),
+            Showing::Played(playback) => self.watch_playback(viewer, playback),
+            Showing::Still(time) => {
+                let at = self.position_at(time)?;
+                self.show(viewer, Start::At(at), Still::new(at))
+            }
         }
     }
 
