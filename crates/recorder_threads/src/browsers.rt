@@ -3,6 +3,7 @@
 
 use crate::accepting::accept_until_rung;
 use crate::service::Service;
+use crate::viewer_stream::ViewerStream;
 use disk::Disk;
 use flusher_core::BlockStart;
 use live_page::{PAGE, SCRIPT, STYLE};
@@ -166,7 +167,12 @@ impl<'a, D: Disk + Send, M: Mark + Send + Sync, R: Threads + Clock + Wait + Sync
             return;
         };
         let course = Course::of(Steering::of(beginning, pace), room.facts.length());
-        self.attend(WebStream(stream), from, arrival, Some(course));
+        self.attend(
+            ViewerStream::Web(WebStream(stream)),
+            from,
+            arrival,
+            Some(course),
+        );
     }
 
     // Hears and answers a connection. What goes wrong ends it alone.

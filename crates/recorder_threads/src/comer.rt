@@ -1,12 +1,13 @@
 //! Who comes before the recording is open.
 
+use crate::viewer_stream::ViewerStream;
 use connections::Guest;
-use std::net::{SocketAddr, TcpStream};
+use std::net::SocketAddr;
 
 /// One who came while the recording was read, and the address that it came from. The handshake is
 /// whole, or goes on.
 #[derive(Drop)]
 pub struct Comer {
-    pub guest: Guest<TcpStream>,
+    pub guest: Guest<ViewerStream>,
     pub from: SocketAddr,
 }

@@ -4,6 +4,7 @@ use crate::accepting::accept_until_rung;
 use crate::comer::Comer;
 use crate::no_turnstile::NoTurnstile;
 use crate::service::Service;
+use crate::viewer_stream::ViewerStream;
 use book_workers::{ViewerEnd, run_viewer};
 use broadcast::{NextRefusal, Start};
 use carriage::Ending;
@@ -13,7 +14,6 @@ use gated_journal::ReadFault;
 use playing::Program;
 use reception::Arrival;
 use shared_book::Mark;
-use sockets::Connection;
 use std::net::{SocketAddr, TcpStream};
 use std::sync::Wait;
 use std::thread;
@@ -28,9 +28,9 @@ impl<'a, D: Disk, M: Mark, R: Clock + Wait> Service<'a, D, M, R> {
     // Shows a viewer the recording from a count of messages on, or live, as its guide decides. It
     // takes its seat at the last key screen before, so that no more than a block is read under the
     // lock at a time; what lies between is painted for it before it is answered.
-    fn show<C: Connection, G: Guide<M, C, R>>(
+    fn show<G: Guide<M, ViewerStream, R>>(
         &self,
-        viewer: &Viewer<M, C>,
+        viewer: &Viewer<M, ViewerStream>,
         start: Start,
         guide: G,
     ) -> Result<(), ViewerEnd> {
@@ -51,7 +51,7 @@ impl<'a, D: Disk, M: Mark, R: Clock + Wait> Service<'a, D, M, R> {
     }
 
     // Shows a viewer what the recorder was started for.
-    fn watch<C: Connection>(&self, viewer: &Viewer<M, C>) -> Result<(), ViewerEnd> {
+    fn watch(&self, viewer: &Viewer<M, ViewerStream>) -> Result<(), ViewerEnd> {
         let room = self.room;
         match room.program {
             Some(program) => self.show(viewer, room.from, Played::new(program)),
@@ -68,9 +68,9 @@ impl<'a, D: Disk, M: Mark, R: Clock + Wait> Service<'a, D, M, R> {
     }
 
     // Shows a viewer in a browser the recording from a time on, in its own time.
-    fn watch_playback<C: Connection>(
+    fn watch_playback(
         &self,
-        viewer: &Viewer<M, C>,
+        viewer: &Viewer<M, ViewerStream>,
         playback: Playback,
     ) -> Result<(), ViewerEnd> {
         let from = self.position_at(playback.time)?;
@@ -85,9 +85,9 @@ impl<'a, D: Disk, M: Mark, R: Clock + Wait> Service<'a, D, M, R> {
     }
 
     // Shows a viewer in a browser what it asks for.
-    fn watch_showing<C: Connection>(
+    fn watch_showing(
         &self,
-        viewer: &Viewer<M, C>,
+        viewer: &Viewer<M, ViewerStream>,
         showing: Showing,
     ) -> Result<(), ViewerEnd> {
         match showing {
@@ -105,7 +105,7 @@ impl<'a, D: Disk, M: Mark, R: Clock + Wait> Service<'a, D, M, R> {
     }
 
     // Shows a viewer in a browser what it asks for, one thing after another, until it leaves.
-    fn watch_steered<C: Connection>(&self, viewer: &Viewer<M, C>) -> Result<(), ViewerEnd> {
+    fn watch_steered(&self, viewer: &Viewer<M, ViewerStream>) -> Result<(), ViewerEnd> {
         for _ in self.rt.forever() {
             let Some(steering) = viewer.begin(self.rt) else {
                 return self.watch(viewer);
@@ -119,7 +119,7 @@ impl<'a, D: Disk, M: Mark, R: Clock + Wait> Service<'a, D, M, R> {
     }
 
     // Shows a viewer the recording until it leaves, or all was shown, and tells why it ends then.
-    fn attend_viewer<C: Connection>(&self, viewer: &Viewer<M, C>) -> Result<(), ViewerEnd> {
+    fn attend_viewer(&self, viewer: &Viewer<M, ViewerStream>) -> Result<(), ViewerEnd> {
         let ended = self.watch_steered(viewer);
         let ending = match ended {
             Ok(()) => Ending::Ended,
@@ -137,7 +137,7 @@ impl<'a, D: Disk, M: Mark, R: Clock + Wait> Service<'a, D, M, R> {
     }
 
     // Tells a connection why it is turned away.
-    fn refuse<C: Connection>(&self, stream: &C, event: Event<'_>, ending: Ending) {
+    fn refuse(&self, stream: &ViewerStream, event: Event<'_>, ending: Ending) {
         let room = self.room;
         room.telling.tell(self.rt, event);
         let _told = turn_away(self.rt, room.alloc, stream, &room.bell, ending);
@@ -161,11 +161,7 @@ impl<'a, D: Disk + Send, M: Mark + Send + Sync, R: Threads + Clock + Wait + Sync
 > {
     // Serves a viewer that has a seat until it leaves. What it does wrong ends it alone. Tells how it
     // ended.
-    fn serve_viewer<C: Connection + Send + Sync>(
-        &self,
-        viewer: &Viewer<M, C>,
-        from: SocketAddr,
-    ) -> Event<'static> {
+    fn serve_viewer(&self, viewer: &Viewer<M, ViewerStream>, from: SocketAddr) -> Event<'static> {
         let (rt, room) = (self.rt, self.room);
         thread::scope(thread::scope_env(), rt, |scope| {
             let Ok(worker) = scope.spawn(move || self.attend_viewer(viewer)) else {
@@ -180,12 +176,7 @@ impl<'a, D: Disk + Send, M: Mark + Send + Sync, R: Threads + Clock + Wait + Sync
     }
 
     // Hears a guest's handshake to its end, and serves the viewer that it becomes, if it gets a seat.
-    fn receive<C: Connection + Send + Sync>(
-        &self,
-        mut guest: Guest<C>,
-        from: SocketAddr,
-        course: Option<Course>,
-    ) {
+    fn receive(&self, mut guest: Guest<ViewerStream>, from: SocketAddr, course: Option<Course>) {
         let (rt, room) = (self.rt, self.room);
         match guest.greet(rt, &room.bell) {
             Ok(Greeting::Whole) if room.fits(&guest) => {}
@@ -197,7 +188,7 @@ impl<'a, D: Disk + Send, M: Mark + Send + Sync, R: Threads + Clock + Wait + Sync
         }
         room.facts.come();
         room.telling.tell(rt, Event::Came(from));
-        let viewer = Viewer::<M, C>::of(guest, course);
+        let viewer = Viewer::<M, ViewerStream>::of(guest, course);
         let ended = self.serve_viewer(&viewer, from);
         room.facts.leave();
         room.hall.leave(rt);
@@ -205,12 +196,7 @@ impl<'a, D: Disk + Send, M: Mark + Send + Sync, R: Threads + Clock + Wait + Sync
     }
 
     // Makes a guest of a connection.
-    fn welcome<C: Connection + Send + Sync>(
-        &self,
-        stream: C,
-        from: SocketAddr,
-        course: Option<Course>,
-    ) {
+    fn welcome(&self, stream: ViewerStream, from: SocketAddr, course: Option<Course>) {
         let room = self.room;
         match Guest::new(room.alloc, stream, room.screen.size, &room.name) {
             Ok(guest) => self.receive(guest, from, course),
@@ -219,9 +205,9 @@ impl<'a, D: Disk + Send, M: Mark + Send + Sync, R: Threads + Clock + Wait + Sync
     }
 
     /// Attends to a connection until it has ended: of a viewer in a browser with what it asks for.
-    pub fn attend<C: Connection + Send + Sync>(
+    pub fn attend(
         &self,
-        stream: C,
+        stream: ViewerStream,
         from: SocketAddr,
         arrival: Arrival,
         course: Option<Course>,
@@ -256,7 +242,12 @@ impl<'a, D: Disk + Send, M: Mark + Send + Sync, R: Threads + Clock + Wait + Sync
             room.telling.tell(self.rt, Event::Dropped(from));
             return;
         }
-        let attending = scope.spawn(move || self.attend(stream, from, arrival, None));
+        let attending = scope.spawn(move || self.attend(
+            ViewerStream::Plain(stream),
+            from,
+            arrival,
+            None,
+        ));
         if attending.is_err() {
             self.end_handshake(Event::NoThread(from));
         }

@@ -11,10 +11,12 @@ mod entrance;
 mod no_turnstile;
 mod refusing;
 mod service;
+mod viewer_stream;
 mod work;
 
 pub use accepting::accept_until_rung;
 pub use comer::Comer;
 pub use refusing::refuse;
 pub use service::{Outcome, Service, run_threads};
+pub use viewer_stream::ViewerStream;
 pub use work::Work;

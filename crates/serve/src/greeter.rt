@@ -4,7 +4,7 @@ ghost use Rattle.std.specs.Prelude.{◌<◌, ◌^◌, length};
 
 use connections::{Greeting, Guest, Hall};
 use reception::Arrival;
-use recorder_threads::{Comer, accept_until_rung};
+use recorder_threads::{Comer, ViewerStream, accept_until_rung};
 use sockets::Bell;
 use std::alloc::Global;
 use std::net::{SocketAddr, TcpListener, TcpStream};
@@ -75,7 +75,13 @@ impl<'a, R> Greeter<'a, R> {
 impl<'a, R: Clock + Wait> Greeter<'a, R> {
     // Hears a connection's handshake, as far as it comes: who goes on.
     fn greet(&self, stream: TcpStream, from: SocketAddr) -> Option<Comer> {
-        let mut guest = Guest::new(self.door.alloc, stream, self.size, &self.name).ok()?;
+        let mut guest = Guest::new(
+            self.door.alloc,
+            ViewerStream::Plain(stream),
+            self.size,
+            &self.name,
+        )
+        .ok()?;
         match guest.greet(self.door.rt, &self.bell) {
             Ok(Greeting::Whole | Greeting::UnderWay) => Some(Comer { guest, from }),
             Ok(Greeting::Over) | Err(_) => None,
