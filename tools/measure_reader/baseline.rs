@@ -1,6 +1,6 @@
 //! The baseline that `tools/measure_reader/measure_reader` counts beside `ServerReader::feed`: plain
 //! Rust, with no proof, which takes a host's stream in pieces, judges each field once it is whole,
-//! and keeps a message's bytes and where its rectangles are; and beside `Screen::paint`, on a number
+//! and keeps a message's bytes and its rectangles' offsets; and beside `Screen::paint`, on a number
 //! for each pixel. It does the same works as `main.rt.in`.
 
 use std::{env, fs, process};
@@ -23,7 +23,7 @@ struct Rectangle {
     end: usize,
 }
 
-// A tile of a rectangle: where it begins, and what was named before it.
+// A tile of a rectangle: its first pixel, and what was named before it.
 #[derive(Clone, Copy)]
 struct Tile {
     x: usize,

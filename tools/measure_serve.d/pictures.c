@@ -82,7 +82,7 @@ static size_t of_two_colours(uint8_t *to, const struct area *area, struct area t
     return runs ? at - to : 5;
 }
 
-/* The tiles of an area; that of the stamp is raw, and where its stamp comes is told. */
+/* The tiles of an area; that of the stamp is raw, and the offset of its stamp is told. */
 static size_t hextile(uint8_t *to, const struct area *area, int line, size_t *stamp)
 {
     uint8_t *at = to;

@@ -3,7 +3,7 @@
 #define PICTURES_H
 #include "shared.h"
 
-/* A whole message of a host, and where in it the eight bytes of the stamp are. */
+/* A whole message of a host, and the offset in it of the eight bytes of the stamp. */
 struct picture {
     uint8_t *bytes;
     size_t length, stamp;

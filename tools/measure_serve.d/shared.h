@@ -1,4 +1,4 @@
-/* What the programs here share: numbers of RFB, sockets, the time, and where a stamp is. */
+/* What the programs here share: numbers of RFB, sockets, the time, and a stamp's pixels. */
 #ifndef SHARED_H
 #define SHARED_H
 #include <stddef.h>

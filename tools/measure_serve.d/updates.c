@@ -99,7 +99,7 @@ static void rectangle(struct reader *reader, const uint8_t *head)
     reader->encodings[encoding]++;
 }
 
-/* Subrectangles of `each` bytes: they are read where the stamp is, and skipped elsewhere. */
+/* Subrectangles of `each` bytes: they are read if the stamp is in the area, and skipped if not. */
 static void parts(struct reader *reader, struct area in, int part, size_t each, int then)
 {
     if (reader->parts && has_any(reader, in))

@@ -1,4 +1,4 @@
-/* Reads a stream of updates only as far as it must to find where each ends, and what it is
+/* Reads a stream of updates only as far as it must to find the end of each, and what it is
    stamped. */
 #ifndef UPDATES_H
 #define UPDATES_H

@@ -5,7 +5,7 @@
 
    ENCODINGS are those that are asked for, in this order: of `raw`, `copyrect`, `rre` and `hextile`,
    with commas between them. Pixels are asked for in the host's format. Updates aren't painted: they
-   are read to find where each ends, and what it is stamped (updates.h).
+   are read to find the end of each, and what it is stamped (updates.h).
 
    Prints `ready` once each viewer has had a screen. At each line on its input, and at the
    input's end, prints what has come since the line before: to all viewers, then to the one that

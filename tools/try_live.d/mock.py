@@ -236,15 +236,22 @@ class Recording:
             paint(picture, self.wide, update)
         return picture
 
-    def told(self, block):
-        """What `/times` answers of a block and those after it."""
+    def told(self, block, every):
+        """What `/times` answers of a block and those after it, in windows of so many milliseconds if
+        there are any."""
         stretches, last = [], -(-len(self.times) // BLOCK)
-        for number in range(block, min(last, block + MOST_STRETCHES)):
-            message = number * BLOCK
-            count = min(BLOCK, len(self.times) - message)
-            stretches.append({"time": self.times[message], "message": message, "block": number, "updates": count})
+        while block < last:
+            message = block * BLOCK
+            moment, count = self.times[message], min(BLOCK, len(self.times) - message)
+            if every and stretches and stretches[-1]["time"] // every == moment // every:
+                stretches[-1]["updates"] += count
+            elif len(stretches) == MOST_STRETCHES:
+                break
+            else:
+                stretches.append({"time": moment, "message": message, "block": block, "updates": count})
+            block += 1
         return {"width": self.wide, "height": self.high, "messages": len(self.times), "length": self.length(),
-                "stretches": stretches, "next": block + len(stretches)}
+                "stretches": stretches, "next": block}
 
 
 class World:
@@ -525,7 +532,7 @@ class Handler(http.server.BaseHTTPRequestHandler):
         elif url.path == "/times":
             with self.world.recording.changed:
                 self.world.looks += 1
-                told = self.world.recording.told(int(asked["from"]))
+                told = self.world.recording.told(int(asked["from"]), int(asked.get("every", 0)))
             self.reply_json(told)
         elif url.path == "/watch":
             self.watch(url.query, asked)

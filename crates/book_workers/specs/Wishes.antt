@@ -1,4 +1,4 @@
--- What a viewer's sink wants, and where it stands then.
+-- What a viewer's sink wants, and its position then.
 use Rattle.std.specs.Prelude.{ℕ, Bool, true}
 use Rattle.book_workers.specs.declared.parties.ViewerWish.{ViewerWish}
 use Rattle.book_workers.specs.declared.parties.ViewerWish.TheVariants.{Want, Wait, Seek, Newest, Stop}

@@ -144,7 +144,7 @@ pub trait ViewerSink<T, E>: Drop {
         ensures moved { position self.new ≡ position_after result (position self.old) }
         ensures bare { fresh self.new ≡ fresh_after result (fresh self.old) };
 
-    /// Takes a receipt, and stands at its end then, with a screen. Where it has more than one
+    /// Takes a receipt, and stands at its end then, with a screen. If it has more than one
     /// message, they take 16 MiB in a block's body at most.
     fn slice(&mut self, receipt: T)
         requires bounded { is_modelled → 1 < length (slice_of receipt).messages.items → body_size (slice_of receipt).messages.items ≤ 2 ^ 24 }

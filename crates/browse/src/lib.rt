@@ -1,12 +1,13 @@
 //! A page on which a recording is looked at, served over HTTP.
 #![tactic(auto)]
 
-mod connection;
-pub mod page;
-mod request;
-mod serving;
-mod site;
+mod archive;
+mod browsing;
+mod entrance;
+mod handover;
+mod keeping;
+mod opening;
+mod presence;
 
-pub use request::{Asked, Judged, asked_by, judge};
-pub use request_head::Fault;
-pub use serving::{Browsing, browse};
+pub use browsing::{Browsing, browse};
+pub use presence::{Presence, is_due};

@@ -24,7 +24,9 @@ pub fn browsing<'a>(matches: &ArgMatches<'a>, is_verbose: bool) -> Result<Browsi
     Ok(Browsing {
         recording: word(matches, "PATH")?,
         listen: matches.get_str("ADDR").unwrap_or("8080"),
+        name: matches.get_str("NAME"),
         stop: stop(matches)?,
+        told: told(matches, is_verbose),
         is_verbose,
     })
 }
@@ -111,7 +113,7 @@ fn told(matches: &ArgMatches<'_>, is_verbose: bool) -> Told {
     }
 }
 
-// Where viewers and browsers connect to, of which one has to be given.
+// The addresses that viewers and browsers connect to, of which one has to be given.
 fn addresses<'a>(matches: &ArgMatches<'a>) -> Result<(Option<&'a str>, Option<&'a str>), Wrong> {
     match (matches.get_str("ADDR"), matches.get_str("WEB")) {
         (None, None) => Err(Wrong::Words("one of --listen and --web is needed")),

@@ -22,7 +22,13 @@ enum Argument {
 
 use Argument::{Flag, MaybeWord, NeededValue, Value, Word, Words};
 
-/// What each command takes; `serve` has its own, which says more.
+/// What the two servers take.
+const TELLING: Argument = Flag(
+    "verbose",
+    "Tells what happens, a line each, on standard error",
+);
+
+/// What each other command takes.
 const VERBOSE: Argument = Flag(
     "verbose",
     "Says more of what is refused, on standard error, as on a terminal",
@@ -191,7 +197,7 @@ const COMMANDS: [CommandWords; 16] = [
     },
     CommandWords {
         name: "browse",
-        about: "Serves a page on which a recording is looked at in a browser",
+        about: "Serves a page on which a recording is played in a browser",
         example: "Example: recorderd browse r, and then look at http://127.0.0.1:8080/",
         arguments: &[
             Word("PATH", "The recording"),
@@ -200,8 +206,14 @@ const COMMANDS: [CommandWords; 16] = [
                 "ADDR",
                 "Where browsers connect to; a number is a port of this machine alone [default: 8080]",
             ),
+            Value(
+                "web-name",
+                "NAME",
+                "By which name browsers may ask, besides addresses and localhost",
+            ),
             Value("seconds", "SECONDS", "Ends after so many seconds"),
             Flag("until-input-ends", "Ends once standard input ends"),
+            TELLING,
         ],
     },
     CommandWords {
@@ -276,10 +288,7 @@ const COMMANDS: [CommandWords; 16] = [
             Flag("repeat", "With --pace: begins again at the end"),
             Value("seconds", "SECONDS", "Ends after so many seconds"),
             Flag("until-input-ends", "Ends once standard input ends"),
-            Flag(
-                "verbose",
-                "Tells what happens, a line each, on standard error",
-            ),
+            TELLING,
         ],
     },
     CommandWords {
@@ -325,7 +334,7 @@ fn command<'a>(alloc: Global, words: &CommandWords) -> Result<Command<'a>, Alloc
     for argument in words.arguments {
         command = command.arg(arg(alloc, argument))?;
     }
-    if words.name == "serve" {
+    if words.name == "serve" || words.name == "browse" {
         return Ok(command);
     }
     command.arg(arg(alloc, &VERBOSE))
@@ -359,7 +368,7 @@ pub fn spelled(command: &str, of: &'static str) -> Spelling {
 pub fn reader<'a>(alloc: Global) -> Result<Command<'a>, AllocError> {
     let mut program = Command::new(alloc, "recorderd")
         .about("Records one VNC session, so that a crash at any moment loses nothing acknowledged")
-        .version("0.10.0")
+        .version("1.0.0")
         .subcommand_required(true);
     for words in &COMMANDS {
         program = program.subcommand(command(alloc, words)?)?;

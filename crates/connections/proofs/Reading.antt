@@ -29,7 +29,7 @@ is_read (Message m) = false
 is_read Read = true
 is_read Ended = false
 
--- nothing waits where the host is read from, or the end is told
+-- nothing waits if the host is read from, or the end is told
 pub none_at_end : (s : Session) (w : List Host) (e : Option HostEnd) (b : Bool) → next_of (record { session = s; waiting = w; end = e }) b ≡ Ended → w ≡ []
 none_at_end s [] e b h = refl
 none_at_end s (m ∷ ms) e b h = absurd (true≢false (ap is_message h))

@@ -1,5 +1,7 @@
 //! How a session stands, for who is shown it.
 
+ghost use Rattle.std.specs.Prelude.{◌≡◌, ◌≤◌, IfSome};
+
 use carriage::Status;
 use std::sync::atomic::{AtomicBool, AtomicU32, Ordering};
 use steering::Course;
@@ -48,7 +50,11 @@ impl Facts {
     }
 
     /// What is told to a viewer who is shown so many messages, on this course.
-    pub fn status(&self, message: u64, course: Option<Course>) -> Status {
+    pub fn status(&self, message: u64, course: Option<Course>) -> Status
+        ensures message { result.message ≡ message }
+        ensures course { IfSome course (λ course. (result.time ≡ course.time) × (result.orders ≡ course.orders)) }
+        ensures length { result.time ≤ result.length }
+    {
         let (time, orders) = match course {
             Some(Course { time, orders, .. }) => (time, orders),
             None => (0, 0),

@@ -1,6 +1,6 @@
 //! A viewer, which two threads share.
 
-ghost use Rattle.std.specs.Prelude.{◌≡◌, ◌<◌, ◌^◌, ◌+◌, ◌-◌, false, length, min, true};
+ghost use Rattle.std.specs.Prelude.{◌≡◌, ◌<◌, ◌≤◌, ◌^◌, ◌+◌, ◌-◌, IfSome, IsTrue, false, length, min, true};
 ghost use Rattle.shared_book.specs.Receipts.{IsOfSize, size_of};
 
 use crate::facts::Facts;
@@ -19,7 +19,7 @@ use std::marker::PhantomData;
 use std::sync::atomic::{AtomicBool, Ordering};
 use std::sync::{Condvar, Mutex, Wait};
 use std::time::{Clock, Duration, Instant};
-use steering::{Course, Steering};
+use steering::{Course, Stage, Steering};
 use terms::four_bytes;
 use viewer_session::Session;
 use web_frames::Heard;
@@ -161,7 +161,10 @@ impl<M: Mark> Talk<M> {
 
     // Whether it may be answered: it has come to the position at which it begins, by a screen that
     // obeys all its orders.
-    fn is_there(&self) -> bool {
+    fn is_there(&self) -> bool
+        ensures there { IsTrue result → self.now.shows_from ≤ self.now.session.view.position }
+        ensures obeyed { IsTrue result → IfSome self.now.course (λ course. course.stage ≡ Stage.Obeyed) }
+    {
         let is_obeyed = match &self.course {
             Some(course) => course.is_obeyed(),
             None => true,
@@ -176,7 +179,10 @@ impl<M: Mark> Talk<M> {
         alloc: Global,
         connection: &C,
         facts: &Facts,
-    ) -> io::Result<()> {
+    ) -> io::Result<()>
+        ensures not_yet { self.old.session.view.position < self.old.shows_from → self.new.session ≡ self.old.session }
+        ensures not_obeyed { (IfSome self.old.course (λ course. course.stage ≡ Stage.Obeyed) → ⊥) → self.new.session ≡ self.old.session }
+    {
         let mut out = Vec::new(alloc);
         out.append(&mut self.heard.replies)?;
         if self.is_there() {

@@ -5,6 +5,7 @@ use Rattle.std.proofs.Math.Nat.{mul-suc}
 use Rattle.std.proofs.lemmas.Bool.{le-leb}
 use Rattle.rect_data.specs.Grammar.{is_inside}
 use Rattle.std.specs.List.{flat_map, AllByRecursion}
+use Rattle.terms.specs.Area.{whole_area}
 use Rattle.terms.specs.Reading.{Got}
 use Rattle.pixel_format.specs.Canvas.{Picture}
 use Rattle.client_wire.specs.Stream.{Part, IsPart, bytes_of}
@@ -113,6 +114,6 @@ pixels_from picture w y (suc n) =
     let one = length-append (row_text picture y 0 w) (rows_text picture w (y + 1) n) in
     omega (arith, one, row_length picture y 0 w, pixels_from picture w (y + 1) n, mul-suc w n)
 
-pub whole_inside : (w h : ℕ) → is_inside w h (record { x = 0; y = 0; w = w; h = h }) ≡ true
+pub whole_inside : (w h : ℕ) → is_inside w h (whole_area w h) ≡ true
 unfolding is_inside
 whole_inside w h = rw (le-leb (0 + w) w (omega arith), le-leb (0 + h) h (omega arith)) refl

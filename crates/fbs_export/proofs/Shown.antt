@@ -5,6 +5,7 @@ use Rattle.keyed_entries.specs.declared.entry.Stamped.{Stamped}
 use Rattle.painter.specs.Framebuffer.{Framebuffer, Has, color_at}
 use Rattle.painter.specs.Picture.{painted}
 use Rattle.pixel_format.specs.Canvas.{Picture}
+use Rattle.terms.specs.Area.{whole_area}
 use Rattle.keyed_entries.specs.Entry.{hosts_of}
 use Rattle.replay.specs.Screens.{IsScreenAt}
 use Rattle.rfb_wire.specs.Written.{raw_update_bytes}
@@ -23,7 +24,7 @@ rows_same a b w h y (suc n) same within =
 screen_same : (s : Framebuffer) (picture : Picture) → Has s picture → screen_text s.width s.height (color_at s) ≡ screen_text s.width s.height picture
 unfolding screen_text
 screen_same s picture has =
-    ap (raw_update_bytes (record { x = 0; y = 0; w = s.width; h = s.height })) (rows_same (color_at s) picture s.width s.height 0 s.height has (omega arith))
+    ap (raw_update_bytes (whole_area s.width s.height)) (rows_same (color_at s) picture s.width s.height 0 s.height has (omega arith))
 
 pub export_is : (h : Head) (all : List Stamped) (from to : ℕ) (s : Framebuffer) → IsScreenAt h all from s
     → front_text h (color_at s) ++ messages_from all from to ≡ export_text h all from to

@@ -8,6 +8,7 @@ use Rattle.terms.specs.declared.format.Format.TheVariants.{Two}
 use Rattle.pixel_format.specs.Canvas.{Picture}
 use Rattle.pixel_format.specs.Format.{host_format}
 use Rattle.pixel_format.specs.Written.{format_bytes}
+use Rattle.terms.specs.Area.{whole_area}
 use Rattle.terms.specs.Number.{u16_bytes, u32_bytes}
 use Rattle.rfb_wire.specs.Written.{raw_update_bytes, raw_rectangle}
 use Rattle.gated_journal.specs.Recording.{Head}
@@ -44,7 +45,7 @@ rows_text picture w y (suc n) = row_text picture y 0 w ++ rows_text picture w (y
 
 -- a Raw update of one rectangle over the whole screen
 unfoldable pub screen_text : ℕ → ℕ → Picture → List ℕ
-screen_text w h picture = raw_update_bytes (record { x = 0; y = 0; w = w; h = h }) (rows_text picture w 0 h)
+screen_text w h picture = raw_update_bytes (whole_area w h) (rows_text picture w 0 h)
 
 -- what stands in front of the messages: the file's start, the opening, and the screen, both at time 0
 unfoldable pub front_text : Head → Picture → List ℕ
@@ -80,7 +81,7 @@ screen_host w h picture = record {
   width = w;
   height = h;
   bytes = screen_text w h picture;
-  rectangles = raw_rectangle (record { x = 0; y = 0; w = w; h = h }) ∷ [];
+  rectangles = raw_rectangle (whole_area w h) ∷ [];
 }
 
 -- A message as it is read of a file, which says nothing of a recording's format: it is given in

@@ -64,13 +64,7 @@ fn append_screen(screen: &Screen, out: &mut Vec<u8>) -> Result<(), NoMemory>
         ≡ out.old.items ++ screen_text screen.now.width screen.now.height (color_at screen.now)) }
 {
     let size = screen.size();
-    let whole = Area {
-        x: 0,
-        y: 0,
-        w: size.width,
-        h: size.height,
-    };
-    write_update_head(whole, Encoding::Raw.number(), out)?;
+    write_update_head(Area::whole(size), Encoding::Raw.number(), out)?;
     for y in 0..size.height {
         append_row(screen, y, out)?;
     }

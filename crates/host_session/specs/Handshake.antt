@@ -4,7 +4,7 @@ use Rattle.std.specs.Prelude.{ℕ, ◌-◌, min, List, [], ◌∷◌, ◌++◌, 
 use Rattle.std.specs.Str.{bytes_eq}
 use Rattle.pixel_format.specs.Format.{host_format}
 use Rattle.terms.specs.Reading.{Got, Bad, field}
-use Rattle.terms.specs.declared.area.Area.{Area}
+use Rattle.terms.specs.Area.{whole_area}
 use Rattle.client_wire.specs.Written.{set_pixel_format_bytes, request_bytes}
 use Rattle.host_session.specs.declared.fault.HostFault.{HostFault}
 use Rattle.host_session.specs.declared.fault.HostFault.TheVariants as faults
@@ -46,10 +46,6 @@ abbrev pub offers_security_none : List ℕ → Bool
 offers_security_none [] = false
 offers_security_none (type ∷ types) = nat_eq type 1 || offers_security_none types
 
--- the whole screen
-abbrev pub whole : ℕ → ℕ → Area
-whole width height = record { x = 0; y = 0; w = width; h = height }
-
 -- SetEncodings of CopyRect, Hextile, RRE and Raw
 abbrev pub set_encodings : List ℕ
 set_encodings = 2 ∷ 0 ∷ 0 ∷ 4 ∷ 0 ∷ 0 ∷ 0 ∷ 1 ∷ 0 ∷ 0 ∷ 0 ∷ 5 ∷ 0 ∷ 0 ∷ 0 ∷ 2 ∷ 0 ∷ 0 ∷ 0 ∷ 0 ∷ []
@@ -57,7 +53,7 @@ set_encodings = 2 ∷ 0 ∷ 0 ∷ 4 ∷ 0 ∷ 0 ∷ 0 ∷ 1 ∷ 0 ∷ 0 ∷ 0 �
 -- what is sent once the screen is known: the format and the encodings, and a request for the whole
 -- screen
 abbrev pub first_requests : ℕ → ℕ → List ℕ
-first_requests width height = set_pixel_format_bytes host_format ++ set_encodings ++ request_bytes false (whole width height)
+first_requests width height = set_pixel_format_bytes host_format ++ set_encodings ++ request_bytes false (whole_area width height)
 
 -- a reason of so many bytes
 unfoldable pub reason_at : ℕ → List ℕ → Talk Told Refusal

@@ -3,6 +3,7 @@
 use Rattle.std.specs.Prelude.{◌≡◌, ℕ, ◌+◌, List, [], ◌++◌, length, true, Option, None, Some, if◌then◌else◌}
 use Rattle.std.specs.List.{flat_map}
 use Rattle.terms.specs.declared.format.Format.{Format}
+use Rattle.terms.specs.Area.{whole_area}
 use Rattle.terms.specs.Reading.{More, Bad}
 use Rattle.terms.specs.declared.wire_fault.WireFault.{WireFault}
 use Rattle.client_wire.specs.Stream.{Gives, StandsFor}
@@ -18,14 +19,14 @@ use Rattle.host_session.specs.declared.stage.Stage.TheVariants as stages
 use Rattle.host_session.specs.declared.stage.Position.{Position}
 use Rattle.host_session.specs.declared.stage.Position.TheVariants as positions
 use Rattle.host_session.specs.Fault.{UnlessMemory}
-use Rattle.host_session.specs.Handshake.{Told, whole, handshake_at}
+use Rattle.host_session.specs.Handshake.{Told, handshake_at}
 use Rattle.host_session.specs.Stage.{IsUnfinished, Leads, Ends, Fails, reason_of}
 use Rattle.host_session.specs.Take.{told_at}
 use Rattle.terms.specs.declared.screen_size.ScreenSize.{ScreenSize}
 
 -- an update is answered with a request for what has changed on the whole screen
 abbrev pub request_after : ℕ → ℕ → Host → List ℕ
-request_after width height m = if is_update m.bytes then request_bytes true (whole width height) else []
+request_after width height m = if is_update m.bytes then request_bytes true (whole_area width height) else []
 
 abbrev pub requests_after : ℕ → ℕ → List Host → List ℕ
 requests_after width height messages = flat_map (request_after width height) messages

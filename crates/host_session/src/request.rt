@@ -1,7 +1,7 @@
 //! What a host is asked for.
 
 ghost use Rattle.std.specs.Prelude.{◌≡◌, List, ◌++◌, OnOk};
-ghost use Rattle.host_session.specs.Handshake.{first_requests, whole as whole_area};
+ghost use Rattle.host_session.specs.Handshake.{first_requests};
 ghost use Rattle.host_session.specs.Session.{requests_after};
 
 use client_wire::{write_request, write_set_encodings, write_set_pixel_format};
@@ -11,18 +11,6 @@ use terms::{Area, NoMemory, ScreenSize};
 
 // CopyRect, Hextile, RRE and Raw, by their numbers; the host takes the first that it knows.
 const ENCODINGS: [i32; 4] = [1, 5, 2, 0];
-
-// The whole screen.
-fn whole(size: ScreenSize) -> Area
-    ensures { result ≡ whole_area size.width size.height }
-{
-    Area {
-        x: 0,
-        y: 0,
-        w: size.width,
-        h: size.height,
-    }
-}
 
 /// Appends a request for what has changed on the whole screen, for each update among messages.
 pub fn write_requests(
@@ -35,7 +23,7 @@ pub fn write_requests(
 {
     for message in messages {
         if message.is_update() {
-            write_request(true, whole(size), out)?;
+            write_request(true, Area::whole(size), out)?;
         }
     }
     Ok(())
@@ -48,6 +36,6 @@ pub fn write_first_requests(size: ScreenSize, out: &mut Vec<u8>) -> Result<(), N
 {
     write_set_pixel_format(&PixelFormat::host(), out)?;
     write_set_encodings(&ENCODINGS, out)?;
-    write_request(false, whole(size), out)?;
+    write_request(false, Area::whole(size), out)?;
     Ok(())
 }

@@ -105,7 +105,7 @@ impl HostStream {
     }
 
     /// Reads what has come next, or waits for it, once no message waits: at most as much as the buffer
-    /// holds is taken. The stream ends where nothing more comes, and at an error of the read, but for
+    /// holds is taken. The stream ends if nothing more comes, and at an error of the read, but for
     /// one that is only interrupted; that error is answered, and takes nothing.
     pub fn read_from<S: Read>(&mut self, source: &mut S, buffer: &mut [u8]) -> io::Result<()>
         requires none { self.old.waiting ≡ [] }

@@ -399,6 +399,7 @@ class Player {
     say('watching', watching === 1 ? '1 viewer' : watching + ' viewers');
     const wasEnded = this.hasEnded;
     this.hasEnded = ended;
+    if (wasEnded === null) this.isRecorded = ended;
     if (this.isLive) this.moment = length;
     if (ended && this.isLive) this.stopLive(wasEnded === null);
     if (ended !== wasEnded) showState(this); else showClock(this);
@@ -565,6 +566,11 @@ function showClock({ moment, length, isLive, hasEnded, isDragged }) {
   say('behind', late < 1000 ? '' : secondsOf(late) + ' behind live');
 }
 
+// A recording that is no session any more when the page is opened may still be written by another recorder.
+function endOf({ hasEnded, isRecorded }) {
+  return !hasEnded ? '' : isRecorded ? '. Not live.' : '. The host has ended.';
+}
+
 function showState(player) {
   const { moment, isLive, isPaused, hasEnded } = player;
   showClock(player);
@@ -572,7 +578,7 @@ function showState(player) {
   at('live').setAttribute('aria-pressed', isLive);
   at('live').disabled = hasEnded === true;
   say('play', isPaused ? 'Play' : 'Pause');
-  say('state', stateOf(player) + (hasEnded ? '. The host has ended.' : ''));
+  say('state', stateOf(player) + endOf(player));
 }
 
 function stateOf({ shown, isLive, isPaused }) {
@@ -583,19 +589,21 @@ function stateOf({ shown, isLive, isPaused }) {
 
 // How often is looked for what came since, at most, in milliseconds.
 const LOOK = 5000;
-// In how many parts of the recording updates are counted.
-const PARTS = 4096;
+// In how many parts of the recording updates are counted, at most; and at first, so that one answer, of
+// at most 1,024 stretches, tells all. None is shorter than this, in milliseconds.
+const PARTS = 2048, FIRST_PARTS = 1020, SHORTEST_PART = 1000;
 
 // The recorder answers, and tells nothing.
 class Refusal extends Error {}
 
-const timesFrom = block => fetch(addressOf('times?from=' + block), { signal: AbortSignal.timeout(LONGEST_ANSWER) });
+const timesFrom = (block, every) =>
+  fetch(addressOf(`times?from=${block}&every=${every}`), { signal: AbortSignal.timeout(LONGEST_ANSWER) });
 
 // How many updates came when, over the whole recording: in each of as many milliseconds as `every`.
 class Overview {
   constructor() {
     this.counts = new Float64Array(PARTS);
-    this.every = 1;
+    this.every = SHORTEST_PART;
     // The block that is asked for next; how long the recording was when that was asked last, and when.
     this.next = 0;
     this.seen = -1;
@@ -625,27 +633,27 @@ class Overview {
       return false;
     }
   }
-  // Takes all that had come when it was first answered, in as many answers as that needs.
+  // Takes all that had come when it was answered: mostly in one answer, since the recorder counts in
+  // the same parts.
   async load() {
-    let until = null, last;
-    do {
-      const answer = await timesFrom(this.next);
+    if (this.next === 0) this.every = Math.max(SHORTEST_PART, Math.ceil(this.length / FIRST_PARTS));
+    for (let isWhole = false; !isWhole;) {
+      const answer = await timesFrom(this.next, this.every);
       if (!answer.ok) throw new Refusal(`What came when isn't known: ${(await answer.text()).trim()}.`);
-      const { length, stretches, next } = await answer.json();
-      until ??= length;
-      last = stretches.at(-1)?.time ?? Infinity;
+      const { messages, length, stretches, next } = await answer.json(), last = stretches.at(-1);
       stretches.forEach(({ time, updates }) => this.count(time, updates));
       this.next = next;
       this.seen = Math.max(this.seen, length);
       this.draw();
-    } while (last <= until);
+      isWhole = !last || last.message + last.updates >= messages;
+    }
     forgive('times');
   }
   count(time, updates) {
     while (time >= PARTS * this.every) this.widen();
     this.counts[Math.floor(time / this.every)] += updates;
   }
-  // Each part is twice as long.
+  // Each part is twice as long: two of the parts of before, so nothing is asked for again.
   widen() {
     const { counts } = this;
     for (let part = 0; part < PARTS / 2; part++) counts[part] = counts[2 * part] + counts[2 * part + 1];
@@ -678,7 +686,7 @@ class Overview {
 async function probe(player) {
   const began = performance.now();
   try {
-    await timesFrom(player.overview.next);
+    await timesFrom(player.overview.next, player.overview.every);
   } catch {
     player.missed(began);
   }

@@ -11,7 +11,7 @@ use Rattle.terms.specs.Appending.{Appends}
 use Rattle.terms.specs.declared.area.Area.{Area}
 use Rattle.terms.specs.declared.screen_size.ScreenSize.{ScreenSize}
 use Rattle.pixel_format.specs.Canvas.{Picture, rows_of}
-use Rattle.terms.specs.Area.{LiesWithin}
+use Rattle.terms.specs.Area.{whole_area, LiesWithin}
 use Rattle.rect_data.specs.declared.encoding.Encoding.{Encoding}
 use Rattle.rect_data.specs.declared.encoding.Encoding.TheVariants as encodings
 use Rattle.rect_codec.specs.Parts.{parts_head, IsRectangle, IsUpdateFor, AreParts}
@@ -20,7 +20,7 @@ use Rattle.rfb_wire.specs.Host.{Host, host_of}
 use Rattle.rfb_wire.specs.Stream.{IsFor}
 use Rattle.painter.specs.Framebuffer.{Framebuffer, color_at, AreColorsOf}
 use Rattle.painter.specs.Picture.{painted_message}
-use Rattle.painter.specs.Key.{whole_area, IsKey}
+use Rattle.painter.specs.Key.{IsKey}
 use Rattle.painter.specs.Sent.{area_colors, sent_colors}
 use Rattle.painter.specs.SentUpdate.{parts_of}
 use Rattle.painter.specs.declared.update.ScreenPart.TheVariants as screen_parts
@@ -78,26 +78,44 @@ no_longer f area colors asked bytes u =
     let whole = ap length u.bytes_are in
     omega (arith, whole, u.is.short)
 
--- the whole screen as one message
-abbrev pub whole_update : Framebuffer → ScreenSize → List ℕ → Type 0
-whole_update screen size bytes = AreParts host_format (parts_of host_format screen (screen_parts.Region (whole_area size.width size.height) encodings.Hextile ∷ [])) bytes
+-- a screen's colours of an area as one message
+abbrev update_of : Format → Framebuffer → Area → List ℕ → Type 0
+update_of f screen area bytes = AreParts f (parts_of f screen (screen_parts.Region area encodings.Hextile ∷ [])) bytes
 
 -- what is appended to nothing stands alone
 alone : (P : List ℕ → Type 0) (empty bytes : List ℕ) → empty ≡ [] → Appends P empty bytes → P bytes
 alone P empty bytes first a = subst P (sym (a.is ∙ ap (λ l. l ++ a.bytes) first)) a.are
 
--- the same, in the words of the calls that make it
-pub key_made : (format : RecordingFormat) (screen : Framebuffer) (size : ScreenSize) → size ≡ record { width = screen.width; height = screen.height } → screen.width * screen.height ≤ (limits format).area
+-- the whole screen as one message, in the words of the calls that make it
+sent_whole : (screen : Framebuffer) (size : ScreenSize) (f : Format) (area : Area) → size ≡ record { width = screen.width; height = screen.height } → f ≡ host_format → area ≡ whole_area size.width size.height
+    → (empty bytes : List ℕ) → empty ≡ [] → Appends (update_of f screen area) empty bytes
+    → IsUpdateFor host_format (whole_area screen.width screen.height) (sent_colors host_format screen (whole_area screen.width screen.height)) encodings.Hextile bytes
+sent_whole screen size f area is host all empty bytes first updated =
+    let whole : area ≡ whole_area screen.width screen.height = all ∙ ap (λ (s : ScreenSize). whole_area s.width s.height) is in
+    let P : Format → Type 0 = λ g. update_of g screen area bytes in
+    let Q : Area → Type 0 = λ a. update_of host_format screen a bytes in
+    single host_format screen (whole_area screen.width screen.height) encodings.Hextile bytes (subst Q whole (subst P host (alone (update_of f screen area) empty bytes first updated)))
+
+-- it is never longer than in Raw
+pub key_short : (screen : Framebuffer) (size : ScreenSize) (f : Format) (area : Area) → size ≡ record { width = screen.width; height = screen.height } → f ≡ host_format → area ≡ whole_area size.width size.height
+    → (empty bytes told : List ℕ) → empty ≡ [] → Appends (update_of f screen area) empty bytes → told ≡ bytes → length told ≤ 16 + 4 * (screen.width * screen.height)
+key_short screen size f area is host all empty bytes told first updated are_told =
+    let whole = whole_area screen.width screen.height in
+    let short = no_longer host_format whole (sent_colors host_format screen whole) encodings.Hextile bytes (sent_whole screen size f area is host all empty bytes first updated) in
+    omega (arith, short, ap length are_told)
+
+-- it is the screen's key
+pub key_made : (format : RecordingFormat) (screen : Framebuffer) (size : ScreenSize) (f : Format) (area : Area) → size ≡ record { width = screen.width; height = screen.height } → f ≡ host_format → area ≡ whole_area size.width size.height
+    → screen.width * screen.height ≤ (limits format).area
     → AreColorsOf screen (whole_area screen.width screen.height) (area_colors screen (whole_area screen.width screen.height))
-    → (empty bytes told : List ℕ) → empty ≡ [] → Appends (whole_update screen size) empty bytes → told ≡ bytes
+    → (empty bytes told : List ℕ) → empty ≡ [] → Appends (update_of f screen area) empty bytes → told ≡ bytes
     → (m : Host) → ((n : Host) → IsFor format size.width size.height n → n.bytes ≡ told → m ≡ n) → IsKey screen.width screen.height (color_at screen) m
-key_made format screen size is few are empty bytes told first updated are_told m one =
-    let area = whole_area screen.width screen.height in
-    let Q : ScreenSize → Type 0 = λ s. whole_update screen s bytes in
-    let sent = single host_format screen area encodings.Hextile bytes (subst Q is (alone (whole_update screen size) empty bytes first updated)) in
-    let update : IsUpdateFor host_format area (area_colors screen area) encodings.Hextile bytes =
-    subst (λ l. IsUpdateFor host_format area l encodings.Hextile bytes) (same_colors (area_colors screen area)) sent in
-    let short : length bytes ≤ message_limit format = omega (arith, (are_limits format).key, no_longer host_format area (area_colors screen area) encodings.Hextile bytes update, few) in
+key_made format screen size f area is host all few are empty bytes told first updated are_told m one =
+    let whole = whole_area screen.width screen.height in
+    let sent = sent_whole screen size f area is host all empty bytes first updated in
+    let update : IsUpdateFor host_format whole (area_colors screen whole) encodings.Hextile bytes =
+    subst (λ l. IsUpdateFor host_format whole l encodings.Hextile bytes) (same_colors (area_colors screen whole)) sent in
+    let short : length bytes ≤ message_limit format = omega (arith, (are_limits format).key, no_longer host_format whole (area_colors screen whole) encodings.Hextile bytes update, few) in
     let S : ScreenSize → Type 0 = λ s. (n : Host) → IsFor format s.width s.height n → n.bytes ≡ told → m ≡ n in
     let only = subst S is one in
-    key_of format screen (area_colors screen area) update.is.encoding bytes update.rectangle m are (kind_of update.is.encoding update.is.encoding_is) update.bytes_are update.is.is short (λ n for equal. only n for (equal ∙ sym are_told))
+    key_of format screen (area_colors screen whole) update.is.encoding bytes update.rectangle m are (kind_of update.is.encoding update.is.encoding_is) update.bytes_are update.is.is short (λ n for equal. only n for (equal ∙ sym are_told))

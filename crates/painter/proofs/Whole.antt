@@ -7,13 +7,13 @@ use Rattle.terms.specs.declared.area.Area.{Area}
 use Rattle.terms.specs.declared.screen_size.ScreenSize.{ScreenSize}
 use Rattle.rect_data.specs.declared.encoding.Encoding.{Encoding}
 use Rattle.rect_data.specs.declared.encoding.Encoding.TheVariants.{Raw, Hextile}
-use Rattle.terms.specs.Area.{is_in}
+use Rattle.terms.specs.Area.{whole_area, is_in}
 use Rattle.rect_codec.specs.Picture.{picture_of, painted_data}
 use Rattle.rfb_wire.specs.declared.message.Rectangle.{Rectangle}
 use Rattle.rfb_wire.specs.Host.{Host}
 use Rattle.painter.specs.Framebuffer.{Framebuffer, color_at, SameSize, Has, IsSame}
 use Rattle.painter.specs.Picture.{painted_rectangle, painted_rectangles, painted_message}
-use Rattle.painter.specs.Key.{whole_area, IsWhole, IsKey}
+use Rattle.painter.specs.Key.{IsWhole, IsKey}
 use Rattle.painter.proofs.Order.{one_more, no_rectangles}
 use Rattle.painter.proofs.Region.{is_in_true}
 

@@ -1,15 +1,11 @@
 -- A key screen: an update that paints a whole screen, whatever stood there before.
 use Rattle.std.specs.Prelude.{◌≡◌, ◌⊎◌, ℕ, [], ◌∷◌}
 use Rattle.pixel_format.specs.Canvas.{Picture, Agree}
-use Rattle.terms.specs.declared.area.Area.{Area}
+use Rattle.terms.specs.Area.{whole_area}
 use Rattle.rect_data.specs.declared.encoding.Encoding.TheVariants.{Raw, Hextile}
 use Rattle.rfb_wire.specs.declared.message.Rectangle.{Rectangle}
 use Rattle.rfb_wire.specs.Host.{Host}
 use Rattle.painter.specs.Picture.{painted_message}
-
--- all pixels of a screen of this size
-abbrev pub whole_area : ℕ → ℕ → Area
-whole_area width height = record { x = 0; y = 0; w = width; h = height }
 
 -- a rectangle of all pixels, in an encoding that doesn't look at what stood there
 pub record IsWhole (width height : ℕ) (r : Rectangle) : Type 0 where

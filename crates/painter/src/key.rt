@@ -35,15 +35,9 @@ impl Screen {
         ensures short { IfOk result (λ m. length m.bytes ≤ 16 + 4 * (self.now.width * self.now.height)) }
     {
         let size = self.size();
-        let area = Area {
-            x: 0,
-            y: 0,
-            w: size.width,
-            h: size.height,
-        };
         self.known_colors();
         let slots = ScreenPart::Region {
-            area,
+            area: Area::whole(size),
             encoding: Encoding::Hextile,
         };
         let host = PixelFormat::host();

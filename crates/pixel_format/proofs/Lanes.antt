@@ -95,7 +95,7 @@ shift_below bits v max s some small inside = elim (cases_lt s bits) [
 ]
 
 -- values of the three channels of a format, each at its shift
-pub record Placed (f : Format) (r g b : ℕ) : Type 0 where
+pub record Shifted (f : Format) (r g b : ℕ) : Type 0 where
   pub below : r * 2 ^ f.red.shift + g * 2 ^ f.green.shift + b * 2 ^ f.blue.shift < 2 ^ f.bits
   pub red : (r * 2 ^ f.red.shift + g * 2 ^ f.green.shift + b * 2 ^ f.blue.shift) / 2 ^ f.red.shift % (f.red.max + 1) ≡ r
   pub green : (r * 2 ^ f.red.shift + g * 2 ^ f.green.shift + b * 2 ^ f.blue.shift) / 2 ^ f.green.shift % (f.green.max + 1) ≡ g
@@ -106,8 +106,8 @@ within_mask c bits v channel small =
     let le : v * 2 ^ c.shift ≤ c.max * 2 ^ c.shift = mul-le v (2 ^ c.shift) c.max (2 ^ c.shift) small (omega arith) in
     omega (arith, channel.inside)
 
-pub placed_apart : (f : Format) (r g b : ℕ) → IsValid f → r ≤ f.red.max → g ≤ f.green.max → b ≤ f.blue.max → Placed f r g b
-placed_apart f r g b valid small_r small_g small_b =
+pub shifted_apart : (f : Format) (r g b : ℕ) → IsValid f → r ≤ f.red.max → g ≤ f.green.max → b ≤ f.blue.max → Shifted f r g b
+shifted_apart f r g b valid small_r small_g small_b =
     let x = in_mask valid.red.full.0 f.red.shift f.red.max r valid.red.full.2 small_r in
     let y = in_mask valid.green.full.0 f.green.shift f.green.max g valid.green.full.2 small_g in
     let z = in_mask valid.blue.full.0 f.blue.shift f.blue.max b valid.blue.full.2 small_b in
@@ -125,7 +125,7 @@ placed_apart f r g b valid small_r small_g small_b =
     }
 
 -- the colour of a pixel of this number
-pub color_found : (f : Format) (c : Color) (bytes : List ℕ) → Placed f c.r c.g c.b → pixel_number f bytes ≡ color_number f c → pixel_color f bytes ≡ c
+pub color_found : (f : Format) (c : Color) (bytes : List ℕ) → Shifted f c.r c.g c.b → pixel_number f bytes ≡ color_number f c → pixel_color f bytes ≡ c
 unfolding pixel_color
 color_found f c bytes p e = rw (e, p.red, p.green, p.blue) refl
 

@@ -190,9 +190,9 @@ impl PixelFormat {
         ensures number { pixel_number self.now bytes.new ≡ color_number self.now color }
         ensures color { pixel_color self.now bytes.new ≡ color }
     {
-        let red = placed(self.red, color.r);
-        let green = placed(self.green, color.g);
-        let blue = placed(self.blue, color.b);
+        let red = shifted(self.red, color.r);
+        let green = shifted(self.green, color.g);
+        let blue = shifted(self.blue, color.b);
         self.put_number(red + green + blue, bytes);
     }
 
@@ -434,7 +434,7 @@ impl Channel {
         requires other { other.max * 2 ^ other.shift < 2 ^ 32 }
         ensures { result ≡ nat_eq (bit_and (self.max * 2 ^ self.shift) (other.max * 2 ^ other.shift)) 0 }
     {
-        placed(self, self.max) & placed(other, other.max) == 0
+        shifted(self, self.max) & shifted(other, other.max) == 0
     }
 }
 
@@ -448,28 +448,27 @@ fn value_of(channel: Channel, number: u32) -> u16
     ((number >> channel.shift) % (channel.max as u32 + 1)) as u16
 }
 
-// The lowest bit of a channel in a pixel's number, or 0 for a channel of maximum 0, whose shift may
-// lie beyond the number. It is the same for all pixels, so a loop over them finds it once.
+// How far a channel's values are shifted in a pixel's number: 0 for a channel of maximum 0, whose
+// shift may lie beyond the number. It is the same for all pixels, so a loop over them finds it once.
 #[inline(always)]
-fn unit_of(channel: Channel) -> u32
-    requires { channel.max * 2 ^ channel.shift < 2 ^ 32 }
-    ensures some { 0 < channel.max → result ≡ 2 ^ channel.shift }
-    ensures none { channel.max ≡ 0 → result ≡ 0 }
+fn shift_of(channel: Channel) -> u32
+    ensures below { (bits : ℕ) → 0 < bits → channel.max * 2 ^ channel.shift < 2 ^ bits → result < bits }
+    ensures some { 0 < channel.max → result ≡ channel.shift }
 {
     if channel.max == 0 {
         return 0;
     }
-    1 << channel.shift
+    channel.shift as u32
 }
 
 // A value of a channel, at its shift in a pixel's number.
 #[inline(always)]
-fn placed(channel: Channel, value: u16) -> u32
+fn shifted(channel: Channel, value: u16) -> u32
     requires within { value ≤ channel.max }
     requires fits { channel.max * 2 ^ channel.shift < 2 ^ 32 }
     ensures { result ≡ value * 2 ^ channel.shift }
 {
-    value as u32 * unit_of(channel)
+    (value as u32) << shift_of(channel)
 }
 
 // A value of at most 255, in proportion to another maximum.

@@ -85,12 +85,7 @@ impl Pixels {
         ensures size { SameSize self.old self.new }
         ensures just { AreJust self.new (λ x y. true) }
     {
-        self.insert(Area {
-            x: 0,
-            y: 0,
-            w: self.size.width,
-            h: self.size.height,
-        });
+        self.insert(Area::whole(self.size));
     }
 
     /// Takes the pixels of an area out of the set.

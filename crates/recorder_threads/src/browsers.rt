@@ -2,17 +2,16 @@
 //! viewer's connection.
 
 use crate::accepting::accept_until_rung;
+use crate::doors::Doors;
 use crate::service::Service;
 use crate::viewer_stream::ViewerStream;
 use disk::Disk;
 use flusher_core::BlockStart;
-use live_page::{PAGE, SCRIPT, STYLE};
 use playing::Pace;
 use reception::Arrival;
-use screen_script::PAINTER;
 use shared_book::Mark;
-use sockets::{WebStream, watch_over};
-use std::io::{BufWriter, Write};
+use sockets::WebStream;
+use std::alloc::AllocError;
 use std::net::{SocketAddr, TcpListener, TcpStream};
 use std::sync::{Arc, Wait};
 use std::thread::{Scope, Threads};
@@ -20,132 +19,67 @@ use std::time::Clock;
 use std::{io, thread};
 use steering::{Course, Steering};
 use telling::Event;
-use terms::ScreenSize;
-use web_door::{Judged, Refusal, judge, write_answer};
-use web_lobby::{
-    Head, Outlet, UPGRADE_REQUIRED, hear, status_of, wait_for_end, write_head, write_refusal,
-    write_text,
-};
-use web_target::{Asked, Beginning};
+use timeline::{Block, Facts, Timeline, write_timeline};
+use web_requests::{Porch, Visit, Wish};
+use web_target::{Beginning, Survey};
 
 /// The thousandths of the pace at which a recording happened.
 const AS_IT_HAPPENED: u32 = 1000;
 
-/// Of how many blocks a page is told at a time.
+/// How many blocks are looked at under the lock at a time.
 const MOST_BLOCKS: u64 = 1024;
 
-/// What a connection goes on as.
-#[derive(Clone, Copy, PartialEq, Eq)]
-enum Followed {
-    /// It has been answered, and ends.
-    Answered,
-    /// It is a viewer's, whose upgrade was answered.
-    Viewer(Beginning),
-}
-
-// The status of an answer that refuses.
-fn status_of_refusal(refusal: Refusal) -> &'static str {
-    match refusal {
-        Refusal::Head(fault) => status_of(fault),
-        Refusal::NoUpgrade => UPGRADE_REQUIRED,
-        Refusal::Foreign => "403 Forbidden",
-        Refusal::Early => "400 Bad Request",
+// What is told of a block.
+fn block_of(start: BlockStart) -> Block {
+    let BlockStart { start, end, time } = start;
+    Block {
+        time,
+        message: start,
+        updates: end.saturating_sub(start),
     }
 }
 
 impl<'a, D: Disk, M: Mark, R: Clock + Wait> Service<'a, D, M, R> {
-    // What came when, as JSON, block by block from this one on, and how long the session is.
-    fn write_times<W: Write>(&self, from: u64, out: &mut W) -> io::Result<()> {
+    // The blocks that a survey asks for, few of them at a time under the lock.
+    fn timeline(&self, survey: Survey) -> Result<Timeline, AllocError> {
+        let Survey { from, every } = survey;
+        let mut timeline = Timeline::new(self.room.alloc, from, every);
+        for _ in self.rt.forever() {
+            let starts = self
+                .shared
+                .block_starts(self.rt, self.room.alloc, timeline.next(), MOST_BLOCKS)?;
+            if starts.is_empty() {
+                return Ok(timeline);
+            }
+            for start in &starts {
+                if !timeline.add(block_of(*start))? {
+                    return Ok(timeline);
+                }
+            }
+        }
+        unreachable!()
+    }
+
+    // What came when, as JSON.
+    fn times(&self, survey: Survey) -> io::Result<Vec<u8>> {
         let room = self.room;
-        let ScreenSize { width, height } = room.screen.size;
-        let (messages, length) = (room.committed(), room.facts.length());
-        let starts = self
-            .shared
-            .block_starts(self.rt, room.alloc, from, MOST_BLOCKS)?;
+        let timeline = self.timeline(survey)?;
+        let facts = Facts {
+            size: room.screen.size,
+            messages: room.committed(),
+            length: room.facts.length(),
+        };
         let mut text = Vec::new(room.alloc);
-        write!(
-            &mut text,
-            "{{\"width\":{width},\"height\":{height},\"messages\":{messages},\"length\":{length},\"stretches\":["
-        )?;
-        let mut block = from;
-        for start in &starts {
-            let BlockStart { start, end, time } = *start;
-            let updates = end.saturating_sub(start);
-            let comma = if block == from { "" } else { "," };
-            write!(
-                &mut text,
-                "{comma}{{\"time\":{time},\"message\":{start},\"block\":{block},\"updates\":{updates}}}"
-            )?;
-            block = block.saturating_add(1);
-        }
-        write!(&mut text, "],\"next\":{block}}}\n")?;
-        write_head(
-            out,
-            Head {
-                status: "200 OK",
-                media: "application/json",
-                size: text.len() as u64,
-            },
-        )?;
-        out.write_all(&text)
+        write_timeline(facts, &timeline, &mut text)?;
+        Ok(text)
     }
 
-    // Answers a request that isn't for a viewer's connection.
-    fn answer<W: Write>(&self, judged: Judged, out: &mut W) -> io::Result<()> {
-        match judged {
-            Judged::Asked(Asked::Page) => write_text(
-                out,
-                "200 OK",
-                "text/html; charset=utf-8",
-                PAGE,
-            ),
-            Judged::Asked(Asked::Painter) => {
-                write_text(out, "200 OK", "text/javascript; charset=utf-8", PAINTER)
-            }
-            Judged::Asked(Asked::Script) => {
-                write_text(out, "200 OK", "text/javascript; charset=utf-8", SCRIPT)
-            }
-            Judged::Asked(Asked::Style) => {
-                write_text(out, "200 OK", "text/css; charset=utf-8", STYLE)
-            }
-            Judged::Asked(Asked::Times(from)) => self.write_times(from, out),
-            Judged::Refused(refusal) => write_refusal(out, status_of_refusal(refusal), refusal),
-            Judged::Unfinished | Judged::Watch(..) | Judged::Asked(Asked::Watch(_)) => Ok(()),
+    // Answers a connection of this number with what came when.
+    fn answer_times(&self, porch: &Porch<'_, R>, stream: &TcpStream, number: u64, survey: Survey) {
+        match self.times(survey) {
+            Ok(text) => porch.tell(stream, number, Some(&text)),
+            Err(_) => porch.tell(stream, number, None),
         }
-    }
-
-    // What came, if it is more than the beginning of a request.
-    fn judge_whole(&self, head: &[u8]) -> Option<Judged> {
-        match judge(head, self.names) {
-            Judged::Unfinished => None,
-            judged => Some(judged),
-        }
-    }
-
-    // Hears one request, and answers it.
-    fn converse(&self, stream: &TcpStream, number: u64) -> io::Result<Followed> {
-        let (rt, room) = (self.rt, self.room);
-        watch_over(stream)?;
-        let judged = hear(
-            rt,
-            room.alloc,
-            &room.bell,
-            self.lobby,
-            stream,
-            number,
-            |head| self.judge_whole(head),
-        )?;
-        if let Judged::Watch(beginning, key) = judged {
-            let mut answer = Vec::new(room.alloc);
-            write_answer(&key, &mut answer).map_err(|_| io::ErrorKind::OutOfMemory)?;
-            Outlet::new(rt, stream)?.write_all(&answer)?;
-            return Ok(Followed::Viewer(beginning));
-        }
-        let mut out = BufWriter::new(room.alloc, Outlet::new(rt, stream)?)?;
-        self.answer(judged, &mut out)?;
-        out.flush()?;
-        wait_for_end(rt, &room.bell, stream)?;
-        Ok(Followed::Answered)
     }
 }
 
@@ -175,37 +109,69 @@ impl<'a, D: Disk + Send, M: Mark + Send + Sync, R: Threads + Clock + Wait + Sync
         );
     }
 
-    // Hears and answers a connection. What goes wrong ends it alone.
-    fn attend_request(&self, stream: Arc<TcpStream>, from: SocketAddr, number: u64) {
-        let followed = self.converse(&stream, number);
-        self.lobby.leave(self.rt, number);
-        if let Ok(Followed::Viewer(beginning)) = followed {
-            self.attend_browser(stream, from, beginning);
+    /// Attends to a visit until it has ended. What goes wrong ends it alone.
+    pub fn attend_visit(&self, porch: &Porch<'_, R>, visit: Visit) {
+        let Visit {
+            stream,
+            from,
+            number,
+            wish,
+        } = visit;
+        match wish {
+            Wish::Times(survey) => self.answer_times(porch, &stream, number, survey),
+            Wish::Watch(beginning) => self.attend_browser(stream, from, beginning),
+        }
+    }
+
+    // Hears a connection, and attends to it.
+    fn attend_request(
+        &self,
+        porch: &Porch<'_, R>,
+        stream: Arc<TcpStream>,
+        from: SocketAddr,
+        number: u64,
+    ) {
+        if let Some(visit) = porch.hear(stream, from, number) {
+            self.attend_visit(porch, visit);
         }
     }
 
     // Has a connection attended to on a thread of its own.
-    fn take_browser<'s, E>(&'s self, scope: &'s Scope<'s, E>, stream: TcpStream, from: SocketAddr) {
-        let Some((number, stream)) = self.lobby.enter(self.rt, self.room.alloc, stream) else {
+    fn take_browser<'s, E>(
+        &'s self,
+        scope: &'s Scope<'s, E>,
+        porch: &'s Porch<'s, R>,
+        stream: TcpStream,
+        from: SocketAddr,
+    ) {
+        let Some((number, stream)) = porch.lobby.enter(self.rt, self.room.alloc, stream) else {
             return;
         };
         if scope
-            .spawn(move || self.attend_request(stream, from, number))
+            .spawn(move || self.attend_request(porch, stream, from, number))
             .is_err()
         {
-            self.lobby.leave(self.rt, number);
+            porch.lobby.leave(self.rt, number);
         }
     }
 
     /// Answers browsers until the bell rings, and waits until each connection has ended.
-    pub fn accept_browsers(&self, listener: &TcpListener) {
+    pub fn accept_browsers(&self, doors: &Doors<'_>, listener: &TcpListener) {
+        let room = self.room;
+        let porch = Porch {
+            rt: self.rt,
+            alloc: room.alloc,
+            bell: &room.bell,
+            lobby: doors.lobby,
+            names: doors.names,
+        };
         thread::scope(thread::scope_env(), self.rt, |scope| {
             accept_until_rung(
                 self.rt,
                 listener,
-                &self.room.bell,
-                &self.room.telling,
-                |stream, from| self.take_browser(scope, stream, from),
+                &room.bell,
+                &room.telling,
+                |stream, from| self.take_browser(scope, &porch, stream, from),
             );
         });
     }

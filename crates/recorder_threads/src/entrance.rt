@@ -14,7 +14,7 @@ use gated_journal::ReadFault;
 use playing::Program;
 use reception::Arrival;
 use shared_book::Mark;
-use std::net::{SocketAddr, TcpStream};
+use std::net::{SocketAddr, TcpListener, TcpStream};
 use std::sync::Wait;
 use std::thread;
 use std::thread::{Scope, Threads};
@@ -59,11 +59,25 @@ impl<'a, D: Disk, M: Mark, R: Clock + Wait> Service<'a, D, M, R> {
         }
     }
 
+    // What a read that failed is to a viewer's worker. That the device failed is noted.
+    fn unread(&self, fault: ReadFault) -> ViewerEnd {
+        ViewerEnd::Next(match fault {
+            ReadFault::Device => {
+                self.room.note_unreadable(self.rt);
+                NextRefusal::Device
+            }
+            ReadFault::NoMemory => NextRefusal::NoMemory,
+        })
+    }
+
     // After how many messages a viewer is at this time, in milliseconds. What was painted first is shown
     // at any time before it.
     fn position_at(&self, time: u32) -> Result<u64, ViewerEnd> {
         let (rt, shared) = (self.rt, self.shared);
-        let count = shared.count_at(rt, time).map_err(unread)?;
+        let count = match shared.count_at(rt, time) {
+            Ok(count) => count,
+            Err(fault) => return Err(self.unread(fault)),
+        };
         Ok(count.max(1).min(shared.committed(rt)))
     }
 
@@ -143,14 +157,6 @@ impl<'a, D: Disk, M: Mark, R: Clock + Wait> Service<'a, D, M, R> {
         let _told = turn_away(self.rt, room.alloc, stream, &room.bell, ending);
         room.hall.give_up(self.rt);
     }
-}
-
-// What a read that failed is to a viewer's worker.
-fn unread(fault: ReadFault) -> ViewerEnd {
-    ViewerEnd::Next(match fault {
-        ReadFault::Device => NextRefusal::Device,
-        ReadFault::NoMemory => NextRefusal::NoMemory,
-    })
 }
 
 impl<'a, D: Disk + Send, M: Mark + Send + Sync, R: Threads + Clock + Wait + Sync> Service<
@@ -265,12 +271,17 @@ impl<'a, D: Disk + Send, M: Mark + Send + Sync, R: Threads + Clock + Wait + Sync
     }
 
     // Has those attended to who have come, and who come until the bell rings: whether it did.
-    fn accept_in<'s, E>(&'s self, scope: &'s Scope<'s, E>, comers: Vec<Comer>) -> bool {
+    fn accept_in<'s, E>(
+        &'s self,
+        scope: &'s Scope<'s, E>,
+        listener: &Option<TcpListener>,
+        comers: Vec<Comer>,
+    ) -> bool {
         for comer in comers {
             self.go_on(scope, comer);
         }
         let room = self.room;
-        let Some(listener) = &self.listeners.viewers else {
+        let Some(listener) = listener else {
             room.bell.wait(None, None);
             return true;
         };
@@ -284,12 +295,12 @@ impl<'a, D: Disk + Send, M: Mark + Send + Sync, R: Threads + Clock + Wait + Sync
     }
 
     /// Attends to those who have come, and accepts connections until the bell rings; waits until each
-    /// has ended: whether nothing was wrong with the listener.
-    pub fn accept_all(&self, comers: Vec<Comer>) -> bool {
+    /// has ended: whether nothing was wrong with the listener, if there is one.
+    pub fn accept_all(&self, listener: &Option<TcpListener>, comers: Vec<Comer>) -> bool {
         let is_sound = thread::scope(
             thread::scope_env(),
             self.rt,
-            |scope| self.accept_in(scope, comers),
+            |scope| self.accept_in(scope, listener, comers),
         );
         if !is_sound {
             // Nobody comes any more, so that nobody is waited for.

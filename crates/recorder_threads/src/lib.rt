@@ -6,6 +6,7 @@ mod accepting;
 mod browsers;
 mod comer;
 mod committing;
+mod doors;
 mod ends;
 mod entrance;
 mod no_turnstile;
@@ -16,6 +17,7 @@ mod work;
 
 pub use accepting::accept_until_rung;
 pub use comer::Comer;
+pub use doors::Doors;
 pub use refusing::refuse;
 pub use service::{Outcome, Service, run_threads};
 pub use viewer_stream::ViewerStream;

@@ -2,6 +2,7 @@
 
 use crate::comer::Comer;
 use crate::committing::Committing;
+use crate::doors::Doors;
 use crate::ends::{Ends, first_refusal};
 use crate::no_turnstile::NoTurnstile;
 use crate::refusing::refuse;
@@ -22,7 +23,6 @@ use std::thread::{JoinHandle, Scope, Threads};
 use std::time::{Clock, Duration};
 use std::{io, thread};
 use telling::{Event, Silence};
-use web_lobby::Lobby;
 
 /// What the threads of a recorder share.
 #[derive(Drop)]
@@ -30,12 +30,6 @@ pub struct Service<'a, D: Disk, M: Mark, R> {
     pub rt: &'a R,
     pub shared: &'a Shared<D, M>,
     pub room: &'a Room<M>,
-    /// The listeners for viewers and for browsers.
-    pub listeners: &'a Listeners,
-    /// By which names browsers may ask, besides addresses and `localhost`.
-    pub names: &'a [&'a [u8]],
-    /// The browsers that are served.
-    pub lobby: &'a Lobby,
     /// The host's stream, if there is a host, to be shut.
     pub stream: &'a Option<TcpStream>,
 }
@@ -80,6 +74,13 @@ impl<'a, D: Disk, M: Mark, R: Clock + Wait> Service<'a, D, M, R> {
             self.room.telling.tell(self.rt, Event::HostEnded(end));
         }
         (worker, end)
+    }
+
+    /// Says that there is no host: nothing is recorded, and what is there is all.
+    pub fn record_nothing(&self, pen: FlusherPen<M>) {
+        self.shared.end_host(self.rt);
+        let _flushed = self.flush(pen);
+        self.room.hall.end(self.rt);
     }
 
     // Shuts the host's stream, so that nothing more is read from it.
@@ -222,6 +223,7 @@ impl<'a, D: Disk + Send, M: Mark + Send + Sync, R: Threads + Clock + Wait + Sync
     fn start<E>(
         &'a self,
         scope: &'a Scope<'a, E>,
+        doors: &'a Doors<'a>,
         host: Option<HostOnClock>,
         pen: HostPen<M>,
         comers: Vec<Comer>,
@@ -240,15 +242,24 @@ impl<'a, D: Disk + Send, M: Mark + Send + Sync, R: Threads + Clock + Wait + Sync
         if host.is_some() && self.room.telling.tells_all() {
             scope.spawn(move || self.watch_device()).ok()?;
         }
-        if let Some(listener) = &self.listeners.web {
-            scope.spawn(move || self.accept_browsers(listener)).ok()?;
+        let Listeners { viewers, web } = doors.listeners;
+        if let Some(listener) = web {
+            scope
+                .spawn(move || self.accept_browsers(doors, listener))
+                .ok()?;
         }
-        let viewers = scope.spawn(move || self.accept_all(comers)).ok()?;
+        let viewers = scope.spawn(move || self.accept_all(viewers, comers)).ok()?;
         Some(Crew { host, viewers })
     }
 
     // Runs the threads of a recorder within a scope of theirs, until all is done.
-    fn run<E, W: Write>(&'a self, scope: &'a Scope<'a, E>, work: Work<M>, err: &mut W) -> Outcome {
+    fn run<E, W: Write>(
+        &'a self,
+        scope: &'a Scope<'a, E>,
+        doors: &'a Doors<'a>,
+        work: Work<M>,
+        err: &mut W,
+    ) -> Outcome {
         let Work {
             host,
             host_pen,
@@ -256,7 +267,7 @@ impl<'a, D: Disk + Send, M: Mark + Send + Sync, R: Threads + Clock + Wait + Sync
             comers,
             stop,
         } = work;
-        match self.start(scope, host, host_pen, comers, stop) {
+        match self.start(scope, doors, host, host_pen, comers, stop) {
             Some(crew) => self.conduct(crew, flusher_pen, err),
             None => {
                 self.give_up(flusher_pen);
@@ -274,10 +285,15 @@ pub fn run_threads<
     M: Mark + Send + Sync,
     R: Threads + Clock + Wait + Sync,
     W: Write,
->(service: &'a Service<'a, D, M, R>, work: Work<M>, err: &'a mut W) -> Outcome {
+>(
+    service: &'a Service<'a, D, M, R>,
+    doors: &'a Doors<'a>,
+    work: Work<M>,
+    err: &'a mut W,
+) -> Outcome {
     thread::scope(
         thread::scope_env(),
         service.rt,
-        |scope| service.run(scope, work, err),
+        |scope| service.run(scope, doors, work, err),
     )
 }

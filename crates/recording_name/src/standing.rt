@@ -136,8 +136,8 @@ pub fn stand_at<S: SystemFolder>(
     path: &str,
     access: Access,
 ) -> Result<Standing<S::LockedFile>, StandingFault>
-    // Each crash from then on leaves what may be shown; and where a recording may be made is nothing
-    // that has bytes.
+    // Each crash from then on leaves what may be shown; and if a recording may be made, nothing that
+    // has bytes is there.
     ensures standing { S.is_modelled → IfOk result (λ standing. IsStanding S.locked standing access path.now (present (S.history folder.old)) (present (S.history folder.new))) }
     // No name is touched: at each moment a crash leaves there what it might have left before.
     ensures keeps { S.is_modelled → (name : List ℕ) → GoesOn (S.history folder.old) (S.history folder.new) (Keeps (present (S.history folder.old)) name) }

@@ -1,4 +1,4 @@
--- Where a byte outside ASCII rules out that a request line is one.
+-- Whether a byte outside ASCII rules out that a request line is one.
 use Rattle.std.specs.Prelude.{ℕ, Bool, true, ◌&&◌, ◌||◌, ◌==◌, nat_lt, List, [], ◌∷◌, if◌then◌else◌}
 
 -- the line that begins so is of ASCII, as far as it is there

@@ -8,7 +8,7 @@ use connections::{Device, Hall, Room};
 use file_disk::{LastError, Written};
 use libc::STDERR_FILENO;
 use recorder_opening::{Begun, Listened, Opened, Opening, Reading, Source, is_still_at};
-use recorder_threads::{Comer, Service, Work, refuse, run_threads};
+use recorder_threads::{Comer, Doors, Service, Work, refuse, run_threads};
 use refusals::{Refusal, Stopped};
 use serve_plan::{Origin, Plan};
 use shared_book::{Mark, Shared, Sharing, Token};
@@ -105,12 +105,14 @@ fn serve_opened<M: Mark + Send + Sync, R: Threads + Clock + Wait + Sync + AllocG
         rt,
         shared: &shared,
         room: &room,
+        stream: &stream,
+    };
+    let doors = Doors {
         listeners: &listeners,
         names: &names,
         lobby: &lobby,
-        stream: &stream,
     };
-    let outcome = run_threads(&service, work, err);
+    let outcome = run_threads(&service, &doors, work, err);
     drop(service);
     outcome.result(shared.finish().committed())
 }

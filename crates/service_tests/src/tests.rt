@@ -1,5 +1,4 @@
 //! What no clause says: what is served over sockets.
 
-mod browsing;
 mod serving;
 mod told;

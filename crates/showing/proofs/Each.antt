@@ -1,4 +1,4 @@
--- A viewer that begins after some messages: it comes to where it begins, is shown each message, and
+-- A viewer that begins after some messages: it comes to its beginning, is shown each message, and
 -- has been shown them.
 use Rattle.std.proofs.Common.{◌≡◌, ℕ, suc, ◌⊎◌, Bool, true, false, not, ◌&&◌, ◌||◌, List, [], ◌∷◌, ◌++◌, refl, sym, ap, ◌∙◌, subst, inl, inr, ◌≤◌, ◌<◌, nat_lt, nat_le, min, max, ◌-◌, ◌+◌, arith}
 use Rattle.std.proofs.lemmas.Bool.Decides.{nat_tests}
@@ -21,7 +21,7 @@ unasked_there : (asked due : Bool) (from position n : ℕ) → due ≡ true → 
 unasked_there true due from position n d f p h = let no_answer = h refl d in absurd (grind (arith, nat_tests))
 unasked_there false due from position n d f p h = refl
 
--- It was shown nothing, and stands at or before where it begins, from where on it is answered.
+-- It was shown nothing, and stands at or before its beginning, from which on it is answered.
 pub record IsBare (n : ℕ) (w : Watch) : Type 0 where
   pub none : w.shown ≡ []
   pub before : w.sees.position ≤ n

@@ -1,3 +1,4 @@
+pub mod OneRow
 pub mod Rows
 pub mod Says
 pub mod Means

@@ -21,12 +21,12 @@ fresh_then s e = grind arith
 far_then : (s : Situation) → is_far s ≡ true → far < s.committed - s.position
 far_then s e = grind (arith, nat_tests)
 
-far_or_stale : (live away behind stale : Bool) → (live && (away || (behind && stale))) ≡ true → (live ≡ true) × ((away ≡ true) ⊎ (stale ≡ true))
-far_or_stale true true behind stale e = (refl, inl refl)
+far_or_stale : (live away late stale : Bool) → (live && (away || (late && stale))) ≡ true → (live ≡ true) × ((away ≡ true) ⊎ (stale ≡ true))
+far_or_stale true true late stale e = (refl, inl refl)
 far_or_stale true false true true e = (refl, inr refl)
 far_or_stale true false true false e = absurd (let contrary : false ≡ true = e in cc)
 far_or_stale true false false stale e = absurd (let contrary : false ≡ true = e in cc)
-far_or_stale false away behind stale e = absurd (let contrary : false ≡ true = e in cc)
+far_or_stale false away late stale e = absurd (let contrary : false ≡ true = e in cc)
 
 leaping_why : (s : Situation) → leaps s ≡ true → IsPassing s
 leaping_why s e =

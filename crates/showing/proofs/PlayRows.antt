@@ -1,13 +1,14 @@
 -- Just one row of the played one's table applies, and what is done next says which.
 use Rattle.std.proofs.Common.{◌≡◌, ℕ, ◌⊎◌, Bool, true, false, not, ◌&&◌, ◌||◌, List, [], ◌∷◌, refl, sym, ap, ◌∙◌, subst, inl, inr, Some, ◌≤◌, ◌<◌, nat_lt, ◌-◌, ◌+◌, arith}
-use Rattle.std.specs.Prelude.{if◌then◌else◌, is_some}
+use Rattle.std.specs.Prelude.{is_some}
 use Rattle.std.proofs.lemmas.Bool.{and_parts}
 use Rattle.std.proofs.lemmas.Bool.Decides.{nat_tests}
 use Rattle.showing.specs.declared.playback.Playback.{Playback}
 use Rattle.showing.specs.declared.next.Next.{Next}
 use Rattle.showing.specs.declared.next.Next.TheVariants.{Want, Wait, WaitUntilAsked, HoldBack, Newest, Seek, Begin, Sleep, Show, Rest, Stop}
-use Rattle.showing.specs.Table.{Row, applying, said_by}
+use Rattle.showing.specs.Table.{Row, applying}
 use Rattle.showing.specs.Playing.{table, next_of, last_screen, time_left, is_cut_off, is_early, is_due, has_played, stands_still, plays_again, begins_now, waits, has_more, is_there, begins_again, coming_by, goes_on, is_free}
+use Rattle.showing.proofs.OneRow.{say}
 
 -- with each test as it may be
 abbrev rows_at : (left closing hand early all again stood fresh there begun more : Bool) → ℕ → ℕ → ℕ → List Row
@@ -64,21 +65,8 @@ Says s Newest = ⊥
 Says s WaitUntilAsked = ⊥
 Says s HoldBack = ⊥
 
-abbrev AllSay : Playback → List Row → Type 0
-AllSay s [] = Unit {0}
-AllSay s (r ∷ rows) = (r.applies ≡ true → Says s r.next) × AllSay s rows
-
-row_says : (s : Playback) (applies : Bool) (next : Next) (rows : List Row) → applying (record { applies = applies; next = next } ∷ rows) ≡ 1
-    → (applies ≡ true → Says s next) → (applying rows ≡ 1 → Says s (said_by rows)) → Says s (if applies then next else said_by rows)
-row_says s true next rows one here later = here refl
-row_says s false next rows one here later = later one
-
-say : (s : Playback) (rows : List Row) → applying rows ≡ 1 → AllSay s rows → Says s (said_by rows)
-say s [] one each = absurd (omega arith)
-say s (r ∷ rows) one each = row_says s r.applies r.next rows one each.0 (λ o. say s rows o each.1)
-
 says_if : (s : Playback) (next : Next) → next_of s ≡ next → Says s next
-says_if s next e = subst (Says s) e (say s (table s) (one_played_row s)
+says_if s next e = subst (Says s) e (say (Says s) (table s) (one_played_row s)
     (λ e. e, (λ e. inl (e, refl), (λ e. e, (λ e. e, (λ e. inr e, (λ e. (e, refl), (λ e. tt, (λ e. tt, (λ e. e, (λ e. tt, (λ e. e, tt))))))))))))
 
 none_left : (due played : ℕ) → nat_lt 0 (due - played) ≡ false → due ≤ played

@@ -1,10 +1,10 @@
 -- What is so if something is done next.
-use Rattle.std.proofs.Common.{◌≡◌, ◌⊎◌, Bool, true, false, List, [], ◌∷◌, refl, inl, inr, arith}
-use Rattle.std.specs.Prelude.{if◌then◌else◌}
+use Rattle.std.proofs.Common.{◌≡◌, ◌⊎◌, true, refl, inl, inr}
 use Rattle.showing.specs.declared.situation.Situation.{Situation}
 use Rattle.showing.specs.declared.next.Next.{Next}
 use Rattle.showing.specs.declared.next.Next.TheVariants.{Want, Wait, WaitUntilAsked, HoldBack, Newest, Seek, Begin, Sleep, Show, Rest, Stop}
-use Rattle.showing.specs.Table.{Row, applying, said_by, table, next_of, most, has_all, is_stopped, is_unread, starts_at_newest, starts_at_position, is_awaited, leaps_now, is_held_back, comes_on, takes_one, keeps_up, lacks_none, coming_by}
+use Rattle.showing.specs.Table.{table, next_of, most, has_all, is_stopped, is_unread, starts_at_newest, starts_at_position, is_awaited, leaps_now, is_held_back, comes_on, takes_one, keeps_up, lacks_none, coming_by}
+use Rattle.showing.proofs.OneRow.{say}
 use Rattle.showing.proofs.Rows.{one_row}
 
 -- which row applies if this is done next
@@ -22,22 +22,8 @@ Says s Begin = ⊥
 Says s (Sleep time) = ⊥
 Says s Show = ⊥
 
--- each row says what is so if it applies
-abbrev AllSay : Situation → List Row → Type 0
-AllSay s [] = Unit {0}
-AllSay s (r ∷ rows) = (r.applies ≡ true → Says s r.next) × AllSay s rows
-
-row_says : (s : Situation) (applies : Bool) (next : Next) (rows : List Row) → applying (record { applies = applies; next = next } ∷ rows) ≡ 1
-    → (applies ≡ true → Says s next) → (applying rows ≡ 1 → Says s (said_by rows)) → Says s (if applies then next else said_by rows)
-row_says s true next rows one here later = here refl
-row_says s false next rows one here later = later one
-
-say : (s : Situation) (rows : List Row) → applying rows ≡ 1 → AllSay s rows → Says s (said_by rows)
-say s [] one each = absurd (omega arith)
-say s (r ∷ rows) one each = row_says s r.applies r.next rows one each.0 (λ o. say s rows o each.1)
-
 pub says : (s : Situation) → Says s (next_of s)
-says s = say s (table s) (one_row s) (
+says s = say (Says s) (table s) (one_row s) (
   λ e. e,
   (
     λ e. e,

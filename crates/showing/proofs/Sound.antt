@@ -1,4 +1,4 @@
--- What holds of each run: what is known, where the viewer stands, and what it was shown.
+-- What holds of each run: what is known, the viewer's position, and what it was shown.
 use Rattle.std.proofs.Common.{◌≡◌, ℕ, suc, ◌⊎◌, Bool, true, false, not, ◌&&◌, ◌||◌, List, [], ◌∷◌, refl, sym, ◌∙◌, subst, inl, inr, ◌≤◌, ◌<◌, nat_lt, nat_le, min, ◌-◌, ◌+◌, arith}
 use Rattle.std.specs.Prelude.{if◌then◌else◌}
 use Rattle.std.proofs.lemmas.Bool.{and_parts}

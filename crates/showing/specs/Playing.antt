@@ -34,7 +34,7 @@ is_under_way s = is_free s && not s.is_at_end
 abbrev pub has_screen : Playback → Bool
 has_screen s = is_under_way s && not s.is_fresh
 
--- it stands where the playing begins, or further on
+-- it stands at the playing's beginning, or further on
 abbrev pub is_there : Playback → Bool
 is_there s = nat_le s.from s.position
 
@@ -61,7 +61,7 @@ has_played s = is_free s && (s.is_at_end && not (begins_again s))
 abbrev pub stands_still : Playback → Bool
 stands_still s = is_free s && (s.is_at_end && (begins_again s && not s.has_stood))
 
--- and then it goes back to where the playing begins.
+-- and then it goes back to the playing's beginning.
 abbrev pub plays_again : Playback → Bool
 plays_again s = is_free s && (s.is_at_end && (begins_again s && s.has_stood))
 
@@ -85,7 +85,7 @@ takes_one s = has_screen s && (is_there s && (s.has_begun && has_more s))
 abbrev pub waits : Playback → Bool
 waits s = has_screen s && (not (has_more s) && (not (is_there s) || s.has_begun))
 
--- how many messages one that comes to where the playing begins is handed
+-- how many messages one that comes to the playing's beginning is handed
 abbrev pub coming_by : Playback → ℕ
 coming_by s = min (s.from - s.position) most
 

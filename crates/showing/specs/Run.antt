@@ -161,7 +161,7 @@ abbrev pub run : List Event → Watch → Watch
 run [] w = w
 run (e ∷ events) w = run events (happens w e)
 
--- where it is answered from
+-- the position that it is answered from
 abbrev pub start_of : Begins → ℕ
 start_of Live = 0
 start_of (After from each_until) = from

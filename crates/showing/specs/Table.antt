@@ -36,12 +36,12 @@ abbrev is_owed_at : Begins → ℕ → Bool
 is_owed_at Live position = false
 is_owed_at (After from each_until) position = nat_le from position && nat_le position each_until
 
--- how many messages it is still away from where it begins
+-- how many messages it is still away from its beginning
 abbrev away : Begins → ℕ → ℕ
 away Live position = 0
 away (After from each_until) position = from - position
 
--- it has not come further than where it begins
+-- it has not come further than its beginning
 abbrev stands_before_start_of : Begins → ℕ → Bool
 stands_before_start_of Live position = false
 stands_before_start_of (After from each_until) position = nat_le position from
@@ -138,7 +138,7 @@ leaps_now s = goes_on s && (leaps s && (is_far s || may_go_on s))
 abbrev pub is_held_back : Situation → Bool
 is_held_back s = goes_on s && (leaps s && not (is_far s || may_go_on s))
 
--- Messages are handed over up to where it begins,
+-- Messages are handed over up to its beginning,
 abbrev pub comes_on : Situation → Bool
 comes_on s = takes_more s && is_coming s
 
@@ -154,7 +154,7 @@ keeps_up s = takes_more s && is_live s
 abbrev pub lacks_none : Situation → Bool
 lacks_none s = goes_on s && (not (leaps s) && not (has_more s))
 
--- how many messages one that comes to where it begins is handed
+-- how many messages one that comes to its beginning is handed
 abbrev pub coming_by : Situation → ℕ
 coming_by s = min (away s.begins s.position) most
 

@@ -1,8 +1,8 @@
-//! Where viewers begin.
+//! How viewers begin.
 
 ghost use Rattle.std.specs.Prelude.{◌≡◌, max};
 
-/// Where a viewer begins, as it stands when it comes.
+/// How a viewer begins, as it stands when it comes.
 #[derive(Clone, Copy, Debug, PartialEq, Eq)]
 pub enum Begins {
     /// At the newest screen.

@@ -111,8 +111,8 @@ pub fn nothing_is_early()
         → (s.committed ≤ s.position) × (s.is_at_end ≡ false) × (s.has_left ≡ false) × (s.is_closing ≡ false) }
 {}
 
-/// The playing begins again only if it is to, at the end, and where it began, if that is before the
-/// end: so each time something is shown.
+/// The playing begins again only if it is to, at the end, and at the position at which it began, if
+/// that is before the end: so each time something is shown.
 pub fn only_something_is_played_again()
     ensures { (s : Playback) → (count : ℕ) → playing.next_of s ≡ next.Seek count
         → (count ≡ s.from) × (s.from < s.position) × (s.repeats ≡ true) × (s.is_at_end ≡ true) }

@@ -33,7 +33,7 @@ played_on now pace longest shows.Live = shows.Live
 played_on now pace longest (shows.After count) = shows.After count
 played_on now pace longest (shows.Still time) = shows.Still time
 
--- on from where it stands still
+-- on from the time at which it stands still
 abbrev pub resumed : Steering → Showing → Showing
 resumed s (shows.Still time) = played_from time s.pace s.longest_pause
 resumed s shows.Live = shows.Live

@@ -53,7 +53,7 @@ fn viewers_go_elsewhere(rt: HostRuntime) -> Result<(), Fail> {
     ] {
         assert!(rt; follows(showing, Order::At(3), after, normal, None)?);
     }
-    // On: from where it stands still.
+    // On: from the time at which it stands still.
     for (showing, after) in [
         (Showing::Live, Showing::Live),
         (Showing::After(7), Showing::After(7)),

@@ -1,4 +1,4 @@
-//! A number that two holders know, and that changes only where both come together.
+//! A number that two holders know, and that changes only if both come together.
 #![tactic(auto)]
 
 mod tally;

@@ -70,8 +70,8 @@ type Numbers = Table<(), Copies, (), Alike, Global>;
 
 type Holder = Seat<(), Copies>;
 
-/// One half of a number, which is kept where the number changes, under a lock mostly. Contracts see
-/// which number it is, by the name of its table, and what it is.
+/// One half of a number, which is kept beside what the number counts, under a lock mostly. Contracts
+/// see which number it is, by the name of its table, and what it is.
 #[derive(Drop)]
 pub struct Tally {
     table: Numbers,

@@ -8,6 +8,10 @@ use Rattle.terms.specs.declared.area.Area.{Area}
 abbrev pub area_at : List ℕ → ℕ → Area
 area_at f i = record { x = u16_at f i; y = u16_at f (i + 2); w = u16_at f (i + 4); h = u16_at f (i + 6) }
 
+-- all pixels of a screen of this width and height
+abbrev pub whole_area : ℕ → ℕ → Area
+whole_area width height = record { x = 0; y = 0; w = width; h = height }
+
 -- x, y, width and height
 abbrev pub area_bytes : Area → List ℕ
 area_bytes a = a.x / 256 ∷ a.x % 256 ∷ a.y / 256 ∷ a.y % 256 ∷ a.w / 256 ∷ a.w % 256 ∷ a.h / 256 ∷ a.h % 256 ∷ []

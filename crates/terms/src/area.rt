@@ -1,7 +1,7 @@
 //! A part of a screen.
 
 ghost use Rattle.std.specs.Prelude.{◌≡◌, ◌+◌, ◌<◌, ◌≤◌, ◌&&◌, ◌||◌, nat_lt, min, max, length, MatchOption};
-ghost use Rattle.terms.specs.Area.{area_at, area_bytes, is_in, HasPixels, HasJustOf, IsSmallest};
+ghost use Rattle.terms.specs.Area.{area_at, area_bytes, whole_area, is_in, HasPixels, HasJustOf, IsSmallest};
 
 use crate::number::{read_u16, two_bytes};
 use crate::screen_size::ScreenSize;
@@ -61,6 +61,18 @@ impl Area {
         (columns, rows)
     }
 
+    /// All of a screen of this size.
+    pub fn whole(size: ScreenSize) -> Area
+        ensures { result ≡ whole_area size.width size.height }
+    {
+        Area {
+            x: 0,
+            y: 0,
+            w: size.width,
+            h: size.height,
+        }
+    }
+
     /// The area whose numbers are in eight bytes of a field, from this offset on: x, y, width and
     /// height, the higher byte of each first.
     pub fn read(field: &[u8], at: usize) -> Area
@@ -106,12 +118,7 @@ impl Area {
     pub fn cut(self, size: ScreenSize) -> Option<Area>
         ensures { HasJustOf (λ x y. is_in self x y && (nat_lt x size.width && nat_lt y size.height)) result }
     {
-        self.common(Area {
-            x: 0,
-            y: 0,
-            w: size.width,
-            h: size.height,
-        })
+        self.common(Area::whole(size))
     }
 
     /// The smallest area that holds it and another.

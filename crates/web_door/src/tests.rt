@@ -4,7 +4,7 @@ use crate::{Judged, Refusal, judge, write_answer};
 use request_head::Fault;
 use std::alloc::{AllocError, Global};
 use std::test::Fail;
-use web_target::{Asked, Beginning};
+use web_target::{Asked, Beginning, Survey};
 
 /// The Sec-WebSocket-Accept of section 1.3.
 const ACCEPT: [u8; 28] = *b"s3pPLMBiTxaQ9kYGzzhZRbK+xOo=";
@@ -106,7 +106,10 @@ fn a_page_is_asked_for(rt: HostRuntime) {
         (b"GET / HTTP/1.0\r\n\r\n", Judged::Asked(Asked::Page)),
         (
             b"GET /times?from=3 HTTP/1.1\r\nHost: 127.0.0.1:80\r\n\r\n",
-            Judged::Asked(Asked::Times(3)),
+            Judged::Asked(Asked::Times(Survey {
+                from: 3,
+                every: None,
+            })),
         ),
         (
             b"GET /chat HTTP/1.0\r\n\r\n",

@@ -14,7 +14,7 @@ pub enum Fault {
     /// It has closed the connection as RFC 6455 has it (section 7.1.4).
     #[error("closed")]
     Closed,
-    /// A frame is unmasked, has a reserved bit or opcode, or is out of place (sections 5.1 to 5.5).
+    /// A frame is unmasked, has a reserved bit or opcode, or is out of turn (sections 5.1 to 5.5).
     #[error("a frame breaks the protocol")]
     Protocol,
     /// A frame, or a message in fragments, is longer than is taken.

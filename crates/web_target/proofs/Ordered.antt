@@ -2,11 +2,10 @@
 use Rattle.std.proofs.Common.{◌≡◌, ◌≢◌, ℕ, ◌^◌, ◌<◌, true, false, List, ◌++◌, Bor, Option, None, Some, refl, sym, ap, ◌∙◌, lit<, slice_index}
 use Rattle.std.specs.Prelude.{codes, MatchOption}
 use Rattle.std.proofs.lemmas.List.{append_cancel_left, append_cancel_right}
-use Rattle.terms.specs.Decimal.{number_of}
 use Rattle.playing.specs.Playing.{IsPace}
 use Rattle.web_target.specs.declared.asked.Order.{Order}
 use Rattle.web_target.specs.declared.asked.Order.TheVariants.{At, After, Pace, LongestPause, Pause, Live}
-use Rattle.web_target.specs.Orders.{IsNumbered, IsCounted, IsOrder}
+use Rattle.web_target.specs.Orders.{json_number, IsNumbered, IsCounted, IsOrder}
 use Rattle.web_target.proofs.Splits.{other_byte}
 
 -- what stands before the brace is the value
@@ -22,16 +21,16 @@ digits_are text front value digits is of =
     append_cancel_right value digits (codes "}") (append_cancel_left front (value ++ codes "}") (digits ++ codes "}") (sym is ∙ of))
 
 -- it has no such number
-no_number : (text front value : List ℕ) (limit number : ℕ) → text ≡ front ++ (value ++ codes "}") → number_of limit value ≡ None → IsNumbered front limit number text → ⊥
+no_number : (text front value : List ℕ) (limit number : ℕ) → text ≡ front ++ (value ++ codes "}") → json_number limit value ≡ None → IsNumbered front limit number text → ⊥
 no_number text front value limit number is none of =
     let same : value ≡ of.0 = digits_are text front value of.0 is of.1 in
-    absurd (cc (sym none ∙ ap (number_of limit) same ∙ of.2))
+    absurd (cc (sym none ∙ ap (json_number limit) same ∙ of.2))
 
 -- texts with another byte at an index are two
 differ : {one other : List ℕ} (i a b : ℕ) → slice_index one i ≡ a → slice_index other i ≡ b → a < b → one ≡ other → ⊥
 differ {one} {other} i a b f s less is = other_byte a b less (sym f ∙ ap (λ (z : List ℕ). slice_index z i) is ∙ s)
 
-pub no_time : (text value : List ℕ) → text ≡ codes "{\"at\":" ++ (value ++ codes "}") → number_of (2 ^ 32) value ≡ None → (order : Order) → IsCounted order text → ⊥
+pub no_time : (text value : List ℕ) → text ≡ codes "{\"at\":" ++ (value ++ codes "}") → json_number (2 ^ 32) value ≡ None → (order : Order) → IsCounted order text → ⊥
 no_time text value is none (At time) of = no_number text (codes "{\"at\":") value (2 ^ 32) time is none of
 no_time text value is none (After count) of = differ 2 97 109 refl refl (lit< tt) (sym is ∙ of.1)
 no_time text value is none (Pace pace) of = differ 2 97 112 refl refl (lit< tt) (sym is ∙ of.0.1)
@@ -40,7 +39,7 @@ no_time text value is none (LongestPause (Some time)) of = differ 2 97 108 refl 
 no_time text value is none (Pause is_paused) of = of
 no_time text value is none Live of = of
 
-pub no_count : (text value : List ℕ) → text ≡ codes "{\"message\":" ++ (value ++ codes "}") → number_of (2 ^ 64) value ≡ None → (order : Order) → IsCounted order text → ⊥
+pub no_count : (text value : List ℕ) → text ≡ codes "{\"message\":" ++ (value ++ codes "}") → json_number (2 ^ 64) value ≡ None → (order : Order) → IsCounted order text → ⊥
 no_count text value is none (At time) of = differ 2 97 109 refl refl (lit< tt) (sym of.1 ∙ is)
 no_count text value is none (After count) of = no_number text (codes "{\"message\":") value (2 ^ 64) count is none of
 no_count text value is none (Pace pace) of = differ 2 109 112 refl refl (lit< tt) (sym is ∙ of.0.1)
@@ -49,18 +48,18 @@ no_count text value is none (LongestPause (Some time)) of = differ 2 108 109 ref
 no_count text value is none (Pause is_paused) of = of
 no_count text value is none Live of = of
 
-pub no_pace : (text value : List ℕ) → text ≡ codes "{\"pace\":" ++ (value ++ codes "}") → ((pace : ℕ) → number_of (2 ^ 32) value ≡ Some pace → IsPace pace → ⊥) → (order : Order) → IsCounted order text → ⊥
+pub no_pace : (text value : List ℕ) → text ≡ codes "{\"pace\":" ++ (value ++ codes "}") → ((pace : ℕ) → json_number (2 ^ 32) value ≡ Some pace → IsPace pace → ⊥) → (order : Order) → IsCounted order text → ⊥
 no_pace text value is none (At time) of = differ 2 97 112 refl refl (lit< tt) (sym of.1 ∙ is)
 no_pace text value is none (After count) of = differ 2 109 112 refl refl (lit< tt) (sym of.1 ∙ is)
 no_pace text value is none (Pace pace) of =
     let same : value ≡ of.0.0 = digits_are text (codes "{\"pace\":") value of.0.0 is of.0.1 in
-    none pace (ap (number_of (2 ^ 32)) same ∙ of.0.2) of.1
+    none pace (ap (json_number (2 ^ 32)) same ∙ of.0.2) of.1
 no_pace text value is none (LongestPause None) of = of
 no_pace text value is none (LongestPause (Some time)) of = differ 2 108 112 refl refl (lit< tt) (sym of.1 ∙ is)
 no_pace text value is none (Pause is_paused) of = of
 no_pace text value is none Live of = of
 
-pub no_longest : (text value : List ℕ) → text ≡ codes "{\"longest-pause\":" ++ (value ++ codes "}") → number_of (2 ^ 32) value ≡ None → (order : Order) → IsCounted order text → ⊥
+pub no_longest : (text value : List ℕ) → text ≡ codes "{\"longest-pause\":" ++ (value ++ codes "}") → json_number (2 ^ 32) value ≡ None → (order : Order) → IsCounted order text → ⊥
 no_longest text value is none (At time) of = differ 2 97 108 refl refl (lit< tt) (sym of.1 ∙ is)
 no_longest text value is none (After count) of = differ 2 108 109 refl refl (lit< tt) (sym is ∙ of.1)
 no_longest text value is none (Pace pace) of = differ 2 108 112 refl refl (lit< tt) (sym is ∙ of.0.1)

@@ -6,11 +6,12 @@ use Rattle.std.specs.List.{list_all}
 use Rattle.std.proofs.lemmas.Bool.{and_parts}
 use Rattle.terms.specs.Decimal.{number_of}
 use Rattle.web_target.specs.declared.asked.Playback.{Playback}
+use Rattle.web_target.specs.declared.asked.Survey.{Survey}
 use Rattle.web_target.specs.declared.asked.Asked.{Asked}
 use Rattle.web_target.specs.declared.asked.Asked.TheVariants.{Page, Painter, Script, Style, Times, Watch}
 use Rattle.web_target.specs.declared.asked.Beginning.{Beginning}
 use Rattle.web_target.specs.declared.asked.Beginning.TheVariants.{Live, After, Played, Still}
-use Rattle.web_target.specs.Targets.{IsDigits, IsBare, IsPauseOf, IsPlayedBy, IsQueryOf, IsTargetOf, Says}
+use Rattle.web_target.specs.Targets.{IsDigits, IsBare, IsPauseOf, IsPlayedBy, IsQueryOf, IsSurveyedBy, IsTargetOf, IsWindowOf, Says}
 
 chosen : (b c : Bool) (value number : ℕ) → (if b && c then Some value else None) ≡ Some number → b ≡ true
 chosen true c value number is = refl
@@ -40,6 +41,16 @@ one_split (d ∷ a) (e ∷ b) x y da db bx by is =
 bare_pause : (longest : Option ℕ) (text : List ℕ) → IsPauseOf longest text → IsBare text
 bare_pause None text is = rw is tt
 bare_pause (Some seconds) text is = rw is.1 (λ digit. absurd (cc digit))
+
+bare_window : (every : Option ℕ) (text : List ℕ) → IsWindowOf every text → IsBare text
+bare_window None text is = rw is tt
+bare_window (Some every) text is = rw is.1.1 (λ digit. absurd (cc digit))
+
+-- the first block of a survey is the digits that it begins with
+pub after_from : (s : Survey) (query from rest : List ℕ) → query ≡ from ++ rest → IsDigits from → IsBare rest
+    → (h : IsSurveyedBy s query) → (from ≡ h.from) × (rest ≡ h.rest)
+after_from s query from rest parts digits bare h =
+    one_split from h.from rest h.rest digits (number_digits (2 ^ 64) s.from h.from h.is_from) bare (bare_window s.every h.rest h.window) (sym parts ∙ h.whole)
 
 -- the time of a query is the digits after its first word
 pub after_time : (p : Playback) (query after time rest : List ℕ) → query ≡ codes "at=" ++ after → after ≡ time ++ rest → IsDigits time → IsBare rest
@@ -78,13 +89,28 @@ no_query query count still played (After n) of = count of.0 of.1
 no_query query count still played (Played playback) of = played playback of
 no_query query count still played (Still time) of = still time of
 
+-- a survey that there isn't
+pub no_survey : (target query : List ℕ) → target ≡ codes "/times?from=" ++ query → ((survey : Survey) → IsSurveyedBy survey query → ⊥) → (asked : Asked) → IsTargetOf asked target → ⊥
+no_survey target query is none Page t = other_byte 0 116 (lit< tt) (ap (λ (z : List ℕ). slice_index z 1) (sym t ∙ is))
+no_survey target query is none Painter t = other_byte 112 116 (lit< tt) (ap (λ (z : List ℕ). slice_index z 1) (sym t ∙ is))
+no_survey target query is none Script t = other_byte 108 116 (lit< tt) (ap (λ (z : List ℕ). slice_index z 1) (sym t ∙ is))
+no_survey target query is none Style t = other_byte 108 116 (lit< tt) (ap (λ (z : List ℕ). slice_index z 1) (sym t ∙ is))
+no_survey target query is none (Times survey) t =
+    let both : codes "/times?from=" ++ query ≡ codes "/times?from=" ++ t.0 = sym is ∙ t.1 in
+    let same : query ≡ t.0 = cc both in
+    none survey (rw same t.2)
+no_survey target query is none (Watch Live) t = other_byte 116 119 (lit< tt) (ap (λ (z : List ℕ). slice_index z 1) (sym is ∙ t))
+no_survey target query is none (Watch (After count)) t = other_byte 116 119 (lit< tt) (ap (λ (z : List ℕ). slice_index z 1) (sym is ∙ t.1))
+no_survey target query is none (Watch (Played playback)) t = other_byte 116 119 (lit< tt) (ap (λ (z : List ℕ). slice_index z 1) (sym is ∙ t.1))
+no_survey target query is none (Watch (Still time)) t = other_byte 116 119 (lit< tt) (ap (λ (z : List ℕ). slice_index z 1) (sym is ∙ t.1))
+
 -- a query that begins nowhere
 pub no_beginning : (target query : List ℕ) → target ≡ codes "/watch?" ++ query → ((beginning : Beginning) → IsQueryOf beginning query → ⊥) → (asked : Asked) → IsTargetOf asked target → ⊥
 no_beginning target query is none Page t = other_byte 0 119 (lit< tt) (ap (λ (z : List ℕ). slice_index z 1) (sym t ∙ is))
 no_beginning target query is none Painter t = other_byte 112 119 (lit< tt) (ap (λ (z : List ℕ). slice_index z 1) (sym t ∙ is))
 no_beginning target query is none Script t = other_byte 108 119 (lit< tt) (ap (λ (z : List ℕ). slice_index z 1) (sym t ∙ is))
 no_beginning target query is none Style t = other_byte 108 119 (lit< tt) (ap (λ (z : List ℕ). slice_index z 1) (sym t ∙ is))
-no_beginning target query is none (Times block) t = other_byte 116 119 (lit< tt) (ap (λ (z : List ℕ). slice_index z 1) (sym t.1 ∙ is))
+no_beginning target query is none (Times survey) t = other_byte 116 119 (lit< tt) (ap (λ (z : List ℕ). slice_index z 1) (sym t.1 ∙ is))
 no_beginning target query is none (Watch Live) t = other_byte 0 63 (lit< tt) (ap (λ (z : List ℕ). slice_index z 6) (sym t ∙ is))
 no_beginning target query is none (Watch (After count)) t =
     let both : codes "/watch?" ++ query ≡ codes "/watch?" ++ t.0 = sym is ∙ t.1 in
@@ -106,7 +132,7 @@ no_target target page painter script style watch times seat Page t = page t
 no_target target page painter script style watch times seat Painter t = painter t
 no_target target page painter script style watch times seat Script t = script t
 no_target target page painter script style watch times seat Style t = style t
-no_target target page painter script style watch times seat (Times block) t = times t.0 t.1
+no_target target page painter script style watch times seat (Times survey) t = times t.0 t.1
 no_target target page painter script style watch times seat (Watch Live) t = watch t
 no_target target page painter script style watch times seat (Watch (After count)) t = seat t.0 t.1
 no_target target page painter script style watch times seat (Watch (Played playback)) t = seat t.0 t.1

@@ -1,14 +1,22 @@
 -- What a viewer asks for by a text: a JSON object of one member (RFC 8259), without white space.
-use Rattle.std.specs.Prelude.{◌≡◌, ℕ, ◌^◌, true, false, List, ◌++◌, codes, None, Some}
+use Rattle.std.specs.Prelude.{◌≡◌, ◌==◌, ◌&&◌, ℕ, ◌^◌, Bool, true, false, nat_lt, List, ◌++◌, codes, length, slice_index, Option, None, Some, if◌then◌else◌}
 use Rattle.terms.specs.Decimal.{number_of}
 use Rattle.playing.specs.Playing.{IsPace}
 use Rattle.web_target.specs.declared.asked.Order.{Order}
 use Rattle.web_target.specs.declared.asked.Order.TheVariants.{At, After, Pace, LongestPause, Pause, Live}
 
+-- a zero stands before further digits
+abbrev pub leads_with_zero : List ℕ → Bool
+leads_with_zero digits = nat_lt 1 (length digits) && (slice_index digits 0 == 48)
+
+-- the number below a limit that bytes write in JSON: natural, without a zero before it (section 6)
+abbrev pub json_number : ℕ → List ℕ → Option ℕ
+json_number limit digits = if leads_with_zero digits then None else number_of limit digits
+
 -- an object whose member's value is this number, which is below a limit
 abbrev pub IsNumbered : List ℕ → ℕ → ℕ → List ℕ → Type 0
 IsNumbered front limit number text =
-    (digits : List ℕ) × (text ≡ front ++ (digits ++ codes "}")) × (number_of limit digits ≡ Some number)
+    (digits : List ℕ) × (text ≡ front ++ (digits ++ codes "}")) × (json_number limit digits ≡ Some number)
 
 -- an order that has a number
 abbrev pub IsCounted : Order → List ℕ → Type 0

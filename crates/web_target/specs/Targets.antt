@@ -1,5 +1,5 @@
 -- What the target of a browser's request asks for.
-use Rattle.std.specs.Prelude.{◌≡◌, ℕ, ◌^◌, true, List, [], ◌∷◌, ◌++◌, codes, Option, None, Some}
+use Rattle.std.specs.Prelude.{◌≡◌, ◌<◌, ℕ, ◌^◌, true, List, [], ◌∷◌, ◌++◌, codes, Option, None, Some}
 use Rattle.std.specs.Char.{is_ascii_digit}
 use Rattle.std.specs.List.{list_all}
 use Rattle.terms.specs.Decimal.{number_of}
@@ -9,6 +9,7 @@ use Rattle.web_target.specs.declared.asked.Asked.TheVariants.{Page, Painter, Scr
 use Rattle.web_target.specs.declared.asked.Beginning.{Beginning}
 use Rattle.web_target.specs.declared.asked.Beginning.TheVariants.{Live, After, Played, Still}
 use Rattle.web_target.specs.declared.asked.Playback.{Playback}
+use Rattle.web_target.specs.declared.asked.Survey.{Survey}
 
 -- each byte is a digit
 abbrev pub IsDigits : List ℕ → Type 0
@@ -39,6 +40,19 @@ pub record IsPlayedBy (playback : Playback) (query : List ℕ) : Type 0 where
   pub in_range : IsPace playback.pace
   pub longest : IsPauseOf playback.longest_pause rest
 
+-- the end of a query has this window, or nothing
+abbrev pub IsWindowOf : Option ℕ → List ℕ → Type 0
+IsWindowOf None text = text ≡ []
+IsWindowOf (Some every) text = (0 < every) × Says (codes "&every=") (2 ^ 32) every text
+
+-- the parts of what follows on `from=`, if that asks what came when
+pub record IsSurveyedBy (survey : Survey) (query : List ℕ) : Type 0 where
+  pub from : List ℕ
+  pub rest : List ℕ
+  pub whole : query ≡ from ++ rest
+  pub is_from : number_of (2 ^ 64) from ≡ Some survey.from
+  pub window : IsWindowOf survey.every rest
+
 -- the query of a `/watch` asks for this
 abbrev pub IsQueryOf : Beginning → List ℕ → Type 0
 IsQueryOf Live query = ⊥
@@ -59,5 +73,5 @@ IsTargetOf Page target = target ≡ codes "/"
 IsTargetOf Painter target = target ≡ codes "/painter.js"
 IsTargetOf Script target = target ≡ codes "/live.js"
 IsTargetOf Style target = target ≡ codes "/live.css"
-IsTargetOf (Times block) target = Says (codes "/times?from=") (2 ^ 64) block target
+IsTargetOf (Times survey) target = (query : List ℕ) × (target ≡ codes "/times?from=" ++ query) × IsSurveyedBy survey query
 IsTargetOf (Watch beginning) target = IsBeginningOf beginning target

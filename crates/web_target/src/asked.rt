@@ -22,8 +22,18 @@ pub enum Beginning {
     After(u64),
     /// At a moment, and in the recording's own time.
     Played(Playback),
-    /// At this time, in milliseconds, where it stands still.
+    /// Still, at this time, in milliseconds.
     Still(u32),
+}
+
+/// Of which blocks is told what came when.
+#[derive(Clone, Copy, Debug, PartialEq, Eq)]
+pub struct Survey {
+    /// The number of the first one.
+    pub from: u64,
+    /// Those whose times lie in the same window of so many milliseconds of the recording are told
+    /// together. `None` if each is told by itself.
+    pub every: Option<u32>,
 }
 
 /// What is asked for by a request's target.
@@ -37,8 +47,8 @@ pub enum Asked {
     Script,
     /// `/live.css`, its style.
     Style,
-    /// `/times?from=BLOCK`: what came when, from a block on.
-    Times(u64),
+    /// `/times?from=BLOCK`, or `/times?from=BLOCK&every=TIME`: what came when, from a block on.
+    Times(Survey),
     /// `/watch`, `/watch?message=COUNT`, `/watch?at=TIME`, or `/watch?at=TIME&pace=PACE`, which may
     /// end in `&longest-pause=TIME`: a viewer's connection, over a WebSocket. Times are in
     /// milliseconds, a pace is in thousandths.

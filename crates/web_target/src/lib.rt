@@ -6,7 +6,7 @@ mod order;
 mod target;
 mod words;
 
-pub use asked::{Asked, Beginning, Order, Playback};
+pub use asked::{Asked, Beginning, Order, Playback, Survey};
 pub use order::order_of;
 pub use target::asked_by;
 

@@ -5,9 +5,8 @@ ghost use Rattle.web_target.specs.declared.asked.Order.{Order as OrderValue};
 ghost use Rattle.web_target.specs.Orders.{IsCounted, IsOrder};
 
 use crate::asked::Order;
-use crate::words::{following, small_number};
+use crate::words::{following, json_number, small_json_number};
 use playing::Pace;
-use terms::decimal_number;
 
 // What stands after a front and before the brace that ends a text.
 fn value_of<'a>(text: &'a [u8], front: &[u8]) -> Option<&'a [u8]>
@@ -22,16 +21,16 @@ fn numbered(text: &[u8]) -> Option<Order>
     ensures { MatchOption result ((order : OrderValue) → IsCounted order text.now → ⊥) (λ order. IsCounted order text.now) }
 {
     if let Some(digits) = value_of(text, b"{\"at\":") {
-        return Some(Order::At(small_number(digits)?));
+        return Some(Order::At(small_json_number(digits)?));
     }
     if let Some(digits) = value_of(text, b"{\"message\":") {
-        return Some(Order::After(decimal_number(digits)?));
+        return Some(Order::After(json_number(digits)?));
     }
     if let Some(digits) = value_of(text, b"{\"pace\":") {
-        return Some(Order::Pace(Pace::from_thousandths(small_number(digits)?)?));
+        return Some(Order::Pace(Pace::from_thousandths(small_json_number(digits)?)?));
     }
     let digits = value_of(text, b"{\"longest-pause\":")?;
-    Some(Order::LongestPause(Some(small_number(digits)?)))
+    Some(Order::LongestPause(Some(small_json_number(digits)?)))
 }
 
 /// What a viewer's text asks for; `None` if there is no such thing.

@@ -4,9 +4,10 @@ ghost use Rattle.std.specs.Prelude.{◌≡◌, ◌^◌, ℕ, MatchOption, Some, 
 ghost use Rattle.web_target.specs.declared.asked.Asked.{Asked as AskedValue};
 ghost use Rattle.web_target.specs.declared.asked.Beginning.{Beginning as BeginningValue};
 ghost use Rattle.web_target.specs.declared.asked.Playback.{Playback as PlaybackValue};
-ghost use Rattle.web_target.specs.Targets.{IsPauseOf, IsPlayedBy, IsQueryOf, IsTargetOf, Says};
+ghost use Rattle.web_target.specs.declared.asked.Survey.{Survey as SurveyValue};
+ghost use Rattle.web_target.specs.Targets.{IsPauseOf, IsPlayedBy, IsQueryOf, IsSurveyedBy, IsTargetOf, IsWindowOf, Says};
 
-use crate::asked::{Asked, Beginning, Playback};
+use crate::asked::{Asked, Beginning, Playback, Survey};
 use crate::words::{digits_first, following, small_number};
 use playing::Pace;
 use terms::decimal_number;
@@ -55,6 +56,31 @@ fn beginning(query: &[u8]) -> Option<Beginning>
     Some(Beginning::Played(playback(query)?))
 }
 
+// The window that the end of a query has.
+fn window(text: &[u8]) -> Option<Option<u32>>
+    ensures { MatchOption result ((every : _) → IsWindowOf every text.now → ⊥) (λ every. IsWindowOf every text.now) }
+{
+    if text.is_empty() {
+        return Some(None);
+    }
+    let every = small_number(following(text, b"&every=")?)?;
+    if every == 0 {
+        return None;
+    }
+    Some(Some(every))
+}
+
+// The survey that the rest of a target asks for.
+fn survey(query: &[u8]) -> Option<Survey>
+    ensures { MatchOption result ((survey : SurveyValue) → IsSurveyedBy survey query.now → ⊥) (λ survey. IsSurveyedBy survey query.now) }
+{
+    let (from, rest) = digits_first(query);
+    Some(Survey {
+        from: decimal_number(from)?,
+        every: window(rest)?,
+    })
+}
+
 /// What a request's target asks for (RFC 9112, section 3.2.1); `None` if there is no such thing.
 #[tactic(auto, using(crate::proofs::Splits::no_target))]
 pub fn asked_by(target: &[u8]) -> Option<Asked>
@@ -75,8 +101,8 @@ pub fn asked_by(target: &[u8]) -> Option<Asked>
     if target == b"/watch".as_slice() {
         return Some(Asked::Watch(Beginning::Live));
     }
-    if let Some(block) = following(target, b"/times?from=") {
-        return Some(Asked::Times(decimal_number(block)?));
+    if let Some(query) = following(target, b"/times?from=") {
+        return Some(Asked::Times(survey(query)?));
     }
     let query = following(target, b"/watch?")?;
     Some(Asked::Watch(beginning(query)?))

@@ -1,11 +1,11 @@
 //! Targets and texts, right and almost right.
 
-use crate::{Asked, Beginning, Order, Playback, asked_by, order_of};
+use crate::{Asked, Beginning, Order, Playback, Survey, asked_by, order_of};
 use playing::Pace;
 use std::test::Fail;
 
 /// Targets that ask for nothing.
-const NO_TARGETS: [&[u8]; 33] = [
+const NO_TARGETS: [&[u8]; 41] = [
     b"",
     b"//",
     b"/?",
@@ -20,6 +20,14 @@ const NO_TARGETS: [&[u8]; 33] = [
     b"/times?from=-1",
     b"/times?from=3&",
     b"/times?from=18446744073709551616",
+    b"/times?every=1000",
+    b"/times?from=&every=1000",
+    b"/times?from=3&every=",
+    b"/times?from=3&every=0",
+    b"/times?from=3&every=4294967296",
+    b"/times?from=3&every=1.5",
+    b"/times?from=3&every=1000&",
+    b"/times?every=1000&from=3",
     b"/watch/",
     b"/watch?",
     b"/watch?at",
@@ -43,7 +51,7 @@ const NO_TARGETS: [&[u8]; 33] = [
 ];
 
 /// Texts that give no order.
-const NO_ORDERS: [&[u8]; 30] = [
+const NO_ORDERS: [&[u8]; 35] = [
     b"",
     b"{}",
     b"null",
@@ -61,6 +69,11 @@ const NO_ORDERS: [&[u8]; 30] = [
     b"{\"at\":+1}",
     b"{\"at\":1.0}",
     b"{\"at\":1e3}",
+    b"{\"at\":01}",
+    b"{\"at\":00}",
+    b"{\"message\":007}",
+    b"{\"pace\":0100}",
+    b"{\"longest-pause\":00}",
     // Section 3: other values, and other words than the three.
     b"{\"at\":\"0\"}",
     b"{\"at\":null}",
@@ -80,6 +93,11 @@ const NO_ORDERS: [&[u8]; 30] = [
     b"{\"at\": 0}",
 ];
 
+// What came when, from this block on, in windows of so many milliseconds.
+fn surveyed(from: u64, every: Option<u32>) -> Asked {
+    Asked::Times(Survey { from, every })
+}
+
 // The recording from this time on, at a pace that there is.
 fn played(time: u32, thousandths: u32, longest_pause: Option<u32>) -> Result<Asked, Fail> {
     let pace = Pace::from_thousandths(thousandths).ok_or("pace")?;
@@ -93,13 +111,22 @@ fn played(time: u32, thousandths: u32, longest_pause: Option<u32>) -> Result<Ask
 
 #[test]
 fn targets_ask(rt: HostRuntime) -> Result<(), Fail> {
-    let right: [(&[u8], Asked); 15] = [
+    let right: [(&[u8], Asked); 18] = [
         (b"/", Asked::Page),
         (b"/painter.js", Asked::Painter),
         (b"/live.js", Asked::Script),
         (b"/live.css", Asked::Style),
-        (b"/times?from=3", Asked::Times(3)),
-        (b"/times?from=18446744073709551615", Asked::Times(u64::MAX)),
+        (b"/times?from=3", surveyed(3, None)),
+        (
+            b"/times?from=18446744073709551615",
+            surveyed(u64::MAX, None),
+        ),
+        (b"/times?from=3&every=1", surveyed(3, Some(1))),
+        (b"/times?from=0&every=0086", surveyed(0, Some(86))),
+        (
+            b"/times?from=18446744073709551615&every=4294967295",
+            surveyed(u64::MAX, Some(u32::MAX)),
+        ),
         (b"/watch", Asked::Watch(Beginning::Live)),
         (b"/watch?message=0", Asked::Watch(Beginning::After(0))),
         (
@@ -139,13 +166,14 @@ fn other_targets_ask_for_nothing(rt: HostRuntime) {
 #[test]
 fn texts_give_orders(rt: HostRuntime) -> Result<(), Fail> {
     let slow = Pace::from_thousandths(100).ok_or("pace")?;
-    let right: [(&[u8], Order); 10] = [
+    let right: [(&[u8], Order); 11] = [
         (b"{\"at\":0}", Order::At(0)),
         (b"{\"at\":4294967295}", Order::At(u32::MAX)),
         (
             b"{\"message\":18446744073709551615}",
             Order::After(u64::MAX),
         ),
+        (b"{\"message\":10}", Order::After(10)),
         (b"{\"pace\":100}", Order::Pace(slow)),
         (b"{\"longest-pause\":0}", Order::LongestPause(Some(0))),
         (

@@ -3,6 +3,7 @@
 ghost use Rattle.std.specs.Prelude.{◌≡◌, ◌≢◌, ◌++◌, ◌^◌, ℕ, List, MatchOption};
 ghost use Rattle.std.specs.Char.{is_ascii_digit};
 ghost use Rattle.terms.specs.Decimal.{number_of};
+ghost use Rattle.web_target.specs.Orders.{json_number, leads_with_zero};
 ghost use Rattle.web_target.specs.Targets.{IsBare, IsDigits};
 
 use terms::decimal_number;
@@ -33,4 +34,31 @@ pub fn small_number(digits: &[u8]) -> Option<u32>
     ensures { result ≡ number_of (2 ^ 32) digits.now }
 {
     u32::try_from(decimal_number(digits)?).ok()
+}
+
+// Whether there is a zero before further digits.
+fn leads_with_zero(digits: &[u8]) -> bool
+    ensures { result ≡ leads_with_zero digits.now }
+{
+    digits.len() > 1 && digits[0] == b'0'
+}
+
+/// A number in JSON (RFC 8259, section 6).
+pub fn json_number(digits: &[u8]) -> Option<u64>
+    ensures { result ≡ json_number (2 ^ 64) digits.now }
+{
+    if leads_with_zero(digits) {
+        return None;
+    }
+    decimal_number(digits)
+}
+
+/// A number in JSON, of 32 bits.
+pub fn small_json_number(digits: &[u8]) -> Option<u32>
+    ensures { result ≡ json_number (2 ^ 32) digits.now }
+{
+    if leads_with_zero(digits) {
+        return None;
+    }
+    small_number(digits)
 }

@@ -141,7 +141,7 @@ fn tell_all(
     talk.tell(account)?;
     for cut in 0..=bytes.len().min(100) {
         if !is_cut_alike(account.alloc, awaited, bytes.split_at(cut), talk)? {
-            return account.tell_at(cut, "is where it may not be cut");
+            return account.tell_at(cut, "bytes after which it may not be cut");
         }
     }
     Ok(())

@@ -31,12 +31,7 @@ fn colors_of(alloc: Global, screen: &Screen, area: Area) -> Result<Vec<Color>, N
 // An update of all of a screen, in the host's format.
 fn written(alloc: Global, screen: &Screen, encoding: Encoding) -> Result<Vec<u8>, NoMemory> {
     let size = screen.size();
-    let area = Area {
-        x: 0,
-        y: 0,
-        w: size.width,
-        h: size.height,
-    };
+    let area = Area::whole(size);
     let colors = colors_of(alloc, screen, area)?;
     let mut out = Vec::new(alloc);
     write_update(

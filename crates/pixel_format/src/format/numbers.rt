@@ -1,13 +1,13 @@
 //! Pixels as numbers: equal numbers are equal pixels.
 
-ghost use Rattle.std.specs.Prelude.{◌≡◌, ℕ, ◌+◌, ◌*◌, ◌^◌, ◌<◌, ◌≤◌, ◌++◌, All, IfOk, OnOk, length, map};
+ghost use Rattle.std.specs.Prelude.{◌≡◌, ◌+◌, ◌*◌, ◌^◌, ◌<◌, ◌≤◌, ◌++◌, All, IfOk, OnOk, length, map};
 ghost use Rattle.std.specs.List.{flat_map};
 ghost use Rattle.pixel_format.specs.Format.{pixel_bytes};
 ghost use Rattle.pixel_format.specs.Pixel.{pixel_color, color_number, IsWithin, IsPixel, ArePixels, pixel_of};
 ghost use Rattle.pixel_format.specs.Number.{number_color, IsNumber};
 ghost use Rattle.terms.specs.Appending.{Appends, Grows};
 
-use super::{Channel, PixelFormat, value_of};
+use super::{Channel, PixelFormat, shift_of, shifted, value_of};
 use crate::Color;
 use std::alloc::Global;
 use terms::NoMemory;
@@ -133,29 +133,6 @@ impl PixelFormat {
         }
         Ok(())
     }
-}
-
-// How far a channel's values are shifted in a pixel's number: 0 for a channel of maximum 0, whose
-// shift may lie beyond the number. It is the same for all pixels, so a loop over them finds it once.
-#[inline(always)]
-fn shift_of(channel: Channel) -> u32
-    ensures below { (bits : ℕ) → 0 < bits → channel.max * 2 ^ channel.shift < 2 ^ bits → result < bits }
-    ensures some { 0 < channel.max → result ≡ channel.shift }
-{
-    if channel.max == 0 {
-        return 0;
-    }
-    channel.shift as u32
-}
-
-// A value of a channel, at its shift in a pixel's number.
-#[inline(always)]
-fn shifted(channel: Channel, value: u16) -> u32
-    requires within { value ≤ channel.max }
-    requires fits { channel.max * 2 ^ channel.shift < 2 ^ 32 }
-    ensures { result ≡ value * 2 ^ channel.shift }
-{
-    (value as u32) << shift_of(channel)
 }
 
 // A value of a channel, at its shift in a pixel's number of 16 bits.

@@ -38,6 +38,7 @@ macro_rules! recorded {
 }
 
 mod browsers;
+mod browsing;
 mod ends;
 mod hosts;
 mod peers;

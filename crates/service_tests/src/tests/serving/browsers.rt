@@ -16,7 +16,7 @@ use std::net::{Net, TcpListener, TcpStream};
 use std::test::Fail;
 
 /// A recording of one pixel with two messages: red after 3 seconds, and green after 25 minutes.
-const RECORDING: [u8; 83] =
+pub const RECORDING: [u8; 83] =
     *b"ORFBREC1\0\x01\0\x01\0\x04\0\x01xO\0\0\0\x3a\0\x02\0\0\0\x0b\xb8\0\0\0\x14\0\0\0\x01\0\0\0\0\0\x01\0\x01\0\0\0\0\0\0\xff\0\0\0\x16\xe3\x60\0\0\0\x14\0\0\0\x01\0\0\0\0\0\x01\0\x01\0\0\0\0\0\xff\0\0C";
 
 /// What the page is told of it.
@@ -40,7 +40,7 @@ const UPGRADED: &[u8] =
 const MASK: [u8; 4] = *b"\x37\xfa\x21\x3d";
 
 /// The first bytes of whole frames: a text, a binary message and a close.
-const TEXT: u8 = 0x81;
+pub const TEXT: u8 = 0x81;
 
 const BINARY: u8 = 0x82;
 
@@ -101,18 +101,25 @@ fn all_is_given(rt: &HostRuntime, endpoint: Endpoint) -> Result<(), Fail> {
 
 // What is asked for in vain.
 fn others_are_refused(rt: &HostRuntime, endpoint: Endpoint) -> Result<(), Fail> {
-    let answers: [(&[u8], &str); 3] = [
+    let answers: [(&[u8], &str); 7] = [
         (
             b"GET / HTTP/1.1\r\nHost: example.com\r\n\r\n",
             "403 Forbidden",
         ),
         (FOREIGN, "403 Forbidden"),
         (b"GET /watch HTTP/1.0\r\n\r\n", "426 Upgrade Required"),
+        (b"GET /../r HTTP/1.0\r\n\r\n", "404 Not Found"),
+        (b"POST / HTTP/1.0\r\n\r\n", "405 Method Not Allowed"),
+        (b"RFB 003.008\n", "400 Bad Request"),
+        (b"GET / HTTP/1.1\r\n\r\n", "400 Bad Request"),
     ];
     for (request, front) in answers {
         is_answered(rt, endpoint, request, front, b"\n")?;
     }
-    Ok(())
+    let mut long = b"GET /".to_vec(rt.alloc())?;
+    long.resize(9000, b'a')?;
+    let front = "431 Request Header Fields Too Large";
+    is_answered(rt, endpoint, &long, front, b"\n")
 }
 
 // The length of a frame of fewer than 126 bytes.
@@ -123,8 +130,8 @@ fn length_of(payload: &[u8]) -> Result<u8, Fail> {
     }
 }
 
-// Says a message of fewer than 126 bytes, masked.
-fn say(browser: &Peer, alloc: Global, first: u8, payload: &[u8]) -> Result<(), Fail> {
+/// Says a message of fewer than 126 bytes, masked.
+pub fn say(browser: &Peer, alloc: Global, first: u8, payload: &[u8]) -> Result<(), Fail> {
     let length = length_of(payload)?;
     let mut frame = Vec::new(alloc);
     frame.extend_from_slice(&[first, 0x80 | length])?;
@@ -143,36 +150,48 @@ fn hear(browser: &Peer, alloc: Global, first: u8, payload: &[u8]) -> Result<(), 
     browser.hear(alloc, payload)
 }
 
-// Hears how the session stands, and then an update, which is this one: what was told last. It may be
-// told more than once.
-fn hear_update(browser: &Peer, alloc: Global, update: &[u8]) -> Result<Vec<u8>, Fail> {
+/// What a viewer hears.
+#[derive(Drop)]
+pub struct Heard {
+    /// How the session stands, as it was told last before the update.
+    pub told: Vec<u8>,
+    pub update: Vec<u8>,
+}
+
+/// Says these, asks for an update, and hears it. How the session stands may be told more than once.
+pub fn asked(browser: &Peer, alloc: Global, order: &[u8], request: &[u8]) -> Result<Heard, Fail> {
+    if !order.is_empty() {
+        say(browser, alloc, TEXT, order)?;
+    }
+    say(browser, alloc, BINARY, request)?;
     let mut told = Vec::new(alloc);
     for _ in 0..100 {
         let (first, payload) = browser.frame(alloc)?;
-        if first != BINARY {
-            told = payload;
-        } else if payload.as_slice() == update {
-            return Ok(told);
-        } else {
-            return Err("another update".into());
+        if first == BINARY {
+            return Ok(Heard {
+                told,
+                update: payload,
+            });
         }
+        told = payload;
     }
     Err("no update".into())
 }
 
-// Says these, asks for an update, and hears it: what was told before it.
-fn shown(
+/// Says these, asks for an update, and hears that it is this one: what was told before it.
+pub fn shown(
     browser: &Peer,
     alloc: Global,
     order: &[u8],
     request: &[u8],
     update: &[u8],
 ) -> Result<Vec<u8>, Fail> {
-    if !order.is_empty() {
-        say(browser, alloc, TEXT, order)?;
+    let heard = asked(browser, alloc, order, request)?;
+    if heard.update.as_slice() == update {
+        Ok(heard.told)
+    } else {
+        Err("another update".into())
     }
-    say(browser, alloc, BINARY, request)?;
-    hear_update(browser, alloc, update)
 }
 
 // A connection for this target, whose upgrade is answered, and the version of RFB heard.
@@ -188,8 +207,8 @@ fn upgraded(rt: &HostRuntime, endpoint: Endpoint, target: &[u8]) -> Result<Peer,
     Ok(browser)
 }
 
-// A viewer after its handshake, in frames.
-fn viewer(rt: &HostRuntime, endpoint: Endpoint, target: &[u8]) -> Result<Peer, Fail> {
+/// A viewer after its handshake, in frames.
+pub fn viewer(rt: &HostRuntime, endpoint: Endpoint, target: &[u8]) -> Result<Peer, Fail> {
     let alloc = rt.alloc();
     let browser = upgraded(rt, endpoint, target)?;
     hear(&browser, alloc, BINARY, &[1, 1])?;
@@ -203,12 +222,21 @@ fn viewer(rt: &HostRuntime, endpoint: Endpoint, target: &[u8]) -> Result<Peer, F
     Ok(browser)
 }
 
-// Hears why the connection ends, by this code, and that it does.
-fn is_closed(browser: &Peer, alloc: Global, code: u16, reason: &[u8]) -> Result<(), Fail> {
-    let mut payload = Vec::from_slice(alloc, &code.to_be_bytes())?;
-    payload.extend_from_slice(reason)?;
-    hear(browser, alloc, CLOSE, &payload)?;
-    browser.ends()
+/// Hears why the connection ends, by this code, and that it does. How the session stands may be told
+/// before.
+pub fn is_closed(browser: &Peer, alloc: Global, code: u16, reason: &[u8]) -> Result<(), Fail> {
+    let mut expected = Vec::from_slice(alloc, &code.to_be_bytes())?;
+    expected.extend_from_slice(reason)?;
+    for _ in 0..100 {
+        let (first, payload) = browser.frame(alloc)?;
+        if first == CLOSE && payload.as_slice() == expected.as_slice() {
+            return browser.ends();
+        }
+        if first != TEXT {
+            break;
+        }
+    }
+    Err("another end".into())
 }
 
 // One that begins after more messages than there are.
@@ -222,8 +250,8 @@ fn too_far(rt: &HostRuntime, endpoint: Endpoint) -> Result<(), Fail> {
     is_closed(&browser, alloc, 4004, reason)
 }
 
-// Whether what is told says this of the screen, the orders that it obeys among it.
-fn stands(told: &[u8], message: &str, orders: &str) -> bool {
+/// Whether what is told says this of the screen, the orders that it obeys among it.
+pub fn stands(told: &[u8], message: &str, orders: &str) -> bool {
     match str::from_utf8(told) {
         Ok(told) => told.starts_with(message) && told.contains(orders),
         Err(_) => false,
@@ -252,8 +280,8 @@ fn gives_orders(rt: &HostRuntime, endpoint: Endpoint) -> Result<(), Fail> {
     is_closed(&browser, alloc, 1008, b"there is no such thing to ask for")
 }
 
-// A recording that browsers look at.
-fn is_looked_at(rt: &HostRuntime, endpoint: Endpoint) -> Result<(), Fail> {
+/// A recording that browsers look at.
+pub fn is_looked_at(rt: &HostRuntime, endpoint: Endpoint) -> Result<(), Fail> {
     all_is_given(rt, endpoint)?;
     others_are_refused(rt, endpoint)?;
     too_far(rt, endpoint)?;

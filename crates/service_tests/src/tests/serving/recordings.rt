@@ -109,7 +109,7 @@ fn sees_the_beginning(rt: &HostRuntime, endpoint: Endpoint, file: &str) -> Resul
 }
 
 #[test]
-fn a_viewer_is_closed_where_a_read_fails(rt: HostRuntime) -> Result<(), Fail> {
+fn a_viewer_is_closed_if_a_read_fails(rt: HostRuntime) -> Result<(), Fail> {
     let rt = &rt;
     let file = "lost";
     fs::write(rt, file, RECORDING.as_slice())?;

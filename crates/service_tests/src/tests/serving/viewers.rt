@@ -145,7 +145,7 @@ fn the_file_is_cut_off(rt: &HostRuntime, ends: Loopback, file: &str) -> Result<(
 }
 
 #[test]
-fn a_viewer_goes_on_where_a_read_fails(rt: HostRuntime) -> Result<(), Fail> {
+fn a_viewer_goes_on_if_a_read_fails(rt: HostRuntime) -> Result<(), Fail> {
     let rt = &rt;
     let file = "cut";
     let said = recorded!(

@@ -1,3 +1,0 @@
-mod Queries
-mod Once
-mod Stays
