@@ -8,6 +8,7 @@ use crate::reader::ServerReader;
 use rect_data::Encoding;
 use std::alloc::Global;
 use std::marker::Model;
+use std::sync::Arc;
 use terms::{Area, Format, NoMemory, RecordedScreen, ScreenSize, WireFault};
 
 /// A rectangle of an update: its area of the screen, and the offsets in the message's bytes at
@@ -20,23 +21,30 @@ pub struct Rectangle {
     pub end: usize,
 }
 
-/// One recorded message of a host, valid in the host format for a screen of its size: its bytes as
-/// they came and, for an update, the offsets of its rectangles in them.
+// What a message and its copies own in common. It never changes.
 #[derive(Drop)]
-pub struct HostMessage {
-    screen: RecordedScreen,
+struct Content {
     bytes: Vec<u8>,
     rectangles: Vec<Rectangle>,
 }
 
+/// One recorded message of a host, valid in the host format for a screen of its size: its bytes as
+/// they came and, for an update, the offsets of its rectangles in them. Its copies share them.
+#[derive(Drop)]
+pub struct HostMessage {
+    screen: RecordedScreen,
+    content: Arc<Content>,
+}
+
 impl Model for HostMessage {
+    ghost use Rattle.std.specs.Arc.{arc_value};
     ghost use Rattle.rfb_wire.specs.Host.{Host, IsRecorded};
 
     ghost Value = { Host };
 
     ghost view = { λ m. record {
-      bytes = m.bytes.items;
-      rectangles = m.rectangles.items;
+      bytes = (arc_value m.content).bytes.items;
+      rectangles = (arc_value m.content).rectangles.items;
       format = m.screen.format;
       width = m.screen.size.width;
       height = m.screen.size.height;
@@ -46,8 +54,8 @@ impl Model for HostMessage {
       format = m.screen.format;
       width = m.screen.size.width;
       height = m.screen.size.height;
-      bytes = m.bytes.items;
-      rectangles = m.rectangles.items;
+      bytes = (arc_value m.content).bytes.items;
+      rectangles = (arc_value m.content).rectangles.items;
     }) };
 }
 
@@ -58,20 +66,18 @@ impl HostMessage {
     ghost use Rattle.rfb_wire.specs.Message.{IsUpdate};
     ghost use Rattle.rfb_wire.specs.Whole.{IsReadBack};
 
-    // The message whose parts these are.
+    // The message whose parts these are. It takes memory for the count of its owners.
     pub(crate) fn from_parts(
+        alloc: Global,
         screen: RecordedScreen,
         bytes: Vec<u8>,
         rectangles: Vec<Rectangle>,
-    ) -> HostMessage
+    ) -> Result<HostMessage, NoMemory>
         requires { IsRecorded (host_of screen.format screen.size.width screen.size.height bytes.items rectangles.items) }
-        ensures { result ≡ host_of screen.format screen.size.width screen.size.height bytes.items rectangles.items }
+        ensures { IfOk result (λ m. m ≡ host_of screen.format screen.size.width screen.size.height bytes.items rectangles.items) }
     {
-        HostMessage {
-            screen,
-            bytes,
-            rectangles,
-        }
+        let content = Arc::new(alloc, Content { bytes, rectangles })?;
+        Ok(HostMessage { screen, content })
     }
 
     /// The message that is all of the bytes, for a screen of this size that is recorded in
@@ -120,7 +126,7 @@ impl HostMessage {
     pub fn bytes(&self) -> &[u8]
         ensures value { result.now ≡ self.now.bytes }
     {
-        &self.bytes
+        &self.content.bytes
     }
 
     /// The size of the screen that the message is for.
@@ -143,7 +149,7 @@ impl HostMessage {
         ensures update { IsTrue result
             ↔ IsUpdate self.now.width self.now.height self.now.bytes self.now.rectangles }
     {
-        match self.bytes.as_slice() {
+        match self.content.bytes.as_slice() {
             [kind, ..] => *kind == HostMessageType::FramebufferUpdate as u8,
             [] => false,
         }
@@ -157,7 +163,7 @@ impl HostMessage {
         ensures parts { IsTrue result ↔ ((self.now.format ≡ other.now.format) × (self.now.width ≡ other.now.width)
             × (self.now.height ≡ other.now.height) × (self.now.bytes ≡ other.now.bytes)) }
     {
-        self.screen == other.screen && self.bytes == other.bytes
+        self.screen == other.screen && self.content.bytes == other.content.bytes
     }
 
     /// Does nothing: its contract is what the type keeps.
@@ -176,19 +182,18 @@ impl HostMessage {
         ensures recorded { IsRecorded self.now }
         ensures placed { All (IsPlaced self.now) self.now.rectangles }
     {
-        &self.rectangles
+        &self.content.rectangles
     }
 
-    /// The same message again.
-    pub fn copy(&self, alloc: Global) -> Result<HostMessage, NoMemory>
+    /// The same message again, which shares the bytes and rectangles of this one. It takes no
+    /// memory, and is refused only if their owners can't be counted any more.
+    pub fn copy(&self, _alloc: Global) -> Result<HostMessage, NoMemory>
         ensures { IfOk result (λ m. m ≡ self.now) }
     {
-        let bytes = Vec::from_slice(alloc, self.bytes())?;
-        let rectangles = Vec::from_slice(alloc, self.rectangles())?;
+        let content = Arc::try_clone(&self.content)?;
         Ok(HostMessage {
             screen: self.screen,
-            bytes,
-            rectangles,
+            content,
         })
     }
 }

@@ -304,7 +304,8 @@ impl PartialMessage {
             end: _,
             over: _,
         } = whole;
-        out.push(HostMessage::from_parts(screen, bytes, rectangles))?;
+        let message = HostMessage::from_parts(alloc, screen, bytes, rectangles)?;
+        out.push(message)?;
         Ok(())
     }
 

@@ -140,7 +140,7 @@ fn update_message(
         return Ok(None);
     };
     let whole = Vec::from_slice(alloc, &front[..front.len() - rest.len()])?;
-    let message = HostMessage::from_parts(screen, whole, rectangles);
+    let message = HostMessage::from_parts(alloc, screen, whole, rectangles)?;
     Ok(Some(Front::Recorded(message)))
 }
 
@@ -167,7 +167,7 @@ fn other_message(
         return Ok(Some(Front::ReadOver(length)));
     }
     let whole = Vec::from_slice(alloc, &bytes[..length])?;
-    let message = HostMessage::from_parts(screen, whole, Vec::new(alloc));
+    let message = HostMessage::from_parts(alloc, screen, whole, Vec::new(alloc))?;
     Ok(Some(Front::Recorded(message)))
 }
 

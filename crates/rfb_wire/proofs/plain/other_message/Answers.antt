@@ -35,8 +35,8 @@ returns-then-not-recorded c =
       reads = is ∙ over ∙ ap (λ z. Got ReadOver z) (sym front.1);
     }
 
-pub from_parts-message-requires : goal.from_parts-message-requires
-from_parts-message-requires c =
+pub from_parts-requires : goal.from_parts-requires
+from_parts-requires c =
     let bytes = c.args.bytes.now in
     let following = c.in-Some.following.now in
     let said = rw c.in-Some.is at c.requires.is in
@@ -58,7 +58,7 @@ returns c =
     let f = front_other (message_limit c.args.screen.format) c.args.screen.size.width c.args.screen.size.height bytes type (drop 1 bytes) following reads given in
     let same : c.in_ok-whole.whole.items ≡ f.whole = c.in_ok-whole.ensures.items ∙ other_taken bytes f.whole following f.bytes_are in
     let none : c.new.result.items ≡ [] = search rules in
-    rw (c.from_parts-message.ensures, same, none) (record {
+    rw (c.in_ok-message.ensures, same, none) (record {
       is = record { format_is = refl; width_is = refl; height_is = refl; recorded = f.recorded };
       following = following;
       bytes_are = f.bytes_are;

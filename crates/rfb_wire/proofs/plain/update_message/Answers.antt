@@ -47,8 +47,8 @@ slice_bounds-from_slice-count c =
     let f = front_whole c.args.screen.format w h bytes c.in-Some.rest.now c.in-Some.rectangles.items c.requires.some c.requires.kind (ap (update_at w h) (sym front) ∙ got) in
     rw (front, f.front_is, length-append) (omega arith)
 
-pub from_parts-message-requires : goal.from_parts-message-requires
-from_parts-message-requires c =
+pub from_parts-requires : goal.from_parts-requires
+from_parts-requires c =
     let w = c.args.screen.size.width in
     let h = c.args.screen.size.height in
     let bytes = c.args.bytes.now in
@@ -69,7 +69,7 @@ returns c =
     let same : c.in_ok-whole.whole.items ≡ f.whole = c.in_ok-whole.ensures.items ∙ whole_taken (take c.min.result bytes) f.whole c.in-Some.rest.now (front ∙ f.front_is) in
     let all : bytes ≡ f.whole ++ (c.in-Some.rest.now ++ drop (message_limit c.args.screen.format) bytes) =
     sym (take-append-drop (message_limit c.args.screen.format) bytes) ∙ ap (λ z. z ++ drop (message_limit c.args.screen.format) bytes) f.front_is ∙ append_assoc f.whole c.in-Some.rest.now (drop (message_limit c.args.screen.format) bytes) in
-    rw (c.from_parts-message.ensures, same) (record {
+    rw (c.in_ok-message.ensures, same) (record {
       is = record { format_is = refl; width_is = refl; height_is = refl; recorded = f.recorded };
       following = c.in-Some.rest.now ++ drop (message_limit c.args.screen.format) bytes;
       bytes_are = all;
