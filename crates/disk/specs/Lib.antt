@@ -8,6 +8,7 @@ pub mod History
 pub mod HistoryLaws
 pub mod Memory
 pub mod MemoryLaws
+pub mod Moments
 pub mod Overwrite
 pub mod Put
 pub mod Wrapped

@@ -5,7 +5,7 @@ use Rattle.std.proofs.lemmas.List.{length-take-le, length-take, drop-drop}
 use Rattle.std.proofs.Math.Seq.{take-add, take-take, take-append-add, take-append_seam}
 use Rattle.disk.specs.Contents.{Contents, IsWritten, IsWithinWrite}
 use Rattle.disk.specs.History.{History, present, GoesOn}
-use Rattle.disk.specs.HistoryLaws.{GoesOn-then, GoesOn-weaken}
+use Rattle.disk.specs.Moments.{GoesOn-then, GoesOn-weaken}
 use Rattle.file_disk.specs.WriteLaws.{IsWritten-then, IsWithinWrite-then}
 
 -- the bytes after the first so many

@@ -3,7 +3,8 @@ use Rattle.std.specs.Prelude.{◌≡◌, ◌≢◌, ◌⊎◌, ℕ, List, Option
 use Rattle.std.proofs.Common.{◌∙◌, subst, sym, inl, inr}
 use Rattle.disk.specs.Contents.{Contents}
 use Rattle.recording_name.specs.Folder.{Folder, Agrees, IsNamed, IsMade, IsWithinRename, IsFileSynced, IsFolderSynced}
-use Rattle.recording_name.specs.FolderHistory.{History, present, GoesOn, GoesOn-same, GoesOn-weaken, GoesOn-present, GoesOn-then}
+use Rattle.disk.specs.Moments.{GoesOn-same, GoesOn-weaken, GoesOn-present, GoesOn-then}
+use Rattle.recording_name.specs.FolderHistory.{History, present, GoesOn}
 use Rattle.recording_name.specs.Kept.{Keeps, IsNew, HasOnly, KeepsOrIsWhole}
 use Rattle.recording_name.specs.KeptLaws.{Keeps-same, Keeps-named, Keeps-made, Keeps-renamed, Keeps-file_synced, Keeps-folder_synced, HasOnly-synced, KeepsOrIsWhole-kept, KeepsOrIsWhole-then, KeepsOrIsWhole-renamed, GoesOn-keeps}
 

@@ -6,7 +6,8 @@ use Rattle.std.proofs.lemmas.List.Sums.{fold_more}
 use Rattle.disk.specs.Contents.{Contents}
 use Rattle.disk.specs.Contents as disk
 use Rattle.recording_name.specs.Folder.{Folder, Agrees}
-use Rattle.recording_name.specs.FolderHistory.{History, present, GoesOn, GoesOn-same, GoesOn-weaken}
+use Rattle.disk.specs.Moments.{GoesOn-same, GoesOn-weaken}
+use Rattle.recording_name.specs.FolderHistory.{History, present, GoesOn}
 use Rattle.recording_name.specs.KeptLaws.{first_or_rest, in_rest}
 use Rattle.recording_name.specs.Memory.{empty_folder, after, state_of, history_of, given_of, IsBelow, syncs, with_name}
 use Rattle.recording_name.specs.MemoryLaws.{present_of, state_push, GoesOn-event, Agrees-state_of}

@@ -7,7 +7,8 @@ use Rattle.disk.specs.Contents.{Contents, IsSynced, IsOnDisk}
 use Rattle.disk.specs.Contents as disk
 use Rattle.disk.specs.ContentsLaws.{now-left, IsOnDisk-synced}
 use Rattle.recording_name.specs.Folder.{Folder, Agrees, IsNamed, IsMade, IsMoved, IsWithinRename, IsRenamed, IsFileSynced, IsFolderSynced}
-use Rattle.recording_name.specs.FolderHistory.{History, present, GoesOn, GoesOn-then, GoesOn-weaken, GoesOn-present}
+use Rattle.disk.specs.Moments.{GoesOn-then, GoesOn-weaken, GoesOn-present}
+use Rattle.recording_name.specs.FolderHistory.{History, present, GoesOn}
 use Rattle.recording_name.specs.Kept.{Keeps, HasOnly, KeepsOrIsWhole, IsSettled}
 
 only_one : {X : Type 0} (y x : X) → Contains (y ∷ []) x → x ≡ y

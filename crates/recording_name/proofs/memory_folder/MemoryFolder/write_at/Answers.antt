@@ -1,6 +1,7 @@
 use Rattle.std.proofs.Common.{◌≡◌, ◌⊎◌, ap, sym, subst, List, ℕ, inl, inr, refl}
 use Rattle.disk.specs.Contents.{IsWritten}
-use Rattle.recording_name.specs.FolderHistory.{present, GoesOn-present, GoesOn-weaken}
+use Rattle.disk.specs.Moments.{GoesOn-present, GoesOn-weaken}
+use Rattle.recording_name.specs.FolderHistory.{present}
 use Rattle.recording_name.specs.Folder.{Folder}
 use Rattle.recording_name.specs.Kept.{WritesOnly}
 use Rattle.recording_name.specs.Memory.{state_of, after, written, history_of}
