@@ -3,7 +3,7 @@
 use crate::handover::Handover;
 use crate::keeping::{Keeper, Keeping};
 use crate::opening::{FileEnd, Opened, open};
-use crate::presence::is_due;
+use crate::presence::is_to_be_opened;
 use file_disk::Progress;
 use shared_book::Token;
 use sockets::Bell;
@@ -87,16 +87,15 @@ impl Archive {
         Ok((archive, keeping))
     }
 
-    // Whether the recording is to be opened again: more of it is there, and the last opening is long
-    // enough ago, or nobody keeps what was opened.
+    // Whether the recording is to be opened again.
     fn is_to_be_opened<R>(&self, keeper: &Keeper<'_, R>) -> bool
     where
         R: AllocGlobal + Clock + Files<File = File> + Wait,
     {
         let rt = keeper.porch.rt;
         let passed = passed_since(rt, self.last.done);
-        self.newest.is_over(rt)
-            || (is_due(self.last.took, passed) && self.end.is_passed(rt, keeper.recording))
+        let has_grown = self.end.is_passed(rt, keeper.recording);
+        is_to_be_opened(self.newest.is_over(rt), has_grown, self.last.took, passed)
     }
 
     // Opens the recording again, and has that kept instead of what was opened last; `None` if that

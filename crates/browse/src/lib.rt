@@ -10,4 +10,4 @@ mod opening;
 mod presence;
 
 pub use browsing::{Browsing, browse};
-pub use presence::{Presence, is_due};
+pub use presence::{Presence, is_due, is_to_be_opened};

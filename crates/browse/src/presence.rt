@@ -1,6 +1,6 @@
 //! Until when an opening of the recording is kept, and when there may be another.
 
-ghost use Rattle.std.specs.Prelude.{◌≡◌, ◌+◌, ◌-◌, ◌^◌, ◌↔◌, IsTrue, false, min, true};
+ghost use Rattle.std.specs.Prelude.{◌≡◌, ◌⊎◌, ◌+◌, ◌-◌, ◌^◌, ◌↔◌, IsTrue, false, min, true};
 ghost use Rattle.browse.specs.Keeping.{IsDue, is_over};
 
 use std::marker::Model;
@@ -11,6 +11,14 @@ pub fn is_due(took: u64, passed: u64) -> bool
     ensures { IsTrue result ↔ IsDue took passed }
 {
     took <= passed / 10
+}
+
+/// Whether a recording is to be opened anew for a viewer who comes: what was opened last is kept no
+/// more, or the recording has grown and may be opened anew by [`is_due`].
+pub fn is_to_be_opened(is_over: bool, has_grown: bool, took: u64, passed: u64) -> bool
+    ensures { IsTrue result ↔ (is_over ≡ true) ⊎ ((has_grown ≡ true) × IsDue took passed) }
+{
+    is_over || (has_grown && is_due(took, passed))
 }
 
 /// How many of those who were handed in haven't ended, and whether others may come. Contracts see the

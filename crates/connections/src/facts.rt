@@ -1,6 +1,6 @@
 //! How a session stands, for who is shown it.
 
-ghost use Rattle.std.specs.Prelude.{◌≡◌, ◌≤◌, IfSome};
+ghost use Rattle.std.specs.Prelude.{◌≡◌, ◌≤◌, IfNone, IfSome};
 
 use carriage::Status;
 use std::sync::atomic::{AtomicBool, AtomicU32, Ordering};
@@ -53,6 +53,7 @@ impl Facts {
     pub fn status(&self, message: u64, course: Option<Course>) -> Status
         ensures message { result.message ≡ message }
         ensures course { IfSome course (λ course. (result.time ≡ course.time) × (result.orders ≡ course.orders)) }
+        ensures no_course { IfNone course ((result.time ≡ 0) × (result.orders ≡ 0)) }
         ensures length { result.time ≤ result.length }
     {
         let (time, orders) = match course {

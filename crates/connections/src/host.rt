@@ -1,8 +1,10 @@
 //! The connection to a host.
 
-ghost use Rattle.std.specs.Prelude.{◌≡◌, ◌<◌, [], None, IfNone, IfSome, length};
-ghost use Rattle.host_stream.specs.Streams.{HasRead, GivesAll, GivesNext};
+ghost use Rattle.std.specs.Prelude.{◌≡◌, ◌<◌, [], Option, None, Some, IfNone, IfOk, IfSome, length};
+ghost use Rattle.host_stream.specs.Streams.{GivesAll, GivesNext, HasGiven, HasRead, IsForSame};
+ghost use Rattle.host_session.specs.Session.{name_of, size_of, told_by};
 ghost use Rattle.shared_book.specs.Receipts.{IsOfScreen, screen_of};
+ghost use Rattle.connections.specs.Giving.{NoneGiven};
 
 use crate::clock::Stopwatch;
 use crate::limits::{HANDSHAKE, REQUEST};
@@ -15,6 +17,7 @@ use rfb_wire::HostMessage;
 use shared_book::{Mark, Ticket};
 use sockets::{pause, time_left, watch_over, write_within};
 use std::alloc::{AllocError, Global};
+use std::marker::Model;
 use std::net::{Net, Shutdown, TcpStream};
 use std::sync::{Mutex, Wait};
 use std::time::{Clock, Instant};
@@ -37,27 +40,39 @@ pub enum ConnectFault {
     Host(#[source] HostFault),
 }
 
-/// A connection to a host: its socket, and what has come of its stream.
+/// A connection to a host: its socket, and what has come of its stream, which contracts see.
 #[derive(Drop)]
 pub struct Host {
     alloc: Global,
     socket: TcpStream,
-    pub(crate) stream: HostStream,
+    stream: HostStream,
     buffer: Vec<u8>,
     ghost room: { 0 < length buffer.items },
+}
+
+impl Model for Host {
+    ghost use Rattle.host_stream.specs.Streams.{Stream};
+
+    ghost Value = { Stream };
+
+    ghost view = { λ h. h.stream };
 }
 
 impl Host {
     /// Connects to a host whose messages are for a recording of this format, and which is of this
     /// size, if one is expected, and ends its handshake, which may take 30 seconds. What fails is
-    /// told.
+    /// told. No message that has come with the handshake is lost.
     pub fn connect<R: Net<Stream = TcpStream> + AllocGlobal + Clock + Wait>(
         rt: &R,
         address: &str,
         format: Format,
         expected: Option<ScreenSize>,
         telling: &Telling,
-    ) -> Result<Host, ConnectFault> {
+    ) -> Result<Host, ConnectFault>
+        ensures none { IfOk result NoneGiven }
+        ensures format { IfOk result (λ host. host.session.format ≡ format) }
+        ensures expected { IfOk result (λ host. host.session.expected ≡ expected) }
+    {
         let socket = match TcpStream::connect(rt, address) {
             Ok(socket) => socket,
             Err(error) => {
@@ -85,7 +100,11 @@ impl Host {
         socket: TcpStream,
         format: Format,
         expected: Option<ScreenSize>,
-    ) -> io::Result<Host> {
+    ) -> io::Result<Host>
+        ensures none { IfOk result NoneGiven }
+        ensures format { IfOk result (λ host. host.session.format ≡ format) }
+        ensures expected { IfOk result (λ host. host.session.expected ≡ expected) }
+    {
         watch_over(&socket)?;
         let mut buffer = Vec::new(alloc);
         buffer.resize(PIECE, 0)?;
@@ -98,7 +117,10 @@ impl Host {
     }
 
     // Reads until the handshake has ended, well or not; an error is of the socket, or of the time.
-    fn greet<R: Clock>(&mut self, rt: &R) -> io::Result<()> {
+    fn greet<R: Clock>(&mut self, rt: &R) -> io::Result<()>
+        ensures read { HasRead self.old self.new }
+        ensures same { IsForSame self.old.session self.new.session }
+    {
         let started = Instant::now(rt)?;
         for _ in 0..u64::MAX {
             if self.stream.size().is_some() || !self.stream.is_read_next() {
@@ -147,7 +169,11 @@ impl Host {
     }
 
     /// The size of the host's screen, and its name.
-    pub fn screen(&self) -> Option<(ScreenSize, &[u8])> {
+    pub fn screen(&self) -> Option<(ScreenSize, &[u8])>
+        ensures size { IfSome result (λ screen. Some screen.0 ≡ size_of (told_by self.now.session.reader self.now.session.kept)) }
+        ensures name { IfSome result (λ screen. screen.1.now ≡ name_of (told_by self.now.session.reader self.now.session.kept)) }
+        ensures none { IfNone result (size_of (told_by self.now.session.reader self.now.session.kept) ≡ None) }
+    {
         let size = self.stream.size()?;
         Some((size, self.stream.name()))
     }
@@ -157,26 +183,29 @@ impl Host {
         self.socket.try_clone()
     }
 
-    // Tells the host that nothing more is wanted.
-    fn hang_up(&self) {
+    // Tells the host that nothing more is wanted: how its stream ended.
+    fn hang_up(&self) -> HostEnd {
         let _shut = self.socket.shutdown(Shutdown::Both);
+        self.end()
     }
 
     // Reads a piece, and takes its messages, once none waits. What ends the stream is kept; an error
     // is of a read.
     fn read_piece(&mut self) -> io::Result<()>
-        requires none { self.old.stream.waiting ≡ [] }
-        requires goes_on { self.old.stream.end ≡ None }
-        ensures { HasRead self.old.stream self.new.stream }
+        requires none { self.old.waiting ≡ [] }
+        requires goes_on { self.old.end ≡ None }
+        ensures read { HasRead self.old self.new }
+        ensures same { IsForSame self.old.session self.new.session }
     {
         self.stream.read_from(&mut &self.socket, &mut self.buffer)
     }
 
     // Writes what is due to the host.
     fn tell<R: Clock>(&mut self, rt: &R) -> io::Result<()>
-        ensures given { HasRead self.old.stream self.new.stream }
-        ensures waiting { self.new.stream.waiting ≡ self.old.stream.waiting }
-        ensures end { self.new.stream.end ≡ self.old.stream.end }
+        ensures given { HasRead self.old self.new }
+        ensures same { IsForSame self.old.session self.new.session }
+        ensures waiting { self.new.waiting ≡ self.old.waiting }
+        ensures end { self.new.end ≡ self.old.end }
     {
         let mut due = Vec::new(self.alloc);
         self.stream.say(&mut due)?;
@@ -190,9 +219,10 @@ impl Host {
 
     // Reads from the host, once there is room for what comes: first it is asked for more.
     fn ask<M: Mark, R: Clock + Wait>(&mut self, rt: &R, room: &Room<M>, was_short: bool) -> bool
-        requires none { self.old.stream.waiting ≡ [] }
-        requires goes_on { self.old.stream.end ≡ None }
-        ensures { HasRead self.old.stream self.new.stream }
+        requires none { self.old.waiting ≡ [] }
+        requires goes_on { self.old.end ≡ None }
+        ensures read { HasRead self.old self.new }
+        ensures same { IsForSame self.old.session self.new.session }
     {
         room.intake.wait_for_room(rt);
         match self.tell(rt) {
@@ -214,8 +244,9 @@ impl Host {
     // The next message; `None` once all that came was given, at the stream's end, or if the recorder
     // was asked to end.
     fn next<M: Mark, R: Clock + Wait>(&mut self, rt: &R, room: &Room<M>) -> Option<HostMessage>
-        ensures given { IfSome result (λ message. GivesNext self.old.stream self.new.stream message) }
-        ensures all { IfNone result (GivesAll self.old.stream self.new.stream) }
+        ensures given { IfSome result (GivesNext self.old self.new) }
+        ensures all { IfNone result (GivesAll self.old self.new) }
+        ensures same { IsForSame self.old.session self.new.session }
     {
         let mut is_short = false;
         for _ in rt.forever() {
@@ -236,7 +267,8 @@ pub struct HostOnClock {
     pub stopwatch: Stopwatch,
 }
 
-/// A host's messages, each with the time when it came. How its stream ended is then told.
+/// A host's messages, each with the time when it came. How its stream ended is then told. Contracts
+/// see the stream, the time that was told last, and how many bytes the last message has.
 #[derive(Drop)]
 pub struct Messages<'a, M: Mark, R: Clock + Wait> {
     rt: &'a R,
@@ -244,8 +276,15 @@ pub struct Messages<'a, M: Mark, R: Clock + Wait> {
     stopwatch: Stopwatch,
     room: &'a Room<M>,
     end: &'a Mutex<HostEnd>,
-    /// How many bytes the message that was given last has.
     handed: u64,
+}
+
+impl<'a, M: Mark, R: Clock + Wait> Model for Messages<'a, M, R> {
+    ghost use Rattle.connections.specs.Giving.{Giving};
+
+    ghost Value = { Giving };
+
+    ghost view = { λ m. record { stream = m.host.value; time = m.stopwatch; handed = m.handed } };
 }
 
 impl<'a, M: Mark, R: Clock + Wait> Messages<'a, M, R> {
@@ -255,7 +294,9 @@ impl<'a, M: Mark, R: Clock + Wait> Messages<'a, M, R> {
         host: HostOnClock,
         room: &'a Room<M>,
         end: &'a Mutex<HostEnd>,
-    ) -> Messages<'a, M, R> {
+    ) -> Messages<'a, M, R>
+        ensures { result ≡ record { stream = host.host.value; time = host.stopwatch; handed = 0 } }
+    {
         let HostOnClock { host, stopwatch } = host;
         Messages {
             rt,
@@ -269,7 +310,8 @@ impl<'a, M: Mark, R: Clock + Wait> Messages<'a, M, R> {
 }
 
 impl<'a, M: Mark, R: Clock + Wait> HostSource<Ticket<M>> for Messages<'a, M, R> {
-    ghost use Rattle.std.specs.Prelude.{[], false};
+    ghost use Rattle.std.specs.Prelude.{◌⊎◌, ◌≤◌, [], false};
+    ghost use Rattle.connections.specs.Giving.{IsOfAnother};
     ghost use Rattle.shared_book.specs.Receipts.{IsOfScreen, screen_of};
 
     ghost screen = { λ m. screen_of M.head };
@@ -283,27 +325,31 @@ impl<'a, M: Mark, R: Clock + Wait> HostSource<Ticket<M>> for Messages<'a, M, R> 
     fn next(&mut self) -> Option<Stamped>
         ensures sized { IfSome result (λ r. IsOfScreen (screen_of M.head) r.message) }
         ensures stays { screen_of M.head ≡ screen_of M.head }
-        ensures next { IfSome result (λ r. GivesNext self.old.host.value.stream self.new.host.value.stream r.message) }
+        ensures next { IfSome result (λ r. GivesNext self.old.stream self.new.stream r.message) }
+        ensures all { IfNone result (GivesAll self.old.stream self.new.stream ⊎ IsOfAnother (screen_of M.head) self.old.stream self.new.stream) }
+        ensures same { IsForSame self.old.stream.session self.new.stream.session }
+        ensures time { IfSome result (λ r. (self.old.time ≤ r.time) × (self.new.time ≡ r.time)) }
         ensures handed { IfSome result (λ r. self.new.handed ≡ length r.message.bytes) }
     {
-        match self.host.next(self.rt, self.room) {
-            // The session has the recording's size and format, so that each message has them.
-            Some(message) if self.room.is_for(&message) => {
-                self.handed = message.bytes().len() as u64;
-                Some(Stamped {
-                    time: self.stopwatch.now(self.rt),
-                    message,
-                })
-            }
-            _ => {
-                self.host.hang_up();
-                *self.end.lock(self.rt) = self.host.end();
-                None
-            }
+        let Some(message) = self.host.next(self.rt, self.room) else {
+            *self.end.lock(self.rt) = self.host.hang_up();
+            return None;
+        };
+        // The session has the recording's size and format, so that each message has them.
+        if !self.room.is_for(&message) {
+            *self.end.lock(self.rt) = self.host.hang_up();
+            return None;
         }
+        self.handed = message.bytes().len() as u64;
+        Some(Stamped {
+            time: self.stopwatch.now(self.rt),
+            message,
+        })
     }
 
-    fn accepted(&mut self, _ticket: Ticket<M>) {
+    fn accepted(&mut self, _ticket: Ticket<M>)
+        ensures same { self.new ≡ self.old }
+    {
         self.room.intake.accept(self.rt, self.handed);
     }
 }

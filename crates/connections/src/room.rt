@@ -1,6 +1,6 @@
 //! What the threads of a recorder share beside its book.
 
-ghost use Rattle.std.specs.Prelude.{◌≡◌, ◌<◌, ◌^◌, IsTrue, length};
+ghost use Rattle.std.specs.Prelude.{◌≡◌, ◌<◌, ◌^◌, ◌↔◌, IsTrue, length};
 ghost use Rattle.shared_book.specs.Receipts.{IsOfRecording, screen_of, size_of};
 
 use crate::facts::Facts;
@@ -220,13 +220,6 @@ impl Device {
     }
 }
 
-/// What was recorded since it was last told of.
-#[derive(Drop)]
-struct Recorded {
-    messages: AtomicU64,
-    bytes: AtomicU64,
-}
-
 /// What all threads of a recorder share: the recording's screen and name, the position at which
 /// viewers begin, who watches, what waits, how far the recording is committed, what the system said
 /// of its file, and whether a block is being written.
@@ -250,9 +243,9 @@ pub struct Room<M: Mark> {
     /// Whether viewers stay once the recording has ended, until the recorder is stopped.
     pub stays: bool,
     committed: AtomicU64,
-    recorded: Recorded,
     is_unreadable: AtomicBool,
     is_stopped: AtomicBool,
+    is_broken_off: AtomicBool,
     of: PhantomData<M>,
     ghost sized: { screen ≡ screen_of M.head },
     ghost named: { length name.items < 2 ^ 32 },
@@ -294,19 +287,16 @@ impl<M: Mark> Room<M> {
             facts: Facts::new(last_time),
             stays: plan.host.is_none() || plan.web.is_some(),
             committed: AtomicU64::new(committed),
-            recorded: Recorded {
-                messages: AtomicU64::new(0),
-                bytes: AtomicU64::new(0),
-            },
             is_unreadable: AtomicBool::new(false),
             is_stopped: AtomicBool::new(false),
+            is_broken_off: AtomicBool::new(false),
             of: PhantomData,
         }
     }
 
     /// Whether a message is for this recording: of its size and format.
     pub fn is_for(&self, message: &HostMessage) -> bool
-        ensures { IsTrue result → IsOfRecording M.head message.now }
+        ensures { IsTrue result ↔ IsOfRecording M.head message.now }
     {
         message.size() == self.screen.size && message.format() == self.screen.format
     }
@@ -327,6 +317,16 @@ impl<M: Mark> Room<M> {
     /// Whether the recorder was asked to end.
     pub fn is_stopped(&self) -> bool {
         self.is_stopped.load(Ordering::SeqCst)
+    }
+
+    /// Says that nothing more can be committed, so that the host is hung up on.
+    pub fn break_off(&self) {
+        self.is_broken_off.store(true, Ordering::SeqCst);
+    }
+
+    /// Whether the recorder hung up on the host: it was asked to end, or can commit nothing more.
+    pub fn has_hung_up(&self) -> bool {
+        self.is_stopped() || self.is_broken_off.load(Ordering::SeqCst)
     }
 
     /// How many messages are committed, as far as viewers were told.
@@ -351,20 +351,5 @@ impl<M: Mark> Room<M> {
     /// Whether the device failed so.
     pub fn is_unreadable(&self) -> bool {
         self.is_unreadable.load(Ordering::SeqCst)
-    }
-
-    /// Notes that so many messages, of so many bytes, were recorded.
-    pub fn note_recorded(&self, messages: u64, bytes: u64) {
-        self.recorded.messages.fetch_add(messages, Ordering::SeqCst);
-        self.recorded.bytes.fetch_add(bytes, Ordering::SeqCst);
-    }
-
-    /// Tells what was recorded since it was last told of, if anything was.
-    pub fn tell_recorded<R: Wait>(&self, rt: &R) {
-        let messages = self.recorded.messages.swap(0, Ordering::SeqCst);
-        let bytes = self.recorded.bytes.swap(0, Ordering::SeqCst);
-        if messages > 0 {
-            self.telling.tell(rt, Event::Recorded { messages, bytes });
-        }
     }
 }

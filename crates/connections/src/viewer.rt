@@ -16,7 +16,7 @@ use sockets::{Bell, Connection, Woken};
 use std::alloc::{AllocError, Global};
 use std::io;
 use std::marker::PhantomData;
-use std::sync::atomic::{AtomicBool, Ordering};
+use std::sync::atomic::{AtomicBool, AtomicU64, Ordering};
 use std::sync::{Condvar, Mutex, Wait};
 use std::time::{Clock, Duration, Instant};
 use steering::{Course, Stage, Steering};
@@ -103,6 +103,20 @@ fn wait_after<M: Mark, R: Clock>(rt: &R, room: &Room<M>, order: Option<Instant>)
     }
 }
 
+// Writes an answer within the time that one may take. Once the recorder is closing, a viewer that takes
+// nothing of it for as long as it might take to ask for the rest is given up.
+fn write_answer<M: Mark, C: Connection, R: Clock + Wait>(
+    rt: &R,
+    connection: &C,
+    room: &Room<M>,
+    answer: &[u8],
+) -> io::Result<()> {
+    let waited = AtomicU64::new(0);
+    connection.write_while(rt, answer, ANSWER, || {
+        !room.hall.is_closing(rt) || waited.fetch_add(1, Ordering::SeqCst) < FAREWELL
+    })
+}
+
 impl<M: Mark> Talk<M> {
     // Takes the orders that came: whether there were some; `None` if one asks for what there isn't.
     fn heed(&mut self, facts: &Facts) -> Option<bool> {
@@ -173,30 +187,29 @@ impl<M: Mark> Talk<M> {
     }
 
     // Writes what is due, with an update if one is, within the time that an answer may take.
-    fn answer<C: Connection, R: Clock>(
+    fn answer<C: Connection, R: Clock + Wait>(
         &mut self,
         rt: &R,
-        alloc: Global,
         connection: &C,
-        facts: &Facts,
+        room: &Room<M>,
     ) -> io::Result<()>
         ensures not_yet { self.old.session.view.position < self.old.shows_from → self.new.session ≡ self.old.session }
         ensures not_obeyed { (IfSome self.old.course (λ course. course.stage ≡ Stage.Obeyed) → ⊥) → self.new.session ≡ self.old.session }
     {
-        let mut out = Vec::new(alloc);
+        let mut out = Vec::new(room.alloc);
         out.append(&mut self.heard.replies)?;
         if self.is_there() {
-            let mut due = Vec::new(alloc);
+            let mut due = Vec::new(room.alloc);
             let is_asked = self.session.wants();
             self.session.answer(&mut due)?;
             if is_asked && !self.session.wants() {
                 self.lacks_all = false; // an update is among what is due
                 self.is_answered = true;
-                self.tell(facts, &mut out)?;
+                self.tell(&room.facts, &mut out)?;
             }
             self.carriage.wrap(&mut due, &mut out)?;
         }
-        connection.write_within(rt, &out, ANSWER)
+        write_answer(rt, connection, room, &out)
     }
 
     // What the viewer is shown, and how the session stands.
@@ -212,22 +225,21 @@ impl<M: Mark> Talk<M> {
     }
 
     // Tells how the session stands if that is news, or a sign of life is due.
-    fn tell_news<C: Connection, R: Clock>(
+    fn tell_news<C: Connection, R: Clock + Wait>(
         &mut self,
         rt: &R,
-        alloc: Global,
         connection: &C,
-        facts: &Facts,
+        room: &Room<M>,
         is_due: bool,
     ) -> io::Result<()> {
-        let status = self.status(facts);
+        let status = self.status(&room.facts);
         let is_news = self.told.is_some_and(|told| status.is_news_after(told));
         if !is_news && !is_due {
             return Ok(());
         }
-        let mut out = Vec::new(alloc);
-        self.tell(facts, &mut out)?;
-        connection.write_within(rt, &out, ANSWER)
+        let mut out = Vec::new(room.alloc);
+        self.tell(&room.facts, &mut out)?;
+        write_answer(rt, connection, room, &out)
     }
 
     // Tells why the connection ends; what doesn't go out soon is left.
@@ -368,11 +380,11 @@ impl<M: Mark, C: Connection> Viewer<M, C> {
     }
 
     // Tells how the session stands, if it has come further since the viewer was told, or that is due.
-    fn tell_news<R: Clock + Wait>(&self, rt: &R, facts: &Facts, is_due: bool) {
+    fn tell_news<R: Clock + Wait>(&self, rt: &R, room: &Room<M>, is_due: bool) {
         let is_told = self
             .talk
             .lock(rt)
-            .tell_news(rt, self.alloc, &self.connection, facts, is_due)
+            .tell_news(rt, &self.connection, room, is_due)
             .is_ok();
         if !is_told {
             self.leave(rt);
@@ -391,13 +403,13 @@ impl<M: Mark, C: Connection> Viewer<M, C> {
     }
 
     /// Goes on by a slice, and answers what is due.
-    pub fn show<R: Clock + Wait>(&self, rt: &R, slice: &Slice, facts: &Facts)
+    pub fn show<R: Clock + Wait>(&self, rt: &R, slice: &Slice, room: &Room<M>)
         requires sized { IsOfSize (size_of M.head) slice.now }
         requires room { slice.now.first + length slice.now.messages.items < 2 ^ 64 }
     {
         let mut talk = self.talk.lock(rt);
-        let is_shown = talk.advance(slice, facts)
-            && talk.answer(rt, self.alloc, &self.connection, facts).is_ok();
+        let is_shown = talk.advance(slice, &room.facts)
+            && talk.answer(rt, &self.connection, room).is_ok();
         drop(talk);
         if !is_shown {
             self.leave(rt);
@@ -442,10 +454,10 @@ impl<M: Mark, C: Connection> Viewer<M, C> {
     }
 
     // Takes a piece of what the viewer sends, and answers what is due: how the viewer goes on.
-    fn hear<R: Clock + Wait>(&self, rt: &R, piece: &[u8], facts: &Facts) -> Heeded {
+    fn hear<R: Clock + Wait>(&self, rt: &R, piece: &[u8], room: &Room<M>) -> Heeded {
         let mut talk = self.talk.lock(rt);
-        let heeded = talk.feed(piece, facts);
-        let is_answered = talk.answer(rt, self.alloc, &self.connection, facts).is_ok();
+        let heeded = talk.feed(piece, &room.facts);
+        let is_answered = talk.answer(rt, &self.connection, room).is_ok();
         drop(talk);
         self.changed.notify_all();
         if is_answered { heeded } else { Heeded::Over }
@@ -459,7 +471,7 @@ impl<M: Mark, C: Connection> Viewer<M, C> {
             match self.connection.wait(&room.bell, Duration::from_secs(1)) {
                 Woken::TimedOut => {
                     quiet = quiet.saturating_add(1) % PULSE;
-                    self.tell_news(rt, &room.facts, quiet == 0);
+                    self.tell_news(rt, room, quiet == 0);
                 }
                 Woken::Ready | Woken::Rung => return,
             }
@@ -485,7 +497,7 @@ impl<M: Mark, C: Connection> Viewer<M, C> {
             if count == 0 {
                 return Ok(());
             }
-            match self.hear(rt, &buffer[..count], &room.facts) {
+            match self.hear(rt, &buffer[..count], room) {
                 Heeded::Same => {}
                 Heeded::Steered => {
                     wait_after(rt, room, steered);

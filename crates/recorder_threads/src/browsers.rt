@@ -155,8 +155,9 @@ impl<'a, D: Disk + Send, M: Mark + Send + Sync, R: Threads + Clock + Wait + Sync
         }
     }
 
-    /// Answers browsers until the bell rings, and waits until each connection has ended.
-    pub fn accept_browsers(&self, doors: &Doors<'_>, listener: &TcpListener) {
+    /// Answers browsers until the bell rings, and waits until each connection has ended: whether
+    /// nothing was wrong with the listener.
+    pub fn accept_browsers(&self, doors: &Doors<'_>, listener: &TcpListener) -> bool {
         let room = self.room;
         let porch = Porch {
             rt: self.rt,
@@ -172,7 +173,7 @@ impl<'a, D: Disk + Send, M: Mark + Send + Sync, R: Threads + Clock + Wait + Sync
                 &room.bell,
                 &room.telling,
                 |stream, from| self.take_browser(scope, &porch, stream, from),
-            );
-        });
+            )
+        })
     }
 }

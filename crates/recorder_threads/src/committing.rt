@@ -1,8 +1,11 @@
 //! What the flusher works for.
 
+ghost use Rattle.std.specs.Prelude.{◌≡◌};
+
 use book_workers::ReceiptSink;
 use connections::Room;
 use shared_book::{Mark, Receipt};
+use std::mem;
 use std::sync::Wait;
 use std::time::{Clock, Instant};
 use telling::Event;
@@ -18,6 +21,9 @@ pub struct Committing<'a, M: Mark, R: Clock + Wait> {
     room: &'a Room<M>,
     since: Option<Instant>,
     is_short: bool,
+    // What was recorded since it was last told of.
+    messages: u64,
+    bytes: u64,
 }
 
 impl<'a, M: Mark, R: Clock + Wait> Committing<'a, M, R> {
@@ -28,6 +34,21 @@ impl<'a, M: Mark, R: Clock + Wait> Committing<'a, M, R> {
             room,
             since: Instant::now(rt).ok(),
             is_short: false,
+            messages: 0,
+            bytes: 0,
+        }
+    }
+
+    /// Tells what was recorded since it was last told of, if anything was.
+    pub fn tell_recorded(&mut self)
+        ensures { (self.new.messages ≡ 0) × (self.new.bytes ≡ 0) }
+    {
+        let messages = mem::replace(&mut self.messages, 0);
+        let bytes = mem::replace(&mut self.bytes, 0);
+        if messages > 0 {
+            self.room
+                .telling
+                .tell(self.rt, Event::Recorded { messages, bytes });
         }
     }
 
@@ -40,7 +61,7 @@ impl<'a, M: Mark, R: Clock + Wait> Committing<'a, M, R> {
             Ok(passed) if passed.as_secs() >= MINUTE => {}
             _ => return,
         }
-        self.room.tell_recorded(self.rt);
+        self.tell_recorded();
         self.since = Instant::now(self.rt).ok();
     }
 }
@@ -69,7 +90,8 @@ impl<'a, M: Mark, R: Clock + Wait> ReceiptSink<Receipt<M>> for Committing<'a, M,
         }
         self.room.set_committed(slice.first.saturating_add(count));
         self.room.intake.commit(self.rt, bytes);
-        self.room.note_recorded(count, bytes);
+        self.messages = self.messages.saturating_add(count);
+        self.bytes = self.bytes.saturating_add(bytes);
         self.tell();
     }
 

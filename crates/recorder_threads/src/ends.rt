@@ -1,6 +1,6 @@
 //! How a recorder ended, and which of several reasons is told.
 
-ghost use Rattle.std.specs.Prelude.{◌≡◌, ℕ, None, Some, IfErr, OnOk, OnErr, true, false};
+ghost use Rattle.std.specs.Prelude.{◌≡◌, ℕ, None, Some, IfErr, OnOk, OnErr, not, true, false};
 ghost use Rattle.host_session.specs.declared.fault.HostFault.{HostFault};
 
 use book_workers::FlusherEnd;
@@ -21,6 +21,15 @@ pub struct Ends {
     pub is_listener_sound: bool,
     /// Whether all that viewers were to be shown could be read.
     pub is_readable: bool,
+}
+
+/// Whether it is told how the host's stream ended: if the host ended it, and not the recorder, which
+/// hung up on it, or the book, which refused a message.
+pub fn is_end_of_host(worker: Result<(), HostRefusal>, has_hung_up: bool) -> bool
+    ensures ended { OnOk worker (result ≡ not has_hung_up) }
+    ensures refused { OnErr worker (result ≡ false) }
+{
+    worker.is_ok() && !has_hung_up
 }
 
 /// The one reason that is told: the flusher's, else the worker's, else the host's or its socket's,

@@ -14,6 +14,7 @@ use gated_journal::ReadFault;
 use playing::Program;
 use reception::Arrival;
 use shared_book::Mark;
+use sockets::pause;
 use std::net::{SocketAddr, TcpListener, TcpStream};
 use std::sync::Wait;
 use std::thread;
@@ -59,26 +60,39 @@ impl<'a, D: Disk, M: Mark, R: Clock + Wait> Service<'a, D, M, R> {
         }
     }
 
-    // What a read that failed is to a viewer's worker. That the device failed is noted.
-    fn unread(&self, fault: ReadFault) -> ViewerEnd {
-        ViewerEnd::Next(match fault {
-            ReadFault::Device => {
-                self.room.note_unreadable(self.rt);
-                NextRefusal::Device
+    // How many messages have come at this time, in milliseconds. That memory is short is told once, and
+    // it is tried again as long as the viewer is there and the recorder isn't closing; that the device
+    // failed is noted.
+    fn count_at(&self, viewer: &Viewer<M, ViewerStream>, time: u32) -> Result<u64, ViewerEnd> {
+        let (rt, room) = (self.rt, self.room);
+        let mut is_short = false;
+        for _ in rt.forever() {
+            match self.shared.count_at(rt, time) {
+                Ok(count) => return Ok(count),
+                Err(ReadFault::Device) => {
+                    room.note_unreadable(rt);
+                    return Err(ViewerEnd::Next(NextRefusal::Device));
+                }
+                Err(ReadFault::NoMemory) if viewer.has_left() || room.hall.is_closing(rt) => {
+                    return Err(ViewerEnd::Next(NextRefusal::NoMemory));
+                }
+                Err(ReadFault::NoMemory) => {
+                    if !is_short {
+                        room.telling.tell(rt, Event::Shortage);
+                    }
+                    is_short = true;
+                    thread::sleep(rt, pause());
+                }
             }
-            ReadFault::NoMemory => NextRefusal::NoMemory,
-        })
+        }
+        unreachable!()
     }
 
     // After how many messages a viewer is at this time, in milliseconds. What was painted first is shown
     // at any time before it.
-    fn position_at(&self, time: u32) -> Result<u64, ViewerEnd> {
-        let (rt, shared) = (self.rt, self.shared);
-        let count = match shared.count_at(rt, time) {
-            Ok(count) => count,
-            Err(fault) => return Err(self.unread(fault)),
-        };
-        Ok(count.max(1).min(shared.committed(rt)))
+    fn position_at(&self, viewer: &Viewer<M, ViewerStream>, time: u32) -> Result<u64, ViewerEnd> {
+        let count = self.count_at(viewer, time)?;
+        Ok(count.max(1).min(self.shared.committed(self.rt)))
     }
 
     // Shows a viewer in a browser the recording from a time on, in its own time.
@@ -87,7 +101,7 @@ impl<'a, D: Disk, M: Mark, R: Clock + Wait> Service<'a, D, M, R> {
         viewer: &Viewer<M, ViewerStream>,
         playback: Playback,
     ) -> Result<(), ViewerEnd> {
-        let from = self.position_at(playback.time)?;
+        let from = self.position_at(viewer, playback.time)?;
         let program = Program {
             pace: playback.pace,
             longest_pause: playback.longest_pause,
@@ -112,7 +126,7 @@ impl<'a, D: Disk, M: Mark, R: Clock + Wait> Service<'a, D, M, R> {
             }
             Showing::Played(playback) => self.watch_playback(viewer, playback),
             Showing::Still(time) => {
-                let at = self.position_at(time)?;
+                let at = self.position_at(viewer, time)?;
                 self.show(viewer, Start::At(at), Still::new(at))
             }
         }

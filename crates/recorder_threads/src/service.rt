@@ -3,7 +3,7 @@
 use crate::comer::Comer;
 use crate::committing::Committing;
 use crate::doors::Doors;
-use crate::ends::{Ends, first_refusal};
+use crate::ends::{Ends, first_refusal, is_end_of_host};
 use crate::no_turnstile::NoTurnstile;
 use crate::refusing::refuse;
 use crate::work::Work;
@@ -42,6 +42,7 @@ type HostEnds = (Result<(), HostRefusal>, HostEnd);
 struct Crew {
     host: Option<JoinHandle<HostEnds>>,
     viewers: JoinHandle<bool>,
+    browsers: Option<JoinHandle<bool>>,
 }
 
 /// How a recorder ended, and whether that could be told.
@@ -63,15 +64,18 @@ impl Outcome {
 }
 
 impl<'a, D: Disk, M: Mark, R: Clock + Wait> Service<'a, D, M, R> {
-    // Hands in the host's messages until they end, and tells how its stream ended.
+    // Hands in the host's messages until they end, and tells how its stream ended. If one is refused,
+    // the host is hung up on.
     fn record(&self, host: HostOnClock, mut pen: HostPen<M>) -> HostEnds {
         let end = Mutex::new(HostEnd::Closed(0));
         let mut messages = Messages::new(self.rt, host, self.room, &end);
         let worker = run_host(self.rt, self.shared, &mut pen, &mut messages, &NoTurnstile);
         drop(messages);
         let end = end.into_inner();
-        if !self.room.is_stopped() {
+        if is_end_of_host(worker, self.room.has_hung_up()) {
             self.room.telling.tell(self.rt, Event::HostEnded(end));
+        } else {
+            self.shut(Shutdown::Both);
         }
         (worker, end)
     }
@@ -109,9 +113,10 @@ impl<'a, D: Disk, M: Mark, R: Clock + Wait> Service<'a, D, M, R> {
             &NoTurnstile,
         );
         self.room.device.end();
-        self.room.tell_recorded(self.rt);
+        committing.tell_recorded();
         if end.is_err() {
             self.tell_why();
+            self.room.break_off();
             self.shut(Shutdown::Both);
         }
         self.room.intake.end(self.rt);
@@ -192,14 +197,23 @@ impl<'a, D: Disk, M: Mark, R: Threads + Clock + Wait> Service<'a, D, M, R> {
     // Records until the host has ended, says at once if that is refused, and waits until nobody is
     // left to be served.
     fn conduct<W: Write>(&self, crew: Crew, pen: FlusherPen<M>, err: &mut W) -> Outcome {
-        let Crew { host, viewers } = crew;
+        let Crew {
+            host,
+            viewers,
+            browsers,
+        } = crew;
         let ends = self.record_all(host, pen);
         let outcome = self.outcome_of(first_refusal(ends), err);
         self.room.hall.end(self.rt);
         self.tell_missing();
         self.room.hall.wait_until_done(self.rt);
         self.room.bell.ring();
-        let is_listener_sound = viewers.join(self.rt);
+        let are_viewers_taken = viewers.join(self.rt);
+        let are_browsers_taken = match browsers {
+            Some(browsers) => browsers.join(self.rt),
+            None => true,
+        };
+        let is_listener_sound = are_viewers_taken && are_browsers_taken;
         if outcome.refusal.is_some() {
             return outcome;
         }
@@ -243,13 +257,20 @@ impl<'a, D: Disk + Send, M: Mark + Send + Sync, R: Threads + Clock + Wait + Sync
             scope.spawn(move || self.watch_device()).ok()?;
         }
         let Listeners { viewers, web } = doors.listeners;
-        if let Some(listener) = web {
-            scope
-                .spawn(move || self.accept_browsers(doors, listener))
-                .ok()?;
-        }
+        let browsers = match web {
+            Some(listener) => Some(
+                scope
+                    .spawn(move || self.accept_browsers(doors, listener))
+                    .ok()?,
+            ),
+            None => None,
+        };
         let viewers = scope.spawn(move || self.accept_all(viewers, comers)).ok()?;
-        Some(Crew { host, viewers })
+        Some(Crew {
+            host,
+            viewers,
+            browsers,
+        })
     }
 
     // Runs the threads of a recorder within a scope of theirs, until all is done.

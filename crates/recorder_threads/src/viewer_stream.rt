@@ -49,6 +49,21 @@ impl Connection for ViewerStream {
         }
     }
 
+    fn write_while<R: Clock, F: Fn() -> bool>(
+        &self,
+        rt: &R,
+        bytes: &[u8],
+        seconds: u64,
+        goes_on: F,
+    ) -> io::Result<()>
+        requires { F.IsAlwaysCallable goes_on }
+    {
+        match self {
+            ViewerStream::Plain(stream) => stream.write_while(rt, bytes, seconds, goes_on),
+            ViewerStream::Web(stream) => stream.write_while(rt, bytes, seconds, goes_on),
+        }
+    }
+
     fn wait(&self, bell: &Bell, limit: Duration) -> Woken {
         match self {
             ViewerStream::Plain(stream) => stream.wait(bell, limit),

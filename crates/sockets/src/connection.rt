@@ -3,7 +3,7 @@
 ghost use Rattle.std.specs.Prelude.{◌≤◌, IfOk, length};
 
 use crate::bell::{Bell, Woken};
-use crate::limits::{watch_over, write_within};
+use crate::limits::{watch_over, write_while, write_within};
 use carriage::Carriage;
 use std::alloc::Global;
 use std::io;
@@ -29,6 +29,17 @@ pub trait Connection: Drop {
     /// Writes all these bytes within so many seconds as a whole; `TimedOut` or `WouldBlock` if the
     /// viewer doesn't take them.
     fn write_within<R: Clock>(&self, rt: &R, bytes: &[u8], seconds: u64) -> io::Result<()>;
+
+    /// The same, as long as this goes on, which is asked for each second in which the viewer takes
+    /// nothing: `WouldBlock` if it doesn't.
+    fn write_while<R: Clock, F: Fn() -> bool>(
+        &self,
+        rt: &R,
+        bytes: &[u8],
+        seconds: u64,
+        goes_on: F,
+    ) -> io::Result<()>
+        requires { F.IsAlwaysCallable goes_on };
 
     /// Waits for so long at most until something came, or the bell rings.
     fn wait(&self, bell: &Bell, limit: Duration) -> Woken;
@@ -61,6 +72,18 @@ impl Connection for TcpStream {
 
     fn write_within<R: Clock>(&self, rt: &R, bytes: &[u8], seconds: u64) -> io::Result<()> {
         write_within(rt, self, bytes, seconds)
+    }
+
+    fn write_while<R: Clock, F: Fn() -> bool>(
+        &self,
+        rt: &R,
+        bytes: &[u8],
+        seconds: u64,
+        goes_on: F,
+    ) -> io::Result<()>
+        requires { F.IsAlwaysCallable goes_on }
+    {
+        write_while(rt, self, bytes, seconds, goes_on)
     }
 
     fn wait(&self, bell: &Bell, limit: Duration) -> Woken {

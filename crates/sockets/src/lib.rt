@@ -12,7 +12,7 @@ mod web_stream;
 
 pub use bell::{Bell, Woken};
 pub use connection::Connection;
-pub use limits::{pause, time_left, watch_over, write_within};
+pub use limits::{pause, time_left, watch_over, write_while, write_within};
 pub use listeners::Listeners;
 pub use listening::{Accepted, accept, listen_at};
 pub use stop::wait_for_stop;

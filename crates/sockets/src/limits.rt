@@ -73,17 +73,33 @@ pub fn write_within<R: Clock>(
     bytes: &[u8],
     seconds: u64,
 ) -> io::Result<()> {
+    write_while(rt, stream, bytes, seconds, || true)
+}
+
+/// The same, as long as this goes on, which is asked for each second in which the peer takes nothing:
+/// `WouldBlock` if it doesn't.
+pub fn write_while<R: Clock, F: Fn() -> bool>(
+    rt: &R,
+    stream: &TcpStream,
+    bytes: &[u8],
+    seconds: u64,
+    goes_on: F,
+) -> io::Result<()>
+    requires { F.IsAlwaysCallable goes_on }
+{
     let mut rest = bytes;
     if rest.is_empty() {
         return Ok(());
     }
     let started = Instant::now(rt)?;
     for _ in 0..u64::MAX {
-        stream.set_write_timeout(Some(time_left(rt, started, seconds)?))?;
+        let left = time_left(rt, started, seconds)?;
+        stream.set_write_timeout(Some(left.min(Duration::from_secs(1))))?;
         match (&mut &*stream).write(rest) {
             Ok(0) => return Err(io::ErrorKind::WriteZero.into()),
             Ok(count) => rest = &rest[count..],
             Err(error) if error.kind() == io::ErrorKind::Interrupted => {}
+            Err(error) if error.kind() == io::ErrorKind::WouldBlock && goes_on() => {}
             Err(error) => return Err(error),
         }
         if rest.is_empty() {

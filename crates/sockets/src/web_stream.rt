@@ -34,6 +34,18 @@ impl Connection for WebStream {
         self.0.write_within(rt, bytes, seconds)
     }
 
+    fn write_while<R: Clock, F: Fn() -> bool>(
+        &self,
+        rt: &R,
+        bytes: &[u8],
+        seconds: u64,
+        goes_on: F,
+    ) -> io::Result<()>
+        requires { F.IsAlwaysCallable goes_on }
+    {
+        self.0.write_while(rt, bytes, seconds, goes_on)
+    }
+
     fn wait(&self, bell: &Bell, limit: Duration) -> Woken {
         self.0.wait(bell, limit)
     }

@@ -1,6 +1,6 @@
 //! Stretches of a recording, and which blocks are of the same.
 
-ghost use Rattle.std.specs.Prelude.{◌≡◌, ◌↔◌, ◌≤◌, IsTrue, IfOk, OnErr, false, length};
+ghost use Rattle.std.specs.Prelude.{◌≡◌, ◌↔◌, ◌≤◌, ◌<◌, IsTrue, IfOk, OnErr, false, length};
 ghost use Rattle.timeline.specs.Timeline.{AreTogether, BeginsAnother, IsFollowed, IsJoined};
 
 use std::alloc::AllocError;
@@ -63,7 +63,7 @@ fn join(every: Option<u32>, stretches: &mut Vec<Stretch>, block: Block) -> bool
 }
 
 /// Tells of a further block, which has this number, unless there are as many stretches as there may
-/// be and it would begin another.
+/// be and it would begin another. Memory is taken only for a stretch that begins.
 pub fn follow(
     every: Option<u32>,
     stretches: &mut Vec<Stretch>,
@@ -75,6 +75,7 @@ pub fn follow(
     ensures full { IfOk result (λ told. told ≡ false → (1024 ≤ length stretches.old.items) × BeginsAnother every stretches.old.items block.time) }
     ensures same { IfOk result (λ told. told ≡ false → stretches.new.items ≡ stretches.old.items) }
     ensures err { OnErr result (stretches.new.items ≡ stretches.old.items) }
+    ensures short { OnErr result ((length stretches.old.items < 1024) × BeginsAnother every stretches.old.items block.time) }
 {
     if join(every, stretches, block) {
         return Ok(true);

@@ -1,6 +1,6 @@
 //! A timeline, to which block after block is added.
 
-ghost use Rattle.std.specs.Prelude.{◌≡◌, ◌≤◌, ◌++◌, ◌∷◌, [], ℕ, List, IsTrue, IfOk, OnErr, false, length};
+ghost use Rattle.std.specs.Prelude.{◌≡◌, ◌≤◌, ◌<◌, ◌++◌, ◌∷◌, [], ℕ, List, IsTrue, IfOk, OnErr, false, length};
 ghost use Rattle.timeline.specs.declared.stretch.Block.{Block as BlockValue};
 ghost use Rattle.timeline.specs.Timeline.{BeginsAnother, TellsOf};
 
@@ -44,13 +44,15 @@ impl Timeline {
     }
 
     /// Adds the block that follows. Answers whether that is told of: not if there are 1,024 stretches
-    /// and it begins another. What isn't added leaves all as it was.
+    /// and it begins another. What isn't added leaves all as it was. Memory can run out only where
+    /// another stretch begins.
     pub fn add(&mut self, block: Block) -> Result<bool, AllocError>
         ensures every { self.new.every ≡ self.old.every }
         ensures told { IfOk result (λ told. IsTrue told → (from : ℕ) (blocks : List BlockValue) → TellsOf from blocks self.old → TellsOf from (blocks ++ block ∷ []) self.new) }
         ensures full { IfOk result (λ told. told ≡ false → (length self.old.stretches ≡ 1024) × BeginsAnother self.old.every self.old.stretches block.time) }
         ensures kept { IfOk result (λ told. told ≡ false → self.new ≡ self.old) }
         ensures err { OnErr result (self.new ≡ self.old) }
+        ensures short { OnErr result ((length self.old.stretches < 1024) × BeginsAnother self.old.every self.old.stretches block.time) }
     {
         let is_told = follow(self.every, &mut self.stretches, self.next, block)?;
         if is_told {

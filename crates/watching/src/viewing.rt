@@ -1,6 +1,6 @@
 //! A viewer's position in a recording.
 
-ghost use Rattle.std.specs.Prelude.{◌≡◌, ◌<◌, ◌^◌, ◌+◌, length, false, true};
+ghost use Rattle.std.specs.Prelude.{◌≡◌, ◌↔◌, ◌<◌, ◌^◌, ◌+◌, IsTrue, length, false, true};
 ghost use Rattle.shared_book.specs.Receipts.{IsOfSize, size_of};
 
 use crate::failure::{AfterFailure, after_failure};
@@ -73,12 +73,13 @@ impl<'a, M: Mark, C: Connection, R: Clock + Wait> Viewing<'a, M, C, R> {
         self.is_short = false;
         self.has_failed = false;
         if are_due && !self.viewer.is_over() {
-            self.viewer.show(self.rt, slice, &self.room.facts);
+            self.viewer.show(self.rt, slice, self.room);
         }
     }
 
     /// Tells that memory ran out, once until something is shown.
     pub fn tell_shortage(&mut self)
+        ensures noted { self.new.is_short ≡ true }
         ensures position { self.new.position ≡ self.old.position }
         ensures fresh { self.new.is_fresh ≡ self.old.is_fresh }
     {
@@ -90,6 +91,8 @@ impl<'a, M: Mark, C: Connection, R: Clock + Wait> Viewing<'a, M, C, R> {
 
     /// Notes that the device failed: whether a viewer goes on that is a live one, or isn't.
     pub fn goes_on_after_failure(&mut self, is_live: bool) -> bool
+        ensures goes_on { IsTrue result ↔ (is_live ≡ true) × (self.old.has_failed ≡ false) }
+        ensures noted { self.new.has_failed ≡ true }
         ensures position { self.new.position ≡ self.old.position }
         ensures fresh { self.new.is_fresh ≡ self.old.is_fresh }
     {

@@ -158,11 +158,19 @@ impl<'a, M: Mark, C: Connection, R: Clock + Wait, G: Guide<M, C, R>> ViewerSink<
         self.viewing.is_at_end = true;
     }
 
-    fn shortage(&mut self) {
+    fn shortage(&mut self)
+        ensures size { size_of M.head ≡ size_of M.head }
+        ensures stays { (self.new.viewing.position ≡ self.old.viewing.position) × (self.new.viewing.is_fresh ≡ self.old.viewing.is_fresh) }
+        ensures noted { self.new.viewing.is_short ≡ true }
+    {
         self.viewing.tell_shortage();
     }
 
-    fn device_failed(&mut self) -> bool {
+    fn device_failed(&mut self) -> bool
+        ensures size { size_of M.head ≡ size_of M.head }
+        ensures stays { (self.new.viewing.position ≡ self.old.viewing.position) × (self.new.viewing.is_fresh ≡ self.old.viewing.is_fresh) }
+        ensures noted { self.new.viewing.has_failed ≡ true }
+    {
         let is_live = self.guide.is_live(&self.viewing);
         self.viewing.goes_on_after_failure(is_live)
     }

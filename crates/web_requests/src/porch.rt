@@ -148,7 +148,7 @@ impl<'a, R: Clock + Wait> Porch<'a, R> {
     }
 
     /// Answers a connection of this number in the lobby with a text in JSON, which ends it; without
-    /// one, that the recording can't be read.
+    /// one, that nobody can answer it now.
     pub fn tell(&self, stream: &TcpStream, number: u64, text: Option<&[u8]>) {
         let _told = match text {
             Some(text) => self.give(stream, JSON, text),
@@ -157,13 +157,13 @@ impl<'a, R: Clock + Wait> Porch<'a, R> {
         self.lobby.leave(self.rt, number);
     }
 
-    // Says that the recording can't be read, and ends the connection.
+    // Says that nobody can answer it now, and ends the connection (RFC 9110, section 15.6.4).
     fn fail(&self, stream: &TcpStream) -> io::Result<()> {
         let mut outlet = Outlet::new(self.rt, stream)?;
         write_failure(
             &mut outlet,
-            "500 Internal Server Error",
-            "the recording can't be read\n",
+            "503 Service Unavailable",
+            "memory is short, or the server is ending\n",
         )?;
         wait_for_end(self.rt, self.bell, stream)
     }

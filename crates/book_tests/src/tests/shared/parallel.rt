@@ -45,6 +45,8 @@ enum Order {
     NoFlusher,
     /// The device fails once, after so many calls.
     FailsAfter(u64),
+    /// The device fails at the first block, once the host waits for room.
+    FailsAtBacklog,
 }
 
 /// Holds workers. Who is held longer than 10,000 turns goes on, and is counted. It is also told
@@ -180,6 +182,16 @@ impl<'a, M: Mark, R: Clock> ReceiptSink<Receipt<M>> for Kept<'a, M, R> {
 
     ghost slice_of = { λ r. r };
 
+    fn writing(&mut self) {
+        if self.gates.order == Order::FailsAtBacklog {
+            // The block that was taken made room for 256 more.
+            let accepted = &self.gates.accepted;
+            self.gates
+                .hold_until(Order::FailsAtBacklog, accepted, 1_280);
+            let _ = thread::sleep(self.gates.rt, Duration::from_millis(100));
+        }
+    }
+
     fn receipt(&mut self, receipt: Receipt<M>) {
         if self.receipts.push(receipt).is_err() {
             self.gates.lacks();
@@ -287,7 +299,7 @@ impl<'a, D: Disk, M: Mark, R: Wait + Clock> Workers<'a, D, M, R> {
         drop(source);
         match (end, gates.order) {
             (Err(HostRefusal::NoMemory), _) => gates.lacks(),
-            (Err(HostRefusal::Broken), Order::FailsAfter(_)) => {
+            (Err(HostRefusal::Broken), Order::FailsAfter(_) | Order::FailsAtBacklog) => {
                 gates.failed.fetch_add(4, Ordering::SeqCst);
             }
             (Ok(()), _) => {}
@@ -298,7 +310,9 @@ impl<'a, D: Disk, M: Mark, R: Wait + Clock> Workers<'a, D, M, R> {
 
     fn flush(&self, pen: &mut FlusherPen<M>) -> Vec<Receipt<M>> {
         let gates = self.gates;
-        gates.hold_until(Order::Backlogged, &gates.accepted, 1_024);
+        for order in [Order::Backlogged, Order::FailsAtBacklog] {
+            gates.hold_until(order, &gates.accepted, 1_024);
+        }
         let mut receipts = Vec::new(self.alloc);
         let mut kept = Kept {
             gates: &*gates,
@@ -307,7 +321,10 @@ impl<'a, D: Disk, M: Mark, R: Wait + Clock> Workers<'a, D, M, R> {
         let end = run_flusher(self.rt, self.shared, pen, &mut kept, gates);
         drop(kept);
         match (end, gates.order) {
-            (Err(FlusherEnd::Flush(FlushRefusal::Device)), Order::FailsAfter(_)) => {
+            (
+                Err(FlusherEnd::Flush(FlushRefusal::Device)),
+                Order::FailsAfter(_) | Order::FailsAtBacklog,
+            ) => {
                 gates.failed.fetch_add(2, Ordering::SeqCst);
             }
             (Ok(()), _) => {}
@@ -378,7 +395,11 @@ impl<'a, D: Disk + Send, M: Mark + Send + Sync, R: Threads + Wait + Clock + Sync
         requires { IsOfOnePixel M.head }
     {
         match self.gates.order {
-            Order::Free | Order::Meeting | Order::Backlogged | Order::FailsAfter(_) => {
+            Order::Free
+            | Order::Meeting
+            | Order::Backlogged
+            | Order::FailsAfter(_)
+            | Order::FailsAtBacklog => {
                 let (committed, tickets) = join(
                     self.rt,
                     move || self.flush(flusher),
@@ -466,7 +487,7 @@ fn settle<D: Disk + Drop, M: Mark, R: Abort>(
 fn due_in<R: Clock>(gates: &Gates<R>, count: u64) -> Option<u64> {
     match gates.order {
         _ if gates.has_lacked() => None,
-        Order::NoFlusher => Some(0),
+        Order::NoFlusher | Order::FailsAtBacklog => Some(0),
         // A block is committed by four calls.
         Order::FailsAfter(calls) => (calls < 4).then_some(0),
         Order::Free | Order::Meeting | Order::HostFirst | Order::Backlogged => Some(count),
@@ -525,8 +546,10 @@ fn begun(alloc: Global, order: Order) -> Option<(Token, Box<Desk<FailingDisk<Mem
     let switch = Switch::new(alloc).ok()?;
     let disk = FailingDisk::new(MemoryDisk::new(alloc), switch.clone().ok()?);
     let desk = desk_of_one_pixel(alloc, disk)?;
-    if let Order::FailsAfter(calls) = order {
-        switch.fail_after(calls);
+    match order {
+        Order::FailsAfter(calls) => switch.fail_after(calls),
+        Order::FailsAtBacklog => switch.fail_after(0),
+        _ => {}
     }
     Some((Token::new(alloc).ok()?, desk))
 }
@@ -548,7 +571,7 @@ fn shared_by_workers<R: Threads + Wait + Clock + Abort + Sync>(
         return Ok(None);
     }
     assert!(rt; gates.missed.load(Ordering::SeqCst) == 0);
-    if let Order::FailsAfter(_) = order {
+    if let Order::FailsAfter(_) | Order::FailsAtBacklog = order {
         // A viewer, or the flusher and by it the host.
         assert!(rt; matches!(gates.failed.load(Ordering::SeqCst), 1 | 6));
     }
@@ -586,6 +609,14 @@ fn a_device_that_fails_ends_its_callers(rt: HostRuntime) -> Result<(), Fail> {
             shared_by_workers(&rt, rt.alloc(), Order::FailsAfter(calls), 2_000, viewers)?;
         }
     }
+    Ok(())
+}
+
+// A host that sleeps at a backlog is woken by the device's failure, and ends.
+#[test]
+fn a_device_that_fails_wakes_a_host_that_waits(rt: HostRuntime) -> Result<(), Fail> {
+    let accepted = shared_by_workers(&rt, rt.alloc(), Order::FailsAtBacklog, 2_000, 0)?;
+    assert!(rt; accepted.unwrap_or(1_280) == 1_280);
     Ok(())
 }
 

@@ -21,7 +21,7 @@ pub const RECORDING: [u8; 83] =
 
 /// What the page is told of it.
 const TIMES: &[u8] =
-    b"\r\n\r\n{\"width\":1,\"height\":1,\"messages\":2,\"length\":1500000,\"stretches\":[{\"time\":3000,\"message\":0,\"block\":0,\"updates\":2}],\"next\":1}\n";
+    b"{\"width\":1,\"height\":1,\"messages\":2,\"length\":1500000,\"stretches\":[{\"time\":3000,\"message\":0,\"block\":0,\"updates\":2}],\"next\":1}\n";
 
 /// What follows the target in a request for a WebSocket of a page from here: the key is that of
 /// section 1.3.
@@ -64,7 +64,7 @@ fn is_answered(
     Err("another answer".into())
 }
 
-// What is asked for, and given.
+// What is asked for, and given: more often than there are connections at a time.
 fn all_is_given(rt: &HostRuntime, endpoint: Endpoint) -> Result<(), Fail> {
     let answers: [(&[u8], &str, &[u8]); 5] = [
         (
@@ -93,8 +93,12 @@ fn all_is_given(rt: &HostRuntime, endpoint: Endpoint) -> Result<(), Fail> {
             TIMES,
         ),
     ];
-    for (request, front, end) in answers {
-        is_answered(rt, endpoint, request, front, end)?;
+    for _ in 0..17 {
+        for (request, front, text) in &answers {
+            let count = text.len();
+            let front = format!(in rt.alloc(); "{front}\r\nContent-Length: {count}")?;
+            is_answered(rt, endpoint, request, &front, text)?;
+        }
     }
     Ok(())
 }
@@ -194,8 +198,8 @@ pub fn shown(
     }
 }
 
-// A connection for this target, whose upgrade is answered, and the version of RFB heard.
-fn upgraded(rt: &HostRuntime, endpoint: Endpoint, target: &[u8]) -> Result<Peer, Fail> {
+/// A connection for this target, whose upgrade is answered, and the version of RFB heard.
+pub fn upgraded(rt: &HostRuntime, endpoint: Endpoint, target: &[u8]) -> Result<Peer, Fail> {
     let alloc = rt.alloc();
     let browser = silent_viewer(rt, endpoint)?;
     let mut request = b"GET ".to_vec(alloc)?;
@@ -347,6 +351,36 @@ fn hears_the_end(browser: &Peer, alloc: Global) -> Result<(), Fail> {
     Err("no end".into())
 }
 
+// A viewer of a host stands still, follows it again, looks back, and follows it once more.
+fn steers_meanwhile(browser: &Peer, alloc: Global, host: &Peer) -> Result<(), Fail> {
+    let told = shown(browser, alloc, b"{\"pause\":true}", &ALL, &BLACK)?;
+    if !stands(&told, "{\"message\":0,", ",\"orders\":1,\"ended\":false}") {
+        return Err("a stillness before the first message".into());
+    }
+    let told = shown(browser, alloc, b"{\"live\":true}", &ALL, &BLACK)?;
+    if !stands(&told, "{\"message\":0,", ",\"orders\":2,\"ended\":false}") {
+        return Err("live again".into());
+    }
+    host.talk(alloc, &RED, &CHANGES)?;
+    let told = shown(browser, alloc, b"", &CHANGES, &RED)?;
+    if !stands(
+        &told,
+        "{\"message\":1,",
+        ",\"watching\":1,\"orders\":2,\"ended\":false}",
+    ) {
+        return Err("the update".into());
+    }
+    let told = shown(browser, alloc, b"{\"at\":0}", &ALL, &RED)?;
+    if !stands(&told, "{\"message\":1,", ",\"orders\":3,\"ended\":false}") {
+        return Err("a look back while it goes on".into());
+    }
+    let told = shown(browser, alloc, b"{\"live\":true}", &ALL, &RED)?;
+    if !stands(&told, "{\"message\":1,", ",\"orders\":4,\"ended\":false}") {
+        return Err("live once more".into());
+    }
+    Ok(())
+}
+
 // A viewer sees a host's update, and its end, and looks back then, until the recorder is stopped.
 fn host_is_watched(rt: &HostRuntime, ends: Loopback) -> Result<(), Fail> {
     let alloc = rt.alloc();
@@ -358,19 +392,11 @@ fn host_is_watched(rt: &HostRuntime, ends: Loopback) -> Result<(), Fail> {
     if told.as_slice() != first {
         return Err("the first screen".into());
     }
-    host.talk(alloc, &RED, &CHANGES)?;
-    let told = shown(&browser, alloc, b"", &CHANGES, &RED)?;
-    if !stands(
-        &told,
-        "{\"message\":1,",
-        ",\"watching\":1,\"orders\":0,\"ended\":false}",
-    ) {
-        return Err("the update".into());
-    }
+    steers_meanwhile(&browser, alloc, &host)?;
     host.finish()?;
     hears_the_end(&browser, alloc)?;
     let told = shown(&browser, alloc, b"{\"at\":0}", &ALL, &RED)?;
-    if !stands(&told, "{\"message\":1,", ",\"orders\":1,\"ended\":true}") {
+    if !stands(&told, "{\"message\":1,", ",\"orders\":5,\"ended\":true}") {
         return Err("a look back".into());
     }
     say(&browser, alloc, BINARY, &CHANGES)?;
@@ -387,7 +413,7 @@ fn a_browser_watches_a_host_past_its_end(rt: HostRuntime) -> Result<(), Fail> {
     let address = host.address(rt.alloc())?;
     let plan = for_browsers(
         plan_of(file, Some(address.as_str()), Audience::Any, Origin::Live),
-        Some(5),
+        Some(8),
     );
     let ends = Loopback { hosts, viewers };
     let said = serve_over!(

@@ -1,7 +1,7 @@
 //! `browse`: the same page and viewers over a recording, which may grow meanwhile.
 
 use super::browsers::{
-    Heard, RECORDING, TEXT, asked, is_closed, is_looked_at, say, shown, stands, viewer,
+    Heard, RECORDING, TEXT, asked, is_closed, is_looked_at, say, shown, stands, upgraded, viewer,
 };
 use super::peers::{ALL, BLACK, Endpoint, GREEN, Peer, listener};
 use browse::{Browsing, browse};
@@ -55,8 +55,10 @@ fn sees_at_last(
     Err("another screen".into())
 }
 
-// Who is there sees what there was, and who comes sees what has come; what can't be opened again is
-// shown as it was. At last the file is cut off, and who goes back in it is closed.
+// Who is there sees what there was, and who comes sees what has come, without another opening if
+// nothing has; what can't be opened again is shown as it was. The file is replaced by a longer one,
+// and then cut off, and who goes back in it is closed; at last all are told of the end, also who
+// came before it grew.
 fn grows(rt: &HostRuntime, endpoint: Endpoint, file: &str) -> Result<(), Fail> {
     let alloc = rt.alloc();
     let first = viewer(rt, endpoint, b"/watch")?;
@@ -68,11 +70,19 @@ fn grows(rt: &HostRuntime, endpoint: Endpoint, file: &str) -> Result<(), Fail> {
     if !stands(&told, before, ",\"ended\":true}") {
         return Err("as it was".into());
     }
-    fs::write(rt, file, longer(alloc, true)?.as_slice())?;
+    fs::write(rt, "longer", longer(alloc, true)?.as_slice())?;
+    fs::rename(rt, "longer", file)?;
     let (third, told) = sees_at_last(rt, endpoint, &BLACK)?;
     let after = "{\"message\":3,\"time\":1600000,\"length\":1600000,\"watching\":1,";
     if !stands(&told, after, ",\"ended\":true}") {
         return Err("what has come".into());
+    }
+    thread::sleep(rt, Duration::from_millis(500));
+    let fourth = viewer(rt, endpoint, b"/watch")?;
+    let told = shown(&fourth, alloc, b"", &ALL, &BLACK)?;
+    let beside = "{\"message\":3,\"time\":1600000,\"length\":1600000,\"watching\":2,";
+    if !stands(&told, beside, ",\"ended\":true}") {
+        return Err("opened again without need".into());
     }
     let told = shown(&first, alloc, b"{\"live\":true}", &ALL, &GREEN)?;
     if !stands(&told, before, ",\"orders\":1,\"ended\":true}") {
@@ -80,10 +90,20 @@ fn grows(rt: &HostRuntime, endpoint: Endpoint, file: &str) -> Result<(), Fail> {
     }
     fs::write(rt, file, &RECORDING[..20])?;
     say(&third, alloc, TEXT, b"{\"at\":4000}")?;
-    is_closed(&third, alloc, 4005, b"the recording can't be read")
+    is_closed(&third, alloc, 4005, b"the recording can't be read")?;
+    is_closed(&first, alloc, 1000, b"the recorder has ended")
 }
 
-// Shows a recording for five seconds: whether that is done, and what is printed.
+// More begin to watch than there are connections for all else, and all is given all the same.
+fn many_come(rt: &HostRuntime, endpoint: Endpoint) -> Result<(), Fail> {
+    let mut viewers = Vec::new(rt.alloc());
+    for _ in 0..17 {
+        viewers.push(upgraded(rt, endpoint, b"/watch")?)?;
+    }
+    is_looked_at(rt, endpoint)
+}
+
+// Shows a recording for eight seconds: whether that is done, and what is printed.
 fn print<R>(rt: &R, file: &str, listener: TcpListener) -> io::Result<String>
 where
     R: AllocGlobal + Clock + Files<File = File> + Sync + Threads + Wait,
@@ -98,7 +118,7 @@ where
         name: None,
         stop: Stop {
             at_end_of_input: false,
-            after: Some(5),
+            after: Some(8),
         },
         told: Told::Nothing,
         is_verbose: false,
@@ -128,7 +148,7 @@ fn a_recording_is_browsed(rt: HostRuntime) -> Result<(), Fail> {
         rt,
         move || print(rt, file, web),
         move || {
-            is_looked_at(rt, endpoint)?;
+            many_come(rt, endpoint)?;
             grows(rt, endpoint, file)
         },
     ))?;

@@ -1,12 +1,13 @@
 //! How a host ends, and a recording without one.
 
-use super::checked;
 use super::peers::{
     ALL, BLACK, CHANGES, Endpoint, GREEN, Loopback, Peer, RED, deaf_host, listener, small_host,
     viewer,
 };
+use super::{checked, is_recorded};
 use crate::plan_of;
-use serve_plan::{Audience, Origin};
+use reception::Stop;
+use serve_plan::{Audience, Origin, Plan};
 use std::fs;
 use std::net::{Net, TcpStream};
 use std::test::Fail;
@@ -75,6 +76,37 @@ fn a_host_ends(rt: HostRuntime) -> Result<(), Fail> {
         assert!(rt; checked(rt, file)?.as_str() == "recording 1 1 messages 1 blocks 1\n");
     }
     Ok(())
+}
+
+// A host goes on while the recorder is asked to end, and is hung up on.
+fn host_goes_on(rt: &HostRuntime, ends: Loopback) -> Result<(), Fail> {
+    let alloc = rt.alloc();
+    let host = small_host(alloc, &ends.hosts)?;
+    let one = viewer(rt, ends.viewers)?;
+    one.talk(alloc, &ALL, &BLACK)?;
+    host.talk(alloc, &RED, &CHANGES)?;
+    one.talk(alloc, &CHANGES, &RED)?;
+    host.ends()
+}
+
+#[test]
+fn a_recorder_is_stopped_while_its_host_goes_on(rt: HostRuntime) -> Result<(), Fail> {
+    let rt = &rt;
+    let file = "stopped";
+    let _ = fs::remove_file(rt, file);
+    let (hosts, host) = listener(rt)?;
+    let (listener, viewers) = listener(rt)?;
+    let address = host.address(rt.alloc())?;
+    let plan = Plan {
+        stop: Stop {
+            at_end_of_input: false,
+            after: Some(1),
+        },
+        ..plan_of(file, Some(address.as_str()), Audience::Any, Origin::Live)
+    };
+    let ends = Loopback { hosts, viewers };
+    let said = serve_while!(rt, &plan, listener, move || host_goes_on(rt, ends))?;
+    is_recorded(rt, file, &said, 1, "1 1 messages 1 blocks 1")
 }
 
 /// A recording of one pixel with one message, an update of a red pixel after a millisecond.

@@ -6,6 +6,7 @@ use super::peers::{
 };
 use crate::plan_of;
 use playing::Pace;
+use reception::Stop;
 use serve_plan::{Audience, Origin, Plan, Playing};
 use std::fs;
 use std::fs::OpenOptions;
@@ -62,6 +63,37 @@ fn sees_each_in_time(rt: &HostRuntime, endpoint: Endpoint) -> Result<(), Fail> {
     comes_after(rt, &viewer, &RED, started, 2000)?;
     comes_after(rt, &viewer, &GREEN, started, 4000)?;
     comes_after(rt, &viewer, &BLACK, started, 5000)
+}
+
+// What one sees for whom the first message comes later than the recorder's end.
+fn is_cut_off(rt: &HostRuntime, endpoint: Endpoint) -> Result<(), Fail> {
+    let viewer = viewer(rt, endpoint)?;
+    viewer.talk(rt.alloc(), &ALL, &BLACK)?;
+    viewer.ends()
+}
+
+#[test]
+fn a_playback_ends_with_the_recorder(rt: HostRuntime) -> Result<(), Fail> {
+    let rt = &rt;
+    let file = "cut_off";
+    fs::write(rt, file, RECORDING.as_slice())?;
+    let plan = Plan {
+        playing: Some(Playing {
+            pace: Pace::from_thousandths(1000).ok_or("pace")?,
+            longest_pause: None,
+            repeats: false,
+        }),
+        stop: Stop {
+            at_end_of_input: false,
+            after: Some(1),
+        },
+        ..plan_of(file, None, Audience::Any, Origin::Count(0))
+    };
+    let (viewers, endpoint) = listener(rt)?;
+    let said = serve_while!(rt, &plan, viewers, move || is_cut_off(rt, endpoint))?;
+    assert!(rt; said.as_str() == "true serving\ncommitted 2\n", "{said}");
+    fs::remove_file(rt, file)?;
+    Ok(())
 }
 
 #[test]

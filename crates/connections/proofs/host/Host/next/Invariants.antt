@@ -1,7 +1,7 @@
-use Rattle.host_stream.specs.Streams.{HasRead}
+use Rattle.host_stream.specs.Streams.{HasRead, IsForSame}
 use Rattle.connections.proofs.host.Host.next.Given as goal
 
 abbrev pub invariant-loop : goal.invariant-loop
 invariant-loop g l =
-    HasRead l.fn.self.stream l.self.stream
+    HasRead l.fn.self l.self × IsForSame l.fn.self.session l.self.session
     × (goal.iterator-loop g).can_next l.iterator' × (goal.iterator-loop g).is_finite l.iterator'
