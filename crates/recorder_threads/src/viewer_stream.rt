@@ -42,13 +42,6 @@ impl Connection for ViewerStream {
         }
     }
 
-    fn write_within<R: Clock>(&self, rt: &R, bytes: &[u8], seconds: u64) -> io::Result<()> {
-        match self {
-            ViewerStream::Plain(stream) => stream.write_within(rt, bytes, seconds),
-            ViewerStream::Web(stream) => stream.write_within(rt, bytes, seconds),
-        }
-    }
-
     fn write_while<R: Clock, F: Fn() -> bool>(
         &self,
         rt: &R,

@@ -3,7 +3,7 @@
 ghost use Rattle.std.specs.Prelude.{◌≤◌, IfOk, length};
 
 use crate::bell::{Bell, Woken};
-use crate::limits::{watch_over, write_while, write_within};
+use crate::limits::{watch_over, write_while};
 use carriage::Carriage;
 use std::alloc::Global;
 use std::io;
@@ -26,12 +26,9 @@ pub trait Connection: Drop {
     fn read(&self, buffer: &mut [u8]) -> io::Result<usize>
         ensures { IfOk result (λ count. count ≤ length buffer.old) };
 
-    /// Writes all these bytes within so many seconds as a whole; `TimedOut` or `WouldBlock` if the
-    /// viewer doesn't take them.
-    fn write_within<R: Clock>(&self, rt: &R, bytes: &[u8], seconds: u64) -> io::Result<()>;
-
-    /// The same, as long as this goes on, which is asked for each second in which the viewer takes
-    /// nothing: `WouldBlock` if it doesn't.
+    /// Writes all these bytes within so many seconds as a whole, as long as this goes on, which is
+    /// asked for each second in which the viewer takes nothing: `TimedOut` if it doesn't take them,
+    /// `WouldBlock` if it takes nothing and this doesn't go on.
     fn write_while<R: Clock, F: Fn() -> bool>(
         &self,
         rt: &R,
@@ -40,6 +37,11 @@ pub trait Connection: Drop {
         goes_on: F,
     ) -> io::Result<()>
         requires { F.IsAlwaysCallable goes_on };
+
+    /// The same, whatever happens meanwhile.
+    fn write_within<R: Clock>(&self, rt: &R, bytes: &[u8], seconds: u64) -> io::Result<()> {
+        self.write_while(rt, bytes, seconds, || true)
+    }
 
     /// Waits for so long at most until something came, or the bell rings.
     fn wait(&self, bell: &Bell, limit: Duration) -> Woken;
@@ -68,10 +70,6 @@ impl Connection for TcpStream {
             }
         }
         Ok(0)
-    }
-
-    fn write_within<R: Clock>(&self, rt: &R, bytes: &[u8], seconds: u64) -> io::Result<()> {
-        write_within(rt, self, bytes, seconds)
     }
 
     fn write_while<R: Clock, F: Fn() -> bool>(

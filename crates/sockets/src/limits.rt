@@ -66,7 +66,7 @@ pub fn time_left<R: Clock>(rt: &R, started: Instant, seconds: u64) -> io::Result
 }
 
 /// Writes all these bytes within so many seconds as a whole, however many pieces the peer takes
-/// them in; `TimedOut` or `WouldBlock` if it doesn't.
+/// them in; `TimedOut` if it doesn't.
 pub fn write_within<R: Clock>(
     rt: &R,
     stream: &TcpStream,

@@ -30,10 +30,6 @@ impl Connection for WebStream {
         Connection::read(&*self.0, buffer)
     }
 
-    fn write_within<R: Clock>(&self, rt: &R, bytes: &[u8], seconds: u64) -> io::Result<()> {
-        self.0.write_within(rt, bytes, seconds)
-    }
-
     fn write_while<R: Clock, F: Fn() -> bool>(
         &self,
         rt: &R,
