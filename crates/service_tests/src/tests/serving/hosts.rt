@@ -108,12 +108,7 @@ fn a_recorder_is_stopped_while_its_host_goes_on(rt: HostRuntime) -> Result<(), F
     let (hosts, host) = listener(rt)?;
     let (listener, viewers) = listener(rt)?;
     let address = host.address(rt.alloc())?;
-    let plan = for_a_second(plan_of(
-        file,
-        Some(address.as_str()),
-        Audience::Any,
-        Origin::Live,
-    ));
+    let plan = for_a_second(plan_of(file, Some(address.as_str()), Audience::Any, Origin::Live));
     let ends = Loopback { hosts, viewers };
     let said = serve_while!(rt, &plan, listener, move || host_goes_on(rt, ends))?;
     is_recorded(rt, file, &said, 1, "1 1 messages 1 blocks 1")
