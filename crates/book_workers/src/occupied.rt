@@ -2,8 +2,8 @@
 
 ghost use Rattle.std.specs.Prelude.{◌≡◌, IfOk, true};
 
-use broadcast::{JoinRefusal, Seat, Start};
 use disk::Disk;
+use shared_book::broadcast::{JoinRefusal, Seat, Start};
 use shared_book::{Mark, Shared};
 use std::sync::Wait;
 

@@ -6,7 +6,7 @@ ghost use Rattle.shared_book.specs.Receipts.{IsOfScreen, IsOfSize, has_start};
 ghost use Rattle.book_workers.specs.Accounts.{IsSettled, after_next, after_ticket};
 ghost use Rattle.book_workers.specs.Wishes.{fresh_after, position_after};
 
-use key_index::Stamped;
+use replay::key_index::Stamped;
 
 /// A point of a worker's work at which a test may hold it.
 #[derive(Clone, Copy, Debug, PartialEq, Eq)]

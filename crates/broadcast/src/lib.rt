@@ -14,6 +14,7 @@ mod steps;
 mod viewing;
 
 pub use desk::Desk;
+pub use key_index;
 pub use laws::{any_number_of_runs_and_crashes, runs_go_on, steps_only_append};
 pub use refusal::{JoinRefusal, LeaveRefusal, NextRefusal, SeekRefusal, StepRefusal};
 pub use seat::{Seat, Seated, Start};

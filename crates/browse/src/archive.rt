@@ -5,7 +5,7 @@ use crate::keeping::{Keeper, Keeping};
 use crate::opening::{FileEnd, Opened, open};
 use crate::presence::is_to_be_opened;
 use file_disk::Progress;
-use shared_book::Token;
+use recorder_threads::shared_book::Token;
 use sockets::Bell;
 use std::fs::File;
 use std::io;

@@ -11,7 +11,7 @@ use file_commands::{Ended, Refused, answer};
 use file_disk::{Progress, SystemError};
 use libc::STDERR_FILENO;
 use reception::Stop;
-use refusals::Refusal;
+use recorder_threads::refusals::Refusal;
 use sockets::Bell;
 use std::fs::File;
 use std::io::Write;

@@ -5,14 +5,14 @@ ghost use Rattle.flusher_core.specs.State.{accepted_count};
 
 use crate::handover::Handover;
 use crate::opening::Opened;
-use broadcast::Start;
-use connections::{Beginning, Device, Hall, Room};
 use file_disk::FileDisk;
 use reception::{Stop, Term};
 use recorder_threads::Service;
-use refusals::Stopped;
+use recorder_threads::broadcast::Start;
+use recorder_threads::connections::{Beginning, Device, Hall, Room};
+use recorder_threads::refusals::Stopped;
+use recorder_threads::shared_book::{Mark, Shared, Sharing, Token};
 use serve_plan::{Audience, Origin, Plan};
-use shared_book::{Mark, Shared, Sharing, Token};
 use sockets::Bell;
 use std::marker::Brand;
 use std::sync::atomic::{AtomicBool, Ordering};

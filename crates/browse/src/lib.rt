@@ -10,4 +10,5 @@ mod opening;
 mod presence;
 
 pub use browsing::{Browsing, browse};
+pub use file_commands;
 pub use presence::{Presence, is_due, is_to_be_opened};

@@ -1,14 +1,14 @@
 //! The recording's file, opened for reading alone.
 
-use broadcast::Desk;
 use disk::Disk;
 use file_commands::{Ended, open_source};
 use file_disk::{FileDisk, LastError, OsFolder, Progress, Written};
 use flusher_core::Book;
 use key_index::IndexFault;
+use recorder_threads::broadcast::Desk;
+use recorder_threads::refusals::Refusal;
 use recording_bytes::OPEN_GATE;
 use recording_name::{Identity, SystemFolder};
-use refusals::Refusal;
 use std::alloc::AllocError;
 use std::fs::File;
 use std::rt::Files;

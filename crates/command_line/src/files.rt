@@ -2,10 +2,10 @@
 
 use crate::numbers::{if_given, number, within};
 use crate::wrong::{MOMENT, NUMBER, Wrong, word};
-use clap::ArgMatches;
-use file_commands::{
+use browse::file_commands::{
     Chaining, Extract, FileCommand, Filming, Migration, Moment, Salvaging, Scene, Timing,
 };
+use clap::ArgMatches;
 use hex::FromHex;
 use pictures::PictureFormat;
 use spelling::moment;

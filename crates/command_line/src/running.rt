@@ -4,7 +4,7 @@ ghost use Rattle.std.specs.Prelude.{◌≤◌};
 
 use crate::advice::{ADDRESS, asks_for_more, has_port};
 use crate::words::{Chosen, read_words};
-use file_commands::{FileCommand, FileFault, Refused, create_new, keep, refuse, run};
+use browse::file_commands::{FileCommand, FileFault, Refused, create_new, keep, refuse, run};
 use file_disk::Progress;
 use serve_plan::Plan;
 use sockets::listen_at;

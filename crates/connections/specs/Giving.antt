@@ -2,7 +2,7 @@
 use Rattle.std.specs.Prelude.{◌≡◌, ℕ, List, []}
 use Rattle.terms.specs.declared.format.RecordedScreen.{RecordedScreen}
 use Rattle.rfb_wire.specs.Host.{Host}
-use Rattle.shared_book.specs.Receipts.{IsOfScreen}
+use Rattle.book_workers.specs.Receipts.{IsOfScreen}
 use Rattle.host_stream.specs.Streams.{Stream, GivesNext, HasGiven}
 
 -- a host that gives its messages: its stream, the time that was told last, in milliseconds, and how

@@ -3,18 +3,18 @@
 ghost use Rattle.std.specs.Prelude.{◌≡◌, ◌<◌, [], Option, None, Some, IfNone, IfOk, IfSome, length};
 ghost use Rattle.host_stream.specs.Streams.{GivesAll, GivesNext, HasGiven, HasRead, IsForSame};
 ghost use Rattle.host_session.specs.Session.{name_of, size_of, told_by};
-ghost use Rattle.shared_book.specs.Receipts.{IsOfScreen, screen_of};
+ghost use Rattle.book_workers.specs.Receipts.{IsOfScreen, screen_of};
 ghost use Rattle.connections.specs.Giving.{NoneGiven};
 
 use crate::clock::Stopwatch;
 use crate::limits::{HANDSHAKE, REQUEST};
 use crate::room::Room;
 use book_workers::HostSource;
+use book_workers::key_index::Stamped;
+use book_workers::shared_book::{Mark, Ticket};
 use host_session::HostFault;
 use host_stream::{HostEnd, HostStream, Next};
-use key_index::Stamped;
 use rfb_wire::HostMessage;
-use shared_book::{Mark, Ticket};
 use sockets::{pause, time_left, watch_over, write_within};
 use std::alloc::{AllocError, Global};
 use std::marker::Model;
@@ -312,7 +312,7 @@ impl<'a, M: Mark, R: Clock + Wait> Messages<'a, M, R> {
 impl<'a, M: Mark, R: Clock + Wait> HostSource<Ticket<M>> for Messages<'a, M, R> {
     ghost use Rattle.std.specs.Prelude.{◌⊎◌, ◌≤◌, [], false};
     ghost use Rattle.connections.specs.Giving.{IsOfAnother};
-    ghost use Rattle.shared_book.specs.Receipts.{IsOfScreen, screen_of};
+    ghost use Rattle.book_workers.specs.Receipts.{IsOfScreen, screen_of};
 
     ghost screen = { λ m. screen_of M.head };
 

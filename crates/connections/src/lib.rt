@@ -10,6 +10,8 @@ mod limits;
 mod room;
 mod viewer;
 
+pub use book_workers;
+pub use book_workers::{broadcast, flusher_core, replay, shared_book};
 pub use clock::{Stopwatch, time_after};
 pub use facts::Facts;
 pub use guest::{Greeting, Guest};

@@ -1,17 +1,17 @@
 //! What the threads of a recorder share beside its book.
 
 ghost use Rattle.std.specs.Prelude.{◌≡◌, ◌<◌, ◌^◌, ◌↔◌, IsTrue, length};
-ghost use Rattle.shared_book.specs.Receipts.{IsOfRecording, screen_of, size_of};
+ghost use Rattle.book_workers.specs.Receipts.{IsOfRecording, screen_of, size_of};
 
 use crate::facts::Facts;
 use crate::guest::Guest;
-use broadcast::Start;
+use book_workers::broadcast::Start;
+use book_workers::shared_book::Mark;
 use file_disk::LastError;
 use playing::Program;
 use reception::{Arrival, Backlog, Reason, Reception, Term};
 use rfb_wire::HostMessage;
 use serve_plan::Plan;
-use shared_book::Mark;
 use sockets::{Bell, Connection};
 use std::alloc::Global;
 use std::marker::PhantomData;

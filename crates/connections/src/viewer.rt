@@ -1,17 +1,17 @@
 //! A viewer, which two threads share.
 
 ghost use Rattle.std.specs.Prelude.{◌≡◌, ◌<◌, ◌≤◌, ◌^◌, ◌+◌, ◌-◌, IfSome, IsTrue, false, length, min, true};
-ghost use Rattle.shared_book.specs.Receipts.{IsOfSize, size_of};
+ghost use Rattle.book_workers.specs.Receipts.{IsOfSize, size_of};
 
 use crate::facts::Facts;
 use crate::guest::{Guest, VERSION, hear_version, say};
 use crate::limits::{ANSWER, BETWEEN_ORDERS, FAREWELL, HANDSHAKE, PARTING, PULSE};
 use crate::room::Room;
+use book_workers::replay::Slice;
+use book_workers::shared_book::{Mark, Shared};
 use carriage::{Carriage, Ending, Status};
 use disk::Disk;
-use replay::Slice;
 use rfb_wire::HostMessage;
-use shared_book::{Mark, Shared};
 use sockets::{Bell, Connection, Woken};
 use std::alloc::{AllocError, Global};
 use std::io;

@@ -1,7 +1,7 @@
 -- What a writer has been given, and which exports are refused before.
 use Rattle.std.specs.Prelude.{◌≡◌, ◌<◌, ◌≤◌, ◌⊎◌, ℕ, List, ◌++◌, length, Option}
 use Rattle.std.specs.Io.KnownBytes.{Appends}
-use Rattle.key_index.specs.Indexed.{Numbers, start_in}
+use Rattle.replay.specs.Indexed.{Numbers, start_in}
 
 -- a beginning of the text was written
 pub record WroteFront (old new : Option (List ℕ)) (text : List ℕ) : Type 0 where

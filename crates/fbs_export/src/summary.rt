@@ -1,6 +1,6 @@
 //! What a file says.
 
-use key_index::Stamped;
+use replay::key_index::Stamped;
 use std::marker::Model;
 use terms::ScreenSize;
 

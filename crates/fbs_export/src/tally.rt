@@ -5,7 +5,7 @@ ghost use Rattle.keyed_entries.specs.declared.entry.Stamped.{Stamped as Entry};
 ghost use Rattle.rfb_wire.specs.Host.{Host};
 ghost use Rattle.fbs_export.specs.Summary.{at_time};
 
-use key_index::Stamped;
+use replay::key_index::Stamped;
 use rfb_wire::HostMessage;
 use std::alloc::{AllocError, Global};
 use std::mem;

@@ -1,3 +1,4 @@
+pub use Rattle.rect_codec.specs.Picture as DataPicture
 pub mod Picture
 pub mod Pixels
 pub mod Areas

@@ -1,9 +1,9 @@
 //! The position at which viewers begin in a recording.
 
-use broadcast::Start;
 use connections::Beginning;
+use connections::broadcast::Start;
+use connections::flusher_core::Book;
 use disk::Disk;
-use flusher_core::Book;
 use gated_journal::ReadFault;
 use playing::Program;
 use serve_plan::{Origin, Plan};

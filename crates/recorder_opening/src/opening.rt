@@ -3,11 +3,11 @@
 use crate::beginning::beginning_of;
 use crate::reading::Reading;
 use crate::recording::{Found, OpenRecording};
-use broadcast::Desk;
+use connections::broadcast::Desk;
+use connections::flusher_core::Book;
 use connections::{Beginning, ConnectFault, Host, HostOnClock, Stopwatch};
 use disk::Disk;
 use file_disk::{FileDisk, LastError, Written};
-use flusher_core::Book;
 use gated_journal::Header;
 use recording_name::Identity;
 use refusals::{Refusal, Stopped};

@@ -5,8 +5,8 @@ ghost use Rattle.std.specs.Prelude.{◌≢◌, OnOk};
 use crate::draft::{CutOff, draft_path};
 use crate::opening::Opening;
 use block_walk::{hidden_after, read_header};
+use connections::flusher_core::Book;
 use file_disk::{FileDisk, LastError, LockedFile, OsFolder, Written};
-use flusher_core::Book;
 use gated_journal::{CreateFault, Header};
 use key_index::IndexFault;
 use recording_name::{

@@ -1,8 +1,8 @@
 //! Who comes before the recording is open.
 
 use crate::viewer_stream::ViewerStream;
-use connections::Guest;
 use std::net::SocketAddr;
+use watching::connections::Guest;
 
 /// One who came while the recording was read, and the address that it came from. The handshake is
 /// whole, or goes on.

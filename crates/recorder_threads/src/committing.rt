@@ -2,13 +2,13 @@
 
 ghost use Rattle.std.specs.Prelude.{◌≡◌};
 
-use book_workers::ReceiptSink;
-use connections::Room;
-use shared_book::{Mark, Receipt};
 use std::mem;
 use std::sync::Wait;
 use std::time::{Clock, Instant};
 use telling::Event;
+use watching::book_workers::ReceiptSink;
+use watching::connections::Room;
+use watching::shared_book::{Mark, Receipt};
 
 /// After how many seconds what was recorded is told of.
 const MINUTE: u64 = 60;

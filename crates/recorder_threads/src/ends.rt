@@ -3,10 +3,10 @@
 ghost use Rattle.std.specs.Prelude.{◌≡◌, ℕ, None, Some, IfErr, OnOk, OnErr, not, true, false};
 ghost use Rattle.host_session.specs.declared.fault.HostFault.{HostFault};
 
-use book_workers::FlusherEnd;
-use flusher_core::HostRefusal;
 use host_stream::HostEnd;
 use refusals::Refusal;
+use watching::book_workers::FlusherEnd;
+use watching::flusher_core::HostRefusal;
 
 /// How each part of a recorder ended.
 #[derive(Clone, Copy, Debug, PartialEq, Eq)]

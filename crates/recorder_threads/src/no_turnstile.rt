@@ -1,6 +1,6 @@
 //! What the program has instead of a turnstile, which only tests look into.
 
-use book_workers::{Point, Turnstile};
+use watching::book_workers::{Point, Turnstile};
 
 /// Holds no worker.
 #[derive(Drop)]

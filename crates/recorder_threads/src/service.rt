@@ -7,14 +7,10 @@ use crate::ends::{Ends, first_refusal, is_end_of_host};
 use crate::no_turnstile::NoTurnstile;
 use crate::refusing::refuse;
 use crate::work::Work;
-use book_workers::{FlusherEnd, run_flusher, run_host};
-use connections::{HostOnClock, Messages, Room};
 use disk::Disk;
-use flusher_core::HostRefusal;
 use host_stream::HostEnd;
 use reception::Stop;
 use refusals::{Refusal, Stopped};
-use shared_book::{FlusherPen, HostPen, Mark, Shared};
 use sockets::{Listeners, Woken, wait_for_stop};
 use std::io::Write;
 use std::net::{Shutdown, TcpStream};
@@ -23,6 +19,10 @@ use std::thread::{JoinHandle, Scope, Threads};
 use std::time::{Clock, Duration};
 use std::{io, thread};
 use telling::{Event, Silence};
+use watching::book_workers::{FlusherEnd, run_flusher, run_host};
+use watching::connections::{HostOnClock, Messages, Room};
+use watching::flusher_core::HostRefusal;
+use watching::shared_book::{FlusherPen, HostPen, Mark, Shared};
 
 /// What the threads of a recorder share.
 #[derive(Drop)]

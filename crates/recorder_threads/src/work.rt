@@ -1,9 +1,9 @@
 //! What the threads of a recorder begin with.
 
 use crate::comer::Comer;
-use connections::HostOnClock;
 use reception::Stop;
-use shared_book::{FlusherPen, HostPen, Mark};
+use watching::connections::HostOnClock;
+use watching::shared_book::{FlusherPen, HostPen, Mark};
 
 /// What is there once a recording is open: the host, if there is one, the rights to hand in messages
 /// and to commit them, those who came already, and what ends the recorder.

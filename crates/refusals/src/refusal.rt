@@ -8,11 +8,11 @@ use crate::digest_fault::DigestFault;
 use crate::name::{Detail, Name};
 use fbs_export::{ExportFault, FbsFault};
 use flusher_core::HostRefusal;
+use flusher_core::replay::ReplayFault;
 use gated_journal::{CreateFault, OpenFault, ReadFault};
 use host_session::HostFault;
 use key_index::IndexFault;
 use migration::MigrateFault;
-use replay::ReplayFault;
 use salvage::SalvageFault;
 use thiserror::Error;
 

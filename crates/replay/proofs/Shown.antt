@@ -3,8 +3,8 @@ use Rattle.std.proofs.Common.{◌≡◌, ℕ, zero, suc, ◌+◌, List, [], ◌�
 use Rattle.std.specs.List.{slice_get}
 use Rattle.std.proofs.lemmas.List.{map-append}
 use Rattle.gated_journal.specs.Recording.{Head}
-use Rattle.rfb_wire.specs.Host.{Host}
-use Rattle.painter.specs.Framebuffer.{Framebuffer, SameSize, Shows}
+use Rattle.keyed_entries.specs.Host.{Host}
+use Rattle.keyed_entries.specs.Framebuffer.{Framebuffer, SameSize, Shows}
 use Rattle.keyed_entries.specs.declared.entry.Stamped.{Stamped}
 use Rattle.keyed_entries.specs.Entry.{message_of, hosts_of}
 use Rattle.keyed_entries.proofs.Painting.{shown_more}

@@ -1,7 +1,7 @@
 -- The screens of a recording.
 use Rattle.std.specs.Prelude.{◌≡◌, ℕ, List, take}
 use Rattle.gated_journal.specs.Recording.{Head}
-use Rattle.painter.specs.Framebuffer.{Framebuffer, Shows}
+use Rattle.keyed_entries.specs.Framebuffer.{Framebuffer, Shows}
 use Rattle.keyed_entries.specs.declared.entry.Stamped.{Stamped}
 use Rattle.keyed_entries.specs.Entry.{hosts_of}
 

@@ -9,6 +9,7 @@ mod screens;
 mod slice;
 
 pub use fault::{OutputFault, ReplayFault};
+pub use key_index;
 pub use moment::count_at;
 pub use playing::{Replay, from_block, from_count};
 pub use screens::screen_at;

@@ -2,8 +2,8 @@
 
 ghost use Rattle.std.specs.Prelude.{◌<◌, ◌^◌, length};
 
-use connections::{Greeting, Guest, Hall};
 use reception::Arrival;
+use recorder_threads::connections::{Greeting, Guest, Hall};
 use recorder_threads::{Comer, ViewerStream, accept_until_rung};
 use sockets::Bell;
 use std::alloc::Global;

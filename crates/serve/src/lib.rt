@@ -4,4 +4,5 @@
 mod greeter;
 mod serving;
 
+pub use recorder_opening;
 pub use serving::{serve, serve_on};

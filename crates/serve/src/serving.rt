@@ -4,14 +4,14 @@ ghost use Rattle.std.specs.Prelude.{◌≡◌};
 ghost use Rattle.flusher_core.specs.State.{accepted_count};
 
 use crate::greeter::{Door, Greeter};
-use connections::{Device, Hall, Room};
 use file_disk::{LastError, Written};
 use libc::STDERR_FILENO;
 use recorder_opening::{Begun, Listened, Opened, Opening, Reading, Source, is_still_at};
+use recorder_threads::connections::{Device, Hall, Room};
+use recorder_threads::refusals::{Refusal, Stopped};
+use recorder_threads::shared_book::{Mark, Shared, Sharing, Token};
 use recorder_threads::{Comer, Doors, Service, Work, refuse, run_threads};
-use refusals::{Refusal, Stopped};
 use serve_plan::{Origin, Plan};
-use shared_book::{Mark, Shared, Sharing, Token};
 use sockets::{Bell, Listeners, listen_at};
 use std::fmt::Display;
 use std::fs::File;

@@ -7,7 +7,9 @@ mod receipt;
 mod shared;
 
 pub use book_tokens::{Mark, Token};
+pub use broadcast;
 pub use closed::Closed;
+pub use flusher_core;
 pub use held::Held;
 pub use receipt::{Ending, FlusherPen, HostPen, Part, Receipt, Ticket};
 pub use shared::{Shared, Sharing};

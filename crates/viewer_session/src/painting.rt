@@ -9,8 +9,8 @@ ghost use Rattle.viewer_session.specs.declared.copies.KeptCopy.{KeptCopy as Kept
 
 use crate::copies::KeptCopy;
 use crate::view::View;
-use key_index::Stamped;
 use rect_data::Encoding;
+use replay::key_index::Stamped;
 use rfb_wire::{HostMessage, Rectangle};
 
 impl View {

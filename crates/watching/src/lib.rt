@@ -8,6 +8,8 @@ mod still;
 mod viewing;
 mod watching;
 
+pub use connections;
+pub use connections::{book_workers, broadcast, flusher_core, shared_book};
 pub use live::Live;
 pub use played::Played;
 pub use still::Still;

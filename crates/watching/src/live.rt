@@ -2,10 +2,10 @@
 
 use crate::viewing::Viewing;
 use crate::watching::Guide;
-use book_workers::ViewerWish;
-use broadcast::Start;
 use connections::Room;
-use shared_book::Mark;
+use connections::book_workers::ViewerWish;
+use connections::broadcast::Start;
+use connections::shared_book::Mark;
 use showing::{Begins, Next, Situation};
 use sockets::Connection;
 use std::sync::Wait;

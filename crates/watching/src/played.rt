@@ -2,9 +2,9 @@
 
 use crate::viewing::Viewing;
 use crate::watching::Guide;
-use book_workers::ViewerWish;
+use connections::book_workers::ViewerWish;
+use connections::shared_book::Mark;
 use playing::{Program, Timetable};
-use shared_book::Mark;
 use showing::{Next, Playback};
 use sockets::Connection;
 use std::sync::Wait;

@@ -2,7 +2,7 @@
 
 use crate::viewing::Viewing;
 use crate::watching::Guide;
-use shared_book::Mark;
+use connections::shared_book::Mark;
 use showing::{Next, Stillness};
 use sockets::Connection;
 use std::sync::Wait;

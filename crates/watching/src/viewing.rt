@@ -1,13 +1,13 @@
 //! A viewer's position in a recording.
 
 ghost use Rattle.std.specs.Prelude.{◌≡◌, ◌↔◌, ◌<◌, ◌^◌, ◌+◌, IsTrue, length, false, true};
-ghost use Rattle.shared_book.specs.Receipts.{IsOfSize, size_of};
+ghost use Rattle.connections.specs.Receipts.{IsOfSize, size_of};
 
 use crate::failure::{AfterFailure, after_failure};
-use book_workers::ViewerWish;
+use connections::book_workers::ViewerWish;
+use connections::replay::Slice;
+use connections::shared_book::Mark;
 use connections::{Room, Viewer};
-use replay::Slice;
-use shared_book::Mark;
 use showing::Next;
 use sockets::Connection;
 use std::sync::Wait;

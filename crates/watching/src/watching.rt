@@ -1,14 +1,14 @@
 //! A viewer's worker's sink, whatever decides what is shown when.
 
 ghost use Rattle.std.specs.Prelude.{◌≡◌, true};
-ghost use Rattle.shared_book.specs.Receipts.{size_of};
-ghost use Rattle.book_workers.specs.Wishes.{fresh_after, position_after};
+ghost use Rattle.connections.specs.Receipts.{size_of};
+ghost use Rattle.connections.specs.Wishes.{fresh_after, position_after};
 
 use crate::viewing::Viewing;
-use book_workers::{ViewerSink, ViewerWish};
+use connections::book_workers::{ViewerSink, ViewerWish};
+use connections::replay::Slice;
+use connections::shared_book::{Ending, Mark, Receipt};
 use connections::{Room, Viewer};
-use replay::Slice;
-use shared_book::{Ending, Mark, Receipt};
 use showing::Next;
 use sockets::Connection;
 use std::sync::Wait;
@@ -106,7 +106,7 @@ impl<'a, M: Mark, C: Connection, R: Clock + Wait, G: Guide<M, C, R>> ViewerSink<
     Receipt<M>,
     Ending<M>,
 > for Watching<'a, M, C, R, G> {
-    ghost use Rattle.shared_book.specs.Receipts.{size_of};
+    ghost use Rattle.connections.specs.Receipts.{size_of};
 
     ghost is_modelled = { ⊥ };
 

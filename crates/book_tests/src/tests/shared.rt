@@ -6,9 +6,9 @@ mod parallel;
 mod row;
 mod twins;
 
+use book_workers::shared_book::{Closed, Mark, Receipt, Ticket};
 use disk::Disk;
 use gated_journal::ReadFault;
-use shared_book::{Closed, Mark, Receipt, Ticket};
 use std::process::Abort;
 
 /// An update that paints the one pixel red.

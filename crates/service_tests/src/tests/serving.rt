@@ -45,9 +45,9 @@ mod peers;
 mod recordings;
 mod viewers;
 
-use file_commands::{FileCommand, run};
+use browse::file_commands::{FileCommand, run};
 use file_disk::Progress;
-use recorder_opening::Listened;
+use serve::recorder_opening::Listened;
 use serve::serve_on;
 use serve_plan::Plan;
 use std::fs::File;

@@ -9,6 +9,9 @@ ghost use Rattle.book_tests.specs.OnePixel.{IsOfOnePixel};
 
 use super::UPDATE;
 use crate::{ONE_PIXEL, desk_of_one_pixel};
+use book_workers::shared_book::{
+    Ending, FlusherPen, HostPen, Mark, Receipt, Shared, Sharing, Ticket, Token,
+};
 use book_workers::{
     FlusherEnd, HostSource, Point, ReceiptSink, Turnstile, ViewerSink, ViewerWish, run_flusher,
     run_host, run_viewer,
@@ -18,7 +21,6 @@ use disk::{Disk, MemoryDisk};
 use flusher_core::HostRefusal;
 use key_index::Stamped;
 use rfb_wire::HostMessage;
-use shared_book::{Ending, FlusherPen, HostPen, Mark, Receipt, Shared, Sharing, Ticket, Token};
 use std::alloc::{AllocError, Global};
 use std::marker::{Brand, Model};
 use std::process::Abort;

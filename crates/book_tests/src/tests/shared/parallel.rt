@@ -6,6 +6,9 @@ ghost use Rattle.book_tests.specs.OnePixel.{IsOfOnePixel};
 
 use super::{UPDATE, confirm, find};
 use crate::{ONE_PIXEL, desk_of_one_pixel};
+use book_workers::shared_book::{
+    Closed, Ending, FlusherPen, HostPen, Mark, Receipt, Shared, Sharing, Ticket, Token,
+};
 use book_workers::{
     FlusherEnd, HostSource, Point, ReceiptSink, Turnstile, ViewerEnd, ViewerSink, ViewerWish,
     run_flusher, run_host, run_viewer,
@@ -16,9 +19,6 @@ use flusher_core::{FlushRefusal, HostRefusal};
 use gated_journal::ReadFault;
 use key_index::Stamped;
 use rfb_wire::HostMessage;
-use shared_book::{
-    Closed, Ending, FlusherPen, HostPen, Mark, Receipt, Shared, Sharing, Ticket, Token,
-};
 use std::alloc::Global;
 use std::marker::Brand;
 use std::process::Abort;

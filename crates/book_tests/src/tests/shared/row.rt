@@ -6,12 +6,12 @@ ghost use Rattle.book_tests.specs.OnePixel.{IsOfOnePixel};
 
 use super::UPDATE;
 use crate::{ONE_PIXEL, desk_of_one_pixel};
+use book_workers::shared_book::{Mark, Shared, Sharing, Token};
 use broadcast::{Desk, Start};
 use disk::{Disk, MemoryDisk};
 use flusher_core::BlockStart;
 use pixel_format::Color;
 use rfb_wire::HostMessage;
-use shared_book::{Mark, Shared, Sharing, Token};
 use std::alloc::Global;
 use std::marker::Brand;
 use std::process::Abort;

@@ -2,7 +2,7 @@ use Rattle.std.proofs.Common.{ℕ, List, sym, subst, ◌∙◌}
 use Rattle.std.specs.Io.KnownBytes.{Appends}
 use Rattle.std.proofs.KnownBytes.{Appends-trans}
 use Rattle.keyed_entries.specs.Entry.{messages_in}
-use Rattle.key_index.specs.Indexed.{start_in}
+use Rattle.replay.specs.Indexed.{start_in}
 use Rattle.keyed_entries.specs.declared.entry.Stamped.{Stamped}
 use Rattle.painter.specs.Framebuffer.{color_at}
 use Rattle.replay.specs.Screens.{IsScreenAt}

@@ -7,8 +7,8 @@ use super::peers::{
 use crate::plan_of;
 use live_page::{PAGE, SCRIPT, STYLE};
 use reception::Stop;
-use recorder_opening::Listened;
 use screen_script::PAINTER;
+use serve::recorder_opening::Listened;
 use serve_plan::{Audience, Origin, Plan};
 use std::alloc::Global;
 use std::fs;

@@ -1,6 +1,6 @@
 use Rattle.std.proofs.Common.{◌≡◌, ℕ, suc, ◌<◌, List, [], ◌∷◌, ◌++◌, length, sym, subst, vec_len, arith}
 use Rattle.keyed_entries.specs.declared.entry.Stamped.{Stamped}
-use Rattle.shared_book.specs.Receipts.{Accepted}
+use Rattle.book_workers.specs.Receipts.{Accepted}
 use Rattle.book_workers.specs.Accounts.{Account, AreTicketsFor, IsSettled, after_ticket}
 use Rattle.book_tests.proofs.tests.shared.accounts.ScriptHostSourceTicket.accepted.Goals as goal
 
