@@ -14,6 +14,8 @@ What tries the page steers it by GET, and each is answered in JSON:
     /mock/log                         what came: connections, orders, requests, and how many answers
     /mock/quiet, /mock/busy           the host sends nothing; it sends again
     /mock/end                         the host ends
+    /mock/crowd?seconds=S             who asks what came when isn't answered for S seconds, but closed at once
+    /mock/search?seconds=S            for S seconds what is to be shown next is searched for: no updates
     /mock/cut?seconds=S               each connection breaks off, and none is taken for S seconds
     /mock/stall?seconds=S             nothing is answered, and nothing breaks off, for S seconds
     /mock/close?code=C&reason=TEXT    the viewers are closed
@@ -54,7 +56,7 @@ FILES = {"/": ("live_page/src/page.rt", "PAGE", "text/html; charset=utf-8"),
 RATE, PAST_RATE = 10, 5
 BLOCK, KEY, MOST_STRETCHES, MOST_MERGED = 4, 32, 100, 64
 # How often is told by itself how the session stands, in seconds: at most, and at least.
-NEWS, PULSE = 1, 15
+NEWS, PULSE = 1, 5
 NAME = "<b>&name"
 # What the page must ask for: 32 bits, the lowest byte first, red in the lowest one.
 FORMAT = bytes([0, 0, 0, 0, 32, 24, 0, 1, 0, 255, 0, 255, 0, 255, 0, 8, 16, 0, 0, 0])
@@ -260,7 +262,7 @@ class World:
     def __init__(self, recording, is_slow):
         self.recording, self.is_slow = recording, is_slow
         self.is_quiet = False
-        self.cut_until = self.stalled_until = 0
+        self.cut_until = self.stalled_until = self.crowded_until = self.searching_until = 0
         self.refusal = None
         self.watched, self.orders, self.requests, self.answers, self.looks = [], [], 0, 0, 0
 
@@ -294,9 +296,10 @@ class Viewer:
         self.pace, self.longest_pause, self.orders = 1.0, None, 0
         self.told, self.told_at = None, 0
         self.mode, self.time, self.begun = "live", 0, time.monotonic()
+        self.each_until = 0
         self.closing, self.is_gone, self.input = None, False, b""
         if "message" in asked:
-            self.mode, self.position = "message", int(asked["message"])
+            self.mode, self.position, self.each_until = "message", int(asked["message"]), len(self.recording.times)
         elif "pace" in asked:
             self.pace = int(asked["pace"]) / 1000
             self.longest_pause = int(asked["longest-pause"]) if "longest-pause" in asked else None
@@ -324,15 +327,16 @@ class Viewer:
 
     def due(self):
         """How many messages are to be shown, or None."""
-        if not self.is_requested or time.monotonic() < self.world.stalled_until:
+        now = time.monotonic()
+        if not self.is_requested or now < max(self.world.stalled_until, self.world.searching_until):
             return None
         count = self.count()
         return count if self.needs_whole or self.position < count <= len(self.recording.times) else None
 
     def count(self):
-        if self.mode == "message":
+        if self.mode == "message" and (self.needs_whole or self.position < self.each_until):
             return self.position + (0 if self.needs_whole else 1)
-        if self.mode == "live":
+        if self.mode in ("live", "message"):
             return len(self.recording.times)
         if self.mode == "still":
             return self.recording.count_at(self.time) if self.needs_whole else self.position
@@ -398,10 +402,20 @@ class Viewer:
         if update:
             self.write_pieces(update)
 
-    def greet(self):
+    def hear_version(self):
         self.write_pieces(b"RFB 003.008\n")
         if self.take(12) != b"RFB 003.008\n":
             raise ValueError("another version")
+
+    def turn_away(self, code, reason):
+        """By no security type and a reason (RFC 6143, section 7.1.2), and by how it is closed."""
+        self.hear_version()
+        self.write_pieces(b"\0" + struct.pack(">I", len(reason)) + reason.encode())
+        self.write_close(code, reason)
+        time.sleep(0.3)
+
+    def greet(self):
+        self.hear_version()
         self.write_pieces(b"\1\1")
         self.take(1)
         self.write_pieces(bytes(4))
@@ -471,7 +485,8 @@ class Viewer:
             if name == "at":
                 self.begin("still" if self.mode == "still" else "played", value)
             elif name == "message":
-                self.mode, self.position, self.needs_whole = "message", value, True
+                self.mode, self.each_until, self.needs_whole = "message", len(self.recording.times), True
+                self.position = min(value, self.each_until)
             elif name == "live":
                 self.mode, self.time, self.needs_whole = "live", self.recording.length(), True
             elif name in ("pause", "pace", "longest-pause"):
@@ -529,6 +544,8 @@ class Handler(http.server.BaseHTTPRequestHandler):
         elif url.path in FILES:
             path, name, media = FILES[url.path]
             self.reply(constant(path, name).encode(), media)
+        elif url.path == "/times" and time.monotonic() < self.world.crowded_until:
+            self.close_connection = True
         elif url.path == "/times":
             with self.world.recording.changed:
                 self.world.looks += 1
@@ -550,9 +567,7 @@ class Handler(http.server.BaseHTTPRequestHandler):
         if viewer.position > len(viewer.recording.times):
             viewer.closing = 4004, "the recording has fewer messages"
         if refusal := self.world.refusal or viewer.closing:
-            viewer.write_close(*refusal)
-            time.sleep(0.3)
-            return
+            return viewer.turn_away(*refusal)
         self.world.recording.viewers.add(viewer)
         try:
             viewer.serve()
@@ -586,6 +601,12 @@ class Handler(http.server.BaseHTTPRequestHandler):
         for viewer in list(self.world.recording.viewers):
             viewer.is_gone = True
             viewer.connection.shutdown(socket.SHUT_RDWR)
+
+    def mock_crowd(self, asked):
+        self.world.crowded_until = time.monotonic() + float(asked["seconds"])
+
+    def mock_search(self, asked):
+        self.world.searching_until = time.monotonic() + float(asked["seconds"])
 
     def mock_stall(self, asked):
         self.world.stalled_until = time.monotonic() + float(asked["seconds"])

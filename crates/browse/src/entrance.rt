@@ -37,6 +37,7 @@ impl<'a, R: Threads + Clock + Wait + Sync> Entrance<'a, R> {
     fn take<'s, E>(&'s self, scope: &'s Scope<'s, E>, stream: TcpStream, from: SocketAddr) {
         let porch = self.keeper.porch;
         let Some((number, stream)) = porch.lobby.enter(porch.rt, porch.alloc, stream) else {
+            self.keeper.telling.tell(porch.rt, Event::Dropped(from));
             return;
         };
         if scope
@@ -44,6 +45,7 @@ impl<'a, R: Threads + Clock + Wait + Sync> Entrance<'a, R> {
             .is_err()
         {
             porch.lobby.leave(porch.rt, number);
+            self.keeper.telling.tell(porch.rt, Event::NoThread(from));
         }
     }
 

@@ -7,6 +7,9 @@ use std::mem;
 use std::sync::{Condvar, Mutex, Wait};
 use web_requests::Visit;
 
+/// As many visits may wait as there are seats.
+const MOST_WAITING: usize = 256;
+
 #[derive(Drop)]
 struct State {
     presence: Presence,
@@ -33,10 +36,11 @@ impl Handover {
         }
     }
 
-    /// Hands in a visit. It is given back if it is over, or memory runs out.
+    /// Hands in a visit. It is given back if it is over, if as many wait as there are seats, or if
+    /// memory runs out.
     pub fn receive<R: Wait>(&self, rt: &R, visit: Visit) -> Result<(), Visit> {
         let mut state = self.state.lock(rt);
-        if state.presence.is_over() {
+        if state.presence.is_over() || state.waiting.len() >= MOST_WAITING {
             return Err(visit);
         }
         if let Err(refused) = state.waiting.push_back(visit) {

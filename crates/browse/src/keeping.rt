@@ -20,7 +20,7 @@ use std::sync::{Arc, Wait};
 use std::thread;
 use std::thread::{Scope, Threads};
 use std::time::Clock;
-use telling::{Telling, Told};
+use telling::{Event, Telling, Told};
 use terms::Format;
 use web_requests::{Porch, Visit, Wish};
 
@@ -135,13 +135,14 @@ impl<'k, R: Threads + Clock + Wait + Sync> Keeper<'k, R> {
             let Some(visit) = visits.next(rt) else {
                 break;
             };
-            let (number, wish) = (visit.number, visit.wish);
+            let (number, wish, from) = (visit.number, visit.wish, visit.from);
             if scope
                 .spawn(move || self.attend(service, visits, visit))
                 .is_err()
             {
                 self.forget(number, wish);
                 visits.leave(rt);
+                self.telling.tell(rt, Event::NoThread(from));
             }
         }
         service.room.stop(rt);

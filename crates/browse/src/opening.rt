@@ -1,6 +1,5 @@
 //! The recording's file, opened for reading alone.
 
-use disk::Disk;
 use file_commands::{Ended, open_source};
 use file_disk::{FileDisk, LastError, OsFolder, Progress, Written};
 use flusher_core::Book;
@@ -11,6 +10,7 @@ use recording_bytes::OPEN_GATE;
 use recording_name::{Identity, SystemFolder};
 use std::alloc::AllocError;
 use std::fs::File;
+use std::os::unix::fs::FileExt;
 use std::rt::Files;
 
 /// The end of a recording: in which file, and at which offset the gate is that was closed there.
@@ -36,15 +36,13 @@ fn identity_at<R: AllocGlobal + Files<File = File>>(rt: &R, path: &str) -> Optio
     }
 }
 
-// Whether the gate at an offset is open.
+// Whether the gate at an offset is open. Nothing is synced to know it: what is opened for viewers is.
 fn is_open<R: AllocGlobal + Files<File = File>>(rt: &R, path: &str, gate: u64) -> bool {
     let Ok(file) = open_source(rt, path) else {
         return false;
     };
     let mut byte = [0u8; 1];
-    gate < u64::MAX
-        && FileDisk::to_read(rt, file).read_at(gate, &mut byte).is_ok()
-        && byte == [OPEN_GATE]
+    file.read_exact_at(&mut byte, gate).is_ok() && byte == [OPEN_GATE]
 }
 
 impl FileEnd {

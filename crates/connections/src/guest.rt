@@ -72,11 +72,13 @@ impl<C: Connection> Guest<C> {
         self.heard.words.clear();
         let is_carried = self.carriage.take(piece, &mut self.heard);
         let goes_on = self.session.feed(&self.heard.payload).is_ok() && is_carried;
-        let mut due = Vec::new(self.alloc);
-        self.session.answer(&mut due)?;
         let mut out = Vec::new(self.alloc);
         out.append(&mut self.heard.replies)?;
-        self.carriage.wrap(&mut due, &mut out)?;
+        if is_carried {
+            let mut due = Vec::new(self.alloc);
+            self.session.answer(&mut due)?;
+            self.carriage.wrap(&mut due, &mut out)?;
+        }
         self.connection.write_within(rt, &out, HANDSHAKE)?;
         Ok(goes_on)
     }

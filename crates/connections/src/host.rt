@@ -18,9 +18,9 @@ use rfb_wire::HostMessage;
 use sockets::{pause, time_left, watch_over, write_within};
 use std::alloc::{AllocError, Global};
 use std::marker::Model;
-use std::net::{Net, Shutdown, TcpStream};
+use std::net::{Net, Shutdown, TcpStream, ToSocketAddrs};
 use std::sync::{Mutex, Wait};
-use std::time::{Clock, Instant};
+use std::time::{Clock, Duration, Instant};
 use std::{io, thread};
 use telling::{Event, Telling};
 use terms::{Format, ScreenSize};
@@ -32,12 +32,24 @@ const PIECE: usize = 1 << 16;
 /// Why there is no connection to a host.
 #[derive(Clone, Copy, Debug, PartialEq, Eq, Error)]
 pub enum ConnectFault {
-    /// It can't be reached, broke off, or was silent for 30 seconds in its handshake.
+    /// It can't be reached within 30 seconds, broke off, or was silent for as long in its handshake.
     #[error("the host isn't reached")]
     Socket,
     /// It sent a fault in its handshake, or is of another size.
     #[error("{0}")]
     Host(#[source] HostFault),
+}
+
+// A socket to the first of a host's addresses that can be reached, each within 30 seconds.
+fn reach<R: Net<Stream = TcpStream>>(rt: &R, address: &str) -> io::Result<TcpStream> {
+    let mut last = io::ErrorKind::AddrNotAvailable.into();
+    for found in address.to_socket_addrs(rt)? {
+        match TcpStream::connect_timeout(rt, &found, Duration::from_secs(HANDSHAKE)) {
+            Ok(socket) => return Ok(socket),
+            Err(error) => last = error,
+        }
+    }
+    Err(last)
 }
 
 /// A connection to a host: its socket, and what has come of its stream, which contracts see.
@@ -73,7 +85,7 @@ impl Host {
         ensures format { IfOk result (λ host. host.session.format ≡ format) }
         ensures expected { IfOk result (λ host. host.session.expected ≡ expected) }
     {
-        let socket = match TcpStream::connect(rt, address) {
+        let socket = match reach(rt, address) {
             Ok(socket) => socket,
             Err(error) => {
                 telling.tell_failure(rt, "connect to host", address, &error);

@@ -16,8 +16,9 @@ pub const REQUEST: u64 = 30;
 pub const FAREWELL: u64 = 10;
 
 /// After how many seconds without an update a viewer in a browser is told how the session stands, so
-/// that it, and what lies between, knows that the connection is there.
-pub const PULSE: u64 = 15;
+/// that it, and what lies between, knows that the connection is there; also one for which the recording
+/// is still searched for what it asked for.
+pub const PULSE: u64 = 5;
 
 /// How many milliseconds lie between two orders of a viewer that are obeyed: each reads the recording
 /// and wakes all others, so many orders cost them little.

@@ -186,19 +186,21 @@ impl<M: Mark> Talk<M> {
         is_obeyed && self.shows_from <= self.session.position()
     }
 
-    // Writes what is due, with an update if one is, within the time that an answer may take.
+    // Writes what is due, with an update if one is and the viewer goes on, within the time that an
+    // answer may take.
     fn answer<C: Connection, R: Clock + Wait>(
         &mut self,
         rt: &R,
         connection: &C,
         room: &Room<M>,
+        goes_on: bool,
     ) -> io::Result<()>
         ensures not_yet { self.old.session.view.position < self.old.shows_from → self.new.session ≡ self.old.session }
         ensures not_obeyed { (IfSome self.old.course (λ course. course.stage ≡ Stage.Obeyed) → ⊥) → self.new.session ≡ self.old.session }
     {
         let mut out = Vec::new(room.alloc);
         out.append(&mut self.heard.replies)?;
-        if self.is_there() {
+        if goes_on && self.is_there() {
             let mut due = Vec::new(room.alloc);
             let is_asked = self.session.wants();
             self.session.answer(&mut due)?;
@@ -269,14 +271,9 @@ impl<M: Mark> Talk<M> {
         self.lacks_all
     }
 
-    // Whether the viewer asks for what changes next, so that it was shown all that there is.
-    fn is_shown(&self) -> bool {
-        self.session.wants()
-    }
-
-    // Whether the viewer was shown what it has, also if it asks for nothing now.
+    // Whether the viewer was shown what it has: it was sent that, or asks for what changes next.
     fn was_shown(&self) -> bool {
-        self.is_answered || self.is_shown()
+        self.is_answered || self.session.wants()
     }
 
     // What is to be known of the viewer to decide what it is shown next.
@@ -409,7 +406,7 @@ impl<M: Mark, C: Connection> Viewer<M, C> {
     {
         let mut talk = self.talk.lock(rt);
         let is_shown = talk.advance(slice, &room.facts)
-            && talk.answer(rt, &self.connection, room).is_ok();
+            && talk.answer(rt, &self.connection, room, true).is_ok();
         drop(talk);
         if !is_shown {
             self.leave(rt);
@@ -423,7 +420,7 @@ impl<M: Mark, C: Connection> Viewer<M, C> {
             rt,
             self.talk.lock(rt),
             Duration::from_secs(FAREWELL),
-            |talk| !talk.is_shown() && !self.is_over(),
+            |talk| !talk.session.wants() && !self.is_over(),
         );
     }
 
@@ -457,7 +454,9 @@ impl<M: Mark, C: Connection> Viewer<M, C> {
     fn hear<R: Clock + Wait>(&self, rt: &R, piece: &[u8], room: &Room<M>) -> Heeded {
         let mut talk = self.talk.lock(rt);
         let heeded = talk.feed(piece, &room.facts);
-        let is_answered = talk.answer(rt, &self.connection, room).is_ok();
+        // Who has ended, or has to, is told that, and nothing after it.
+        let goes_on = heeded != Heeded::Over;
+        let is_answered = talk.answer(rt, &self.connection, room, goes_on).is_ok();
         drop(talk);
         self.changed.notify_all();
         if is_answered { heeded } else { Heeded::Over }

@@ -116,6 +116,7 @@ impl HostStream {
         ensures closed { (unfinished : ℕ) → self.new.end ≡ Some (HostEnd.Closed unfinished) → IsAtEnd (S.remaining source.new) }
         ensures unfinished { (unfinished : ℕ) → self.new.end ≡ Some (HostEnd.Closed unfinished) → unfinished ≡ unfinished_in self.new.session.reader }
         ensures broken { OnErr result (self.new.end ≡ Some HostEnd.Socket) }
+        ensures sound { OnOk result (self.new.end ≢ Some HostEnd.Socket) }
         ensures same { IsForSame self.old.session self.new.session }
     {
         let count = match source.read(buffer) {

@@ -87,7 +87,7 @@ const FORMAT = [32, 24, 0, 1, 0, 255, 0, 255, 0, 255, 0, 8, 16, 0, 0, 0];
 const ENCODINGS = [1, 5, 2, 0];
 
 // How long an answer may take, and how long nothing may come, in milliseconds: the recorder tells how
-// the session stands each 15 seconds at least.
+// the session stands each 5 seconds at least, also while it looks for what it is to show.
 const LONGEST_ANSWER = 10000, LONGEST_SILENCE = 40000;
 
 // What the page asks for. Browsers refuse addresses with the name and password by which the page itself may
@@ -161,9 +161,11 @@ class Session {
     this.askedAt = performance.now();
   }
   // Whether the connection is lost, whatever the browser says: an answer that must come, or any sign
-  // of life, has taken too long. An update needn't come while the host is quiet.
+  // of life, has taken too long. An update needn't come while the host is quiet, nor a greeting while
+  // the recording is opened.
   get isOverdue() {
-    const isDue = !this.painter || this.isAsked && (!this.hasPainted || this.obeyed < this.orders);
+    const isConnecting = this.socket.readyState === WebSocket.CONNECTING;
+    const isDue = isConnecting || this.isAsked && (!this.hasPainted || this.obeyed < this.orders);
     const longest = isDue ? LONGEST_ANSWER : LONGEST_SILENCE;
     return !this.isOver && performance.now() > Math.max(this.heardAt, this.askedAt) + longest;
   }
@@ -206,7 +208,8 @@ class Session {
     this.send(...new TextEncoder().encode('RFB 003.008\n'));
     while (input.left < 1) yield;
     const types = input.u8();
-    if (types === 0) throw new Error(yield* this.text());
+    // Who is turned away is told so once more, by how the connection is closed.
+    while (types === 0) yield;
     while (input.left < types) yield;
     input.take(types);
     this.send(1);
@@ -334,6 +337,9 @@ class Player {
     // moment to ask for after it.
     this.sought = null;
     this.wanted = null;
+    // How long the recording was when it was last asked for a message: what comes later isn't shown
+    // change by change, until it is asked for.
+    this.steppedTo = 0;
   }
 
   // -- Connections.
@@ -395,6 +401,7 @@ class Player {
     say('facts', `${painter.width} by ${painter.height} pixels`);
   }
   heard({ length, watching, ended }) {
+    if (length < this.length) this.overview.forget();
     this.length = length;
     say('watching', watching === 1 ? '1 viewer' : watching + ' viewers');
     const wasEnded = this.hasEnded;
@@ -527,16 +534,18 @@ class Player {
   change(isNext) {
     const { session, shown } = this;
     if (!session.hasPainted || this.sought) return;
-    if (isNext ? this.isLive || shown.time >= this.length : shown.message <= 1) return;
+    const isAtEnd = shown.time >= this.length;
+    if (isNext ? this.isLive || isAtEnd && !this.hasEnded : shown.message <= 1) return;
     this.isLive = false;
     this.isPaused = true;
-    if (isNext && session.mode === 'stepped') session.ask();
+    if (isNext && session.mode === 'stepped' && (isAtEnd || shown.time < this.steppedTo)) session.ask();
     else this.step(shown.message + (isNext ? 1 : -1));
     showState(this);
   }
   step(message) {
     this.session.mode = 'stepped';
     this.session.order({ message });
+    this.steppedTo = this.length;
     this.sought = { moment: null, orders: this.session.orders };
   }
   acted() {
@@ -568,7 +577,7 @@ function showClock({ moment, length, isLive, hasEnded, isDragged }) {
 
 // A recording that is no session any more when the page is opened may still be written by another recorder.
 function endOf({ hasEnded, isRecorded }) {
-  return !hasEnded ? '' : isRecorded ? '. Not live.' : '. The host has ended.';
+  return !hasEnded ? '' : isRecorded ? '. Not live.' : '. Nothing more is recorded.';
 }
 
 function showState(player) {
@@ -602,14 +611,18 @@ const timesFrom = (block, every) =>
 // How many updates came when, over the whole recording: in each of as many milliseconds as `every`.
 class Overview {
   constructor() {
+    this.forget();
+    this.lookedAt = -LOOK;
+    this.isFollowing = false;
+  }
+  // Begins anew: with another recording, after a connection to another recorder.
+  forget() {
     this.counts = new Float64Array(PARTS);
     this.every = SHORTEST_PART;
-    // The block that is asked for next; how long the recording was when that was asked last, and when.
+    // The block that is asked for next; how long the recording was when that was asked last, and is.
     this.next = 0;
     this.seen = -1;
-    this.lookedAt = -LOOK;
     this.length = 0;
-    this.isFollowing = false;
   }
   // Looks for what came since, until it has seen a recording that is so long.
   async follow(length, player) {
@@ -622,14 +635,16 @@ class Overview {
     }
     this.isFollowing = false;
   }
-  // Whether that was told. If there was no answer, the connection may be lost.
+  // Whether that was told. If there was no answer, the connection may be lost; not if it was refused,
+  // as it is while as many ask as are answered at a time.
   async look(player) {
     const began = this.lookedAt = performance.now();
     try {
       await this.load();
       return true;
     } catch (error) {
-      if (error instanceof Refusal) complain('times', error.message); else player.missed(began);
+      if (error instanceof Refusal) complain('times', error.message);
+      else if (error.name === 'TimeoutError') player.missed(began);
       return false;
     }
   }
@@ -637,10 +652,12 @@ class Overview {
   // the same parts.
   async load() {
     if (this.next === 0) this.every = Math.max(SHORTEST_PART, Math.ceil(this.length / FIRST_PARTS));
+    const { counts } = this;
     for (let isWhole = false; !isWhole;) {
       const answer = await timesFrom(this.next, this.every);
       if (!answer.ok) throw new Refusal(`What came when isn't known: ${(await answer.text()).trim()}.`);
       const { messages, length, stretches, next } = await answer.json(), last = stretches.at(-1);
+      if (counts !== this.counts) return;
       stretches.forEach(({ time, updates }) => this.count(time, updates));
       this.next = next;
       this.seen = Math.max(this.seen, length);

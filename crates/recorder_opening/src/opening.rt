@@ -227,7 +227,13 @@ impl<
         let OpenRecording { mut book, identity } = self.recording(found, host.as_deref())?;
         self.tell_position(&book);
         let source = self.source(host, book.last_time())?;
-        let beginning = beginning_of(&mut book, self.plan).map_err(Refusal::from)?;
+        let beginning = match beginning_of(&mut book, self.plan) {
+            Ok(beginning) => beginning,
+            Err(fault) => {
+                self.tell_last_error("read", self.plan.file);
+                return Err(Refusal::from(fault).into());
+            }
+        };
         let alloc = self.rt.alloc();
         let opened = Opened {
             desk: desk_over(alloc, book)?,

@@ -125,8 +125,8 @@ impl<'a, R: AllocGlobal + Clock + Eprint + Files<File = File> + Wait> Opening<'a
         }
     }
 
-    // Tells what the device said last, if it said anything.
-    fn tell_last_error(&self, operation: &str, path: &str) {
+    /// Tells what the device said last, if it said anything.
+    pub fn tell_last_error(&self, operation: &str, path: &str) {
         if let Some(error) = self.last_error.get() {
             self.telling.tell_failure(self.rt, operation, path, &error);
         }
@@ -140,10 +140,16 @@ impl<'a, R: AllocGlobal + Clock + Eprint + Files<File = File> + Wait> Opening<'a
     // The header of the recording in a file of this length.
     fn header_of(&self, file: &LockedFile, length: u64) -> Result<Header, Refusal> {
         let again = self.again(file)?;
-        let mut disk = FileDisk::to_read(self.rt, again);
+        let (last_error, written) = self
+            .notes()
+            .ok_or(Refusal::Recording(IndexFault::NoMemory))?;
+        let mut disk = FileDisk::to_read(self.rt, again).noting(last_error, written);
         match read_header(self.rt.alloc(), &mut disk, length) {
             Ok(header) => Ok(header),
-            Err(fault) => Err(Refusal::Recording(IndexFault::Journal(fault))),
+            Err(fault) => {
+                self.tell_last_error("read", self.plan.file);
+                Err(Refusal::Recording(IndexFault::Journal(fault)))
+            }
         }
     }
 
@@ -186,10 +192,19 @@ impl<'a, R: AllocGlobal + Clock + Eprint + Files<File = File> + Wait> Opening<'a
     // Refuses a recording that was longer once: after the closed gate at its end more blocks go on
     // with its digests than a crash leaves there. What is recorded next would be written over them.
     fn demand_end(&self, book: &Book<FileDisk>, file: File) -> Result<(), Refusal> {
-        let mut disk = FileDisk::to_read(self.rt, file);
+        let (last_error, written) = self
+            .notes()
+            .ok_or(Refusal::Recording(IndexFault::NoMemory))?;
+        let mut disk = FileDisk::to_read(self.rt, file).noting(last_error, written);
         let gate = book.end().saturating_sub(1);
         let last = book.last_digest();
-        let hidden = hidden_after(self.rt.alloc(), &mut disk, book.header(), &last, gate)?;
+        let hidden = match hidden_after(self.rt.alloc(), &mut disk, book.header(), &last, gate) {
+            Ok(hidden) => hidden,
+            Err(fault) => {
+                self.tell_last_error("read", self.plan.file);
+                return Err(fault.into());
+            }
+        };
         if hidden.blocks > LEFT_BY_CRASH {
             self.telling.tell(self.rt, Event::Hidden(hidden.blocks));
             return Err(Refusal::Hidden);

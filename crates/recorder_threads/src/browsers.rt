@@ -92,14 +92,14 @@ impl<'a, D: Disk + Send, M: Mark + Send + Sync, R: Threads + Clock + Wait + Sync
     // Attends to a viewer in a browser, whose upgrade was answered.
     fn attend_browser(&self, stream: Arc<TcpStream>, from: SocketAddr, beginning: Beginning) {
         let room = self.room;
+        let Some(pace) = Pace::from_thousandths(AS_IT_HAPPENED) else {
+            return;
+        };
         let arrival = room.hall.arrive(self.rt);
         if arrival == Arrival::Dropped {
             room.telling.tell(self.rt, Event::Dropped(from));
             return;
         }
-        let Some(pace) = Pace::from_thousandths(AS_IT_HAPPENED) else {
-            return;
-        };
         let course = Course::of(Steering::of(beginning, pace), room.facts.length());
         self.attend(
             ViewerStream::Web(WebStream(stream)),
@@ -145,6 +145,7 @@ impl<'a, D: Disk + Send, M: Mark + Send + Sync, R: Threads + Clock + Wait + Sync
         from: SocketAddr,
     ) {
         let Some((number, stream)) = porch.lobby.enter(self.rt, self.room.alloc, stream) else {
+            self.room.telling.tell(self.rt, Event::Dropped(from));
             return;
         };
         if scope
@@ -152,6 +153,7 @@ impl<'a, D: Disk + Send, M: Mark + Send + Sync, R: Threads + Clock + Wait + Sync
             .is_err()
         {
             porch.lobby.leave(self.rt, number);
+            self.room.telling.tell(self.rt, Event::NoThread(from));
         }
     }
 

@@ -164,13 +164,12 @@ impl<'a, D: Disk, M: Mark, R: Clock + Wait> Service<'a, D, M, R> {
         }
     }
 
-    // Ends what was started, if a thread couldn't be made. What was accepted is committed, so that
-    // a host's worker that waits for room has some, and ends.
+    // Ends what was started, if a thread couldn't be made. What is accepted is committed until the
+    // host's worker has ended, so that one that waits for room has some, and ends.
     fn give_up(&self, pen: FlusherPen<M>) {
         self.room.stop(self.rt);
         self.shut(Shutdown::Both);
         self.room.intake.end(self.rt);
-        self.shared.end_host(self.rt);
         let _flushed = self.flush(pen);
         self.room.hall.end(self.rt);
         self.room.bell.ring();
@@ -203,8 +202,9 @@ impl<'a, D: Disk, M: Mark, R: Threads + Clock + Wait> Service<'a, D, M, R> {
             browsers,
         } = crew;
         let ends = self.record_all(host, pen);
-        let outcome = self.outcome_of(first_refusal(ends), err);
+        // First: nobody is let in meanwhile, however long the refusal's line waits for its reader.
         self.room.hall.end(self.rt);
+        let outcome = self.outcome_of(first_refusal(ends), err);
         self.tell_missing();
         self.room.hall.wait_until_done(self.rt);
         self.room.bell.ring();
@@ -244,7 +244,13 @@ impl<'a, D: Disk + Send, M: Mark + Send + Sync, R: Threads + Clock + Wait + Sync
         stop: Stop,
     ) -> Option<Crew> {
         let host = match host {
-            Some(host) => Some(scope.spawn(move || self.record(host, pen)).ok()?),
+            Some(host) => {
+                let recording = scope.spawn(move || self.record(host, pen));
+                if recording.is_err() {
+                    self.shared.end_host(self.rt);
+                }
+                Some(recording.ok()?)
+            }
             None => {
                 self.shared.end_host(self.rt);
                 None

@@ -158,12 +158,15 @@ fn greets_early(origin: Origin) -> bool {
 
 // Who greets those who come while the recording is read: nobody if it is made, or if they have to
 // wait for their greeting.
-fn greeter_of<'a, R: AllocGlobal + Net<Stream = TcpStream, Listener = TcpListener>>(
+fn greeter_of<'a, R>(
     opening: &Opening<'a, R>,
     begun: &Begun,
     listeners: &'a Listeners,
     hall: &'a Hall,
-) -> io::Result<Option<Greeter<'a, R>>> {
+) -> Result<Option<Greeter<'a, R>>, Stopped>
+where
+    R: AllocGlobal + Eprint + Net<Stream = TcpStream, Listener = TcpListener> + Wait,
+{
     match (begun.header(), &listeners.viewers) {
         (Some(header), Some(listener)) if greets_early(opening.plan.from) => {
             let door = Door {
@@ -174,7 +177,8 @@ fn greeter_of<'a, R: AllocGlobal + Net<Stream = TcpStream, Listener = TcpListene
                 telling: opening.telling,
             };
             let name = header.name().to_vec(door.alloc)?;
-            let bell = Bell::new(door.rt)?;
+            let file = opening.plan.file;
+            let bell = opening.given(Bell::new(door.rt), "make a bell for", file, Refusal::Net)?;
             Ok(Some(Greeter::new(door, bell, header.size(), name)))
         }
         _ => Ok(None),

@@ -45,7 +45,10 @@ pub fn write_head<W: Write>(out: &mut W, head: Head<'_>) -> io::Result<()> {
         "Cross-Origin-Resource-Policy: same-origin\r\nContent-Security-Policy: default-src 'self'; img-src 'self' blob: data:; frame-ancestors 'none'\r\n"
     )?;
     if status == UPGRADE_REQUIRED {
-        write!(out, "Upgrade: websocket\r\nSec-WebSocket-Version: 13\r\n")?;
+        write!(
+            out,
+            "Upgrade: websocket\r\nSec-WebSocket-Version: 13\r\nConnection: upgrade\r\n"
+        )?;
     }
     write!(out, "Allow: GET\r\nConnection: close\r\n\r\n")
 }

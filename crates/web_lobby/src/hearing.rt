@@ -9,7 +9,7 @@ use std::io;
 use std::io::Write;
 use std::net::{Shutdown, TcpStream};
 use std::sync::Wait;
-use std::time::{Clock, Instant};
+use std::time::{Clock, Duration, Instant};
 
 /// Within how many seconds a request has to come.
 const REQUEST: u64 = 10;
@@ -23,31 +23,49 @@ const END: u64 = 2;
 /// How many bytes are read at a time.
 const PIECE: usize = 2048;
 
-/// Writes an answer to a socket whose other side may be slow, but not slower than a minute.
+/// Writes an answer to a socket whose other side may be slow, but not slower than a minute. Once the
+/// bell rings, one that takes nothing for a second is given up.
 #[derive(Drop)]
 pub struct Outlet<'a, R: Clock> {
     rt: &'a R,
+    bell: &'a Bell,
     stream: &'a TcpStream,
     started: Instant,
 }
 
 impl<'a, R: Clock> Outlet<'a, R> {
     /// From now on.
-    pub fn new(rt: &'a R, stream: &'a TcpStream) -> io::Result<Outlet<'a, R>> {
+    pub fn new(rt: &'a R, bell: &'a Bell, stream: &'a TcpStream) -> io::Result<Outlet<'a, R>> {
         let started = Instant::now(rt)?;
         Ok(Outlet {
             rt,
+            bell,
             stream,
             started,
         })
     }
 }
 
+impl<R: Clock> Outlet<'_, R> {
+    // Whether a write that took nothing is to be tried again.
+    fn goes_on(&self, error: &io::Error) -> bool {
+        error.kind() == io::ErrorKind::WouldBlock
+            && self.bell.wait(None, Some(Duration::ZERO)) != Woken::Rung
+    }
+}
+
 impl<R: Clock> Write for Outlet<'_, R> {
     fn write(&mut self, bytes: &[u8]) -> io::Result<usize> {
-        let left = time_left(self.rt, self.started, ANSWER)?;
-        self.stream.set_write_timeout(Some(left))?;
-        (&mut &*self.stream).write(bytes)
+        for _ in 0..u64::MAX {
+            let left = time_left(self.rt, self.started, ANSWER)?;
+            self.stream
+                .set_write_timeout(Some(left.min(Duration::from_secs(1))))?;
+            match (&mut &*self.stream).write(bytes) {
+                Err(error) if self.goes_on(&error) => {}
+                outcome => return outcome,
+            }
+        }
+        Err(io::ErrorKind::TimedOut.into())
     }
 
     fn flush(&mut self) -> io::Result<()> {

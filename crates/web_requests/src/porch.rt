@@ -60,7 +60,7 @@ impl<'a, R: Clock + Wait> Porch<'a, R> {
 
     // Answers, and ends the connection.
     fn give(&self, stream: &TcpStream, media: &str, body: &[u8]) -> io::Result<()> {
-        let mut out = BufWriter::new(self.alloc, Outlet::new(self.rt, stream)?)?;
+        let mut out = BufWriter::new(self.alloc, Outlet::new(self.rt, self.bell, stream)?)?;
         write_head(
             &mut out,
             Head {
@@ -76,7 +76,7 @@ impl<'a, R: Clock + Wait> Porch<'a, R> {
 
     // Says why a request is refused, and ends the connection.
     fn refuse(&self, stream: &TcpStream, refusal: Refusal) -> io::Result<()> {
-        let mut out = BufWriter::new(self.alloc, Outlet::new(self.rt, stream)?)?;
+        let mut out = BufWriter::new(self.alloc, Outlet::new(self.rt, self.bell, stream)?)?;
         write_refusal(&mut out, status_of_refusal(refusal), refusal)?;
         out.flush()?;
         wait_for_end(self.rt, self.bell, stream)
@@ -86,7 +86,7 @@ impl<'a, R: Clock + Wait> Porch<'a, R> {
     fn upgrade(&self, stream: &TcpStream, key: &[u8; 28]) -> io::Result<()> {
         let mut answer = Vec::new(self.alloc);
         write_answer(key, &mut answer).map_err(|_| io::ErrorKind::OutOfMemory)?;
-        Outlet::new(self.rt, stream)?.write_all(&answer)
+        Outlet::new(self.rt, self.bell, stream)?.write_all(&answer)
     }
 
     // Answers what isn't of a recording.
@@ -159,7 +159,7 @@ impl<'a, R: Clock + Wait> Porch<'a, R> {
 
     // Says that nobody can answer it now, and ends the connection (RFC 9110, section 15.6.4).
     fn fail(&self, stream: &TcpStream) -> io::Result<()> {
-        let mut outlet = Outlet::new(self.rt, stream)?;
+        let mut outlet = Outlet::new(self.rt, self.bell, stream)?;
         write_failure(
             &mut outlet,
             "503 Service Unavailable",
