@@ -7,7 +7,7 @@ use std::mem;
 use std::sync::{Condvar, Mutex, Wait};
 use web_requests::Visit;
 
-/// As many visits may wait as there are seats.
+/// As many visits may wait as there are seats in format 2.
 const MOST_WAITING: usize = 256;
 
 #[derive(Drop)]
@@ -36,8 +36,7 @@ impl Handover {
         }
     }
 
-    /// Hands in a visit. It is given back if it is over, if as many wait as there are seats, or if
-    /// memory runs out.
+    /// Hands in a visit. It is given back if it is over, if 256 wait already, or if memory runs out.
     pub fn receive<R: Wait>(&self, rt: &R, visit: Visit) -> Result<(), Visit> {
         let mut state = self.state.lock(rt);
         if state.presence.is_over() || state.waiting.len() >= MOST_WAITING {

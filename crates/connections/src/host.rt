@@ -32,7 +32,8 @@ const PIECE: usize = 1 << 16;
 /// Why there is no connection to a host.
 #[derive(Clone, Copy, Debug, PartialEq, Eq, Error)]
 pub enum ConnectFault {
-    /// It can't be reached within 30 seconds, broke off, or was silent for as long in its handshake.
+    /// None of its addresses can be reached, each within 30 seconds; it broke off, or was silent for
+    /// as long in its handshake.
     #[error("the host isn't reached")]
     Socket,
     /// It sent a fault in its handshake, or is of another size.
