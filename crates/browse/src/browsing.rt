@@ -12,6 +12,7 @@ use file_disk::{Progress, SystemError};
 use libc::STDERR_FILENO;
 use reception::Stop;
 use recorder_threads::refusals::Refusal;
+use serve_plan::names_of;
 use sockets::Bell;
 use std::fs::File;
 use std::io::Write;
@@ -33,8 +34,8 @@ pub struct Browsing<'a> {
     pub recording: &'a str,
     /// What browsers connect to: an address with a port, or a port of this machine alone.
     pub listen: &'a str,
-    /// By which name browsers may ask, besides addresses and `localhost`.
-    pub name: Option<&'a str>,
+    /// By which names browsers may ask, besides addresses and `localhost`, with a comma between two.
+    pub names: Option<&'a str>,
     /// When it ends.
     pub stop: Stop,
     /// How much of what happens is told on standard error.
@@ -107,7 +108,8 @@ where
 
 // What the page is served with.
 #[derive(Drop)]
-struct Site {
+struct Site<'a> {
+    names: Vec<&'a [u8]>,
     bell: Bell,
     lobby: Lobby,
     front: Handover,
@@ -120,7 +122,7 @@ fn serve<'a, R>(
     rt: &'a R,
     telling: &'a Telling,
     what: &'a Browsing<'a>,
-    site: Site,
+    site: Site<'a>,
     keeping: Keeping,
 ) -> Result<(), Refusal>
 where
@@ -128,19 +130,20 @@ where
     R: Net<Stream = TcpStream, Listener = TcpListener>,
 {
     let Site {
+        names,
         bell,
         lobby,
         front,
         mut archive,
         listener,
     } = site;
-    let name = [what.name.unwrap_or("").as_bytes()];
     let porch = Porch {
         rt: &*rt,
         alloc: rt.alloc(),
         bell: &bell,
         lobby: &lobby,
-        names: &name[..usize::from(what.name.is_some())],
+        names: &names,
+        telling: &*telling,
     };
     let keeper = Keeper {
         recording: &*what.recording,
@@ -180,12 +183,14 @@ where
     let opened = open(rt, what.recording, progress)?;
     let (bell, lobby) = (Bell::new(rt)?, Lobby::new(rt)?);
     let (archive, keeping) = Archive::new(rt, opened, began)?;
+    let names = names_of(rt.alloc(), what.names)?;
     let listener = listened(listen(), what.listen)?;
     listener.set_nonblocking(true)?;
     let address = listener.local_addr()?;
     writeln!(out, "browsing http://{address}/")?;
     out.flush()?;
     let site = Site {
+        names,
         bell,
         lobby,
         front: Handover::new(rt.alloc()),

@@ -49,7 +49,11 @@ impl Ending {
             Ending::TooFar => "the recording has fewer messages",
             Ending::Unreadable => "the recording can't be read",
             Ending::Unknown => "there is no such thing to ask for",
-            Ending::Faulty(_) => "the frames break the protocol",
+            Ending::Faulty(Fault::Closed) => "closed",
+            Ending::Faulty(Fault::Protocol) => "a frame breaks the protocol",
+            Ending::Faulty(Fault::TooLong) => "a message is too long",
+            Ending::Faulty(Fault::NotUtf8) => "a text isn't UTF-8",
+            Ending::Faulty(Fault::NoMemory) => "memory is short",
         }
     }
 }

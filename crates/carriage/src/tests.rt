@@ -44,7 +44,7 @@ const ENDINGS: [(Ending, &[u8]); 8] = [
     ),
     (
         Ending::Faulty(Fault::TooLong),
-        b"\x88\x1f\x03\xf1the frames break the protocol",
+        b"\x88\x17\x03\xf1a message is too long",
     ),
 ];
 
@@ -117,10 +117,10 @@ fn what_comes_is_carried(rt: HostRuntime) -> Result<(), Fail> {
     assert!(rt; framed.take(b"\x82\x81\0\0\0\0!", &mut heard));
     assert!(rt; framed.take(b"\x81\x85\x37\xfa\x21\x3d\x7f\x9f\x4d\x51\x58", &mut heard));
     assert!(rt; heard.payload.as_slice() == b"Hi!".as_slice());
-    assert!(rt; heard.words.as_slice() == b"Hello\n".as_slice() && heard.replies.is_empty());
+    assert!(rt; heard.words.as_slice() == b"Hello\xff".as_slice() && heard.replies.is_empty());
     // One that isn't masked closes the connection, by 1002, and nothing is said any more.
     assert!(rt; !framed.take(b"\x81\x05Hello", &mut heard));
-    let closed = b"\x88\x1f\x03\xeathe frames break the protocol";
+    let closed = b"\x88\x1d\x03\xeaa frame breaks the protocol";
     assert!(rt; heard.replies.as_slice() == closed.as_slice());
     let mut out = Vec::new(alloc);
     framed.end(Ending::Ended, &mut out)?;

@@ -2,12 +2,13 @@
 
 ghost use Rattle.std.specs.Prelude.{◌≤◌};
 
-use crate::advice::{ADDRESS, asks_for_more, has_port};
+use crate::advice::{advice_of, asks_for_more};
 use crate::words::{Chosen, read_words};
 use browse::file_commands::{FileCommand, FileFault, Refused, create_new, keep, refuse, run};
 use file_disk::Progress;
 use serve_plan::Plan;
 use sockets::listen_at;
+use spelling::Escaped;
 use std::fs::File;
 use std::io;
 use std::io::{Read, Write};
@@ -53,7 +54,8 @@ fn drill_to_file<R: Files<File = File> + AllocGlobal, I: Read + Drop, O: Write, 
     }
 }
 
-// Prints a line for each recording: whether all can be read.
+// Prints a line for each recording: whether all can be read. A person is told of which one can't, if
+// there are several.
 fn info<R: Files<File = File> + AllocGlobal, O: Write, E: Write>(
     rt: &R,
     paths: &[&str],
@@ -65,6 +67,10 @@ fn info<R: Files<File = File> + AllocGlobal, O: Write, E: Write>(
     let mut is_whole = true;
     for path in paths {
         let is_done = run(rt, &FileCommand::Info(path), is_verbose, progress, out, err)?;
+        if !is_done && is_verbose && paths.len() > 1 {
+            let path = Escaped(path.as_bytes());
+            writeln!(err, "recorderd: that is of \"{path}\"")?;
+        }
         is_whole = is_whole && is_done;
     }
     Ok(is_whole)
@@ -117,7 +123,7 @@ fn status_of<O: Write>(done: io::Result<bool>, out: &mut O) -> u8
     }
 }
 
-// Serves; if it is refused and the address to listen at has no port, advice may be told.
+// Serves; if it is refused, what may be wrong with its addresses is told to a person.
 fn served<R, O: Write, E: Write>(
     rt: &R,
     plan: &Plan<'_>,
@@ -130,9 +136,11 @@ where
     R: Net<Stream = TcpStream, Listener = TcpListener>,
 {
     let is_done = serve::serve(rt, plan, out, err)?;
-    let lacks_port = plan.listen.is_some_and(|address| !has_port(address));
-    if !is_done && is_verbose && lacks_port {
-        writeln!(err, "recorderd: {ADDRESS}")?;
+    if !is_done
+        && is_verbose
+        && let Some(advice) = advice_of(plan)
+    {
+        writeln!(err, "recorderd: {advice}")?;
     }
     Ok(is_done)
 }

@@ -1,7 +1,7 @@
 //! The words of the two servers, `browse` and `serve`.
 
 use crate::numbers::{if_given, number, thousandths, within};
-use crate::wrong::{MOMENT, SECONDS, Wrong, word};
+use crate::wrong::{MOMENT, NAMES, SECONDS, Wrong, word};
 use browse::Browsing;
 use clap::ArgMatches;
 use playing::Pace;
@@ -24,7 +24,7 @@ pub fn browsing<'a>(matches: &ArgMatches<'a>, is_verbose: bool) -> Result<Browsi
     Ok(Browsing {
         recording: word(matches, "PATH")?,
         listen: matches.get_str("ADDR").unwrap_or("8080"),
-        name: matches.get_str("NAME"),
+        names: names(matches)?,
         stop: stop(matches)?,
         told: told(matches, is_verbose),
         is_verbose,
@@ -102,6 +102,34 @@ fn audience(matches: &ArgMatches<'_>) -> Result<Audience, Wrong> {
     }
 }
 
+// Whether the host's end ends a recorder to which whoever likes comes.
+fn ends_with_host(matches: &ArgMatches<'_>) -> Result<bool, Wrong> {
+    let ends = matches.get_flag("until-host-ends");
+    if ends && matches.get_str("HOST").is_none() {
+        return Err(Wrong::Words("--until-host-ends needs --host"));
+    }
+    if ends && audience(matches)? != Audience::Any {
+        return Err(Wrong::Words(
+            "--until-host-ends waits for nobody: it needs --web or --viewers any",
+        ));
+    }
+    Ok(ends)
+}
+
+// Whether a word is names of machines alone, with a comma between two.
+fn are_names(word: &str) -> bool {
+    word.bytes().all(|byte| byte.is_ascii_alphanumeric()
+        || matches!(byte, b'.' | b'-' | b'_' | b','))
+}
+
+// By which names browsers may ask.
+fn names<'a>(matches: &ArgMatches<'a>) -> Result<Option<&'a str>, Wrong> {
+    match matches.get_str("NAME") {
+        Some(word) if !are_names(word) => Err(Wrong::Value("NAME", NAMES)),
+        names => Ok(names),
+    }
+}
+
 // How much is told of what happens: all if that is asked for, and on a terminal why it is refused.
 fn told(matches: &ArgMatches<'_>, is_verbose: bool) -> Told {
     if matches.get_flag("verbose") {
@@ -137,11 +165,12 @@ pub fn plan<'a>(matches: &ArgMatches<'a>, is_verbose: bool) -> Result<Plan<'a>, 
         file,
         listen,
         web,
-        web_name: matches.get_str("NAME"),
+        web_names: names(matches)?,
         host: matches.get_str("HOST"),
         format: format(matches.get_str("FORMAT"))?,
         key_interval: key_interval.ok_or(Wrong::Value("K", "a number from 1 to 4096"))? as u16,
         audience: audience(matches)?,
+        ends_with_host: ends_with_host(matches)?,
         overwrites: matches.get_flag("overwrite"),
         from: origin(matches)?,
         playing,

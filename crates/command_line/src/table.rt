@@ -209,7 +209,7 @@ const COMMANDS: [CommandWords; 16] = [
             Value(
                 "web-name",
                 "NAME",
-                "By which name browsers may ask, besides addresses and localhost",
+                "By which names browsers may ask, besides addresses and localhost, a comma between two",
             ),
             Value("seconds", "SECONDS", "Ends after so many seconds"),
             Flag("until-input-ends", "Ends once standard input ends"),
@@ -219,7 +219,7 @@ const COMMANDS: [CommandWords; 16] = [
     CommandWords {
         name: "serve",
         about: "Records a host into a file, and shows the recording to viewers as it grows",
-        example: "Example: recorderd serve --file r --host 127.0.0.1:5901 --listen 127.0.0.1:5900",
+        example: "Example: recorderd serve --file r --host 127.0.0.1:5901 --listen 127.0.0.1:5900 --viewers any",
         arguments: &[
             NeededValue(
                 "file",
@@ -239,7 +239,7 @@ const COMMANDS: [CommandWords; 16] = [
             Value(
                 "web-name",
                 "NAME",
-                "By which name browsers may ask, besides addresses and localhost",
+                "By which names browsers may ask, besides addresses and localhost, a comma between two",
             ),
             Value(
                 "host",
@@ -287,6 +287,10 @@ const COMMANDS: [CommandWords; 16] = [
             ),
             Flag("repeat", "With --pace: begins again at the end"),
             Value("seconds", "SECONDS", "Ends after so many seconds"),
+            Flag(
+                "until-host-ends",
+                "Ends once the host has ended, also with --web",
+            ),
             Flag("until-input-ends", "Ends once standard input ends"),
             TELLING,
         ],
@@ -368,7 +372,7 @@ pub fn spelled(command: &str, of: &'static str) -> Spelling {
 pub fn reader<'a>(alloc: Global) -> Result<Command<'a>, AllocError> {
     let mut program = Command::new(alloc, "recorderd")
         .about("Records one VNC session, so that a crash at any moment loses nothing acknowledged")
-        .version("1.0.2")
+        .version("1.1.0")
         .subcommand_required(true);
     for words in &COMMANDS {
         program = program.subcommand(command(alloc, words)?)?;

@@ -10,6 +10,9 @@ pub const NUMBER: &str = "a number";
 /// What a moment has to be.
 pub const MOMENT: &str = "a moment: 61210 (in milliseconds), 61.2s, 1:01.2 or 1:02:03";
 
+/// What the names of a server have to be.
+pub const NAMES: &str = "names as desk.example, without http:// or a port, a comma between two";
+
 /// What a number of seconds has to be.
 pub const SECONDS: &str = "a number of seconds";
 

@@ -285,7 +285,7 @@ impl<M: Mark> Room<M> {
             last_error,
             device,
             facts: Facts::new(last_time),
-            stays: plan.host.is_none() || plan.web.is_some(),
+            stays: plan.keeps_viewers(),
             committed: AtomicU64::new(committed),
             is_unreadable: AtomicBool::new(false),
             is_stopped: AtomicBool::new(false),

@@ -22,7 +22,7 @@ use std::time::{Clock, Duration, Instant};
 use steering::{Course, Stage, Steering};
 use terms::four_bytes;
 use viewer_session::Session;
-use web_frames::Heard;
+use web_frames::{END_OF_TEXT, Heard};
 use web_target::order_of;
 
 /// How many bytes are read at a time.
@@ -68,6 +68,8 @@ struct Talk<M: Mark> {
     lacks_all: bool,
     /// Whether it was sent an update since it was handed anything.
     is_answered: bool,
+    /// When it said anything last, if the clock could be read.
+    heard_at: Option<Instant>,
     of: PhantomData<M>,
     ghost sized: { (session.view.screen.width ≡ M.head.width) × (session.view.screen.height ≡ M.head.height) },
 }
@@ -120,15 +122,14 @@ fn write_answer<M: Mark, C: Connection, R: Clock + Wait>(
 impl<M: Mark> Talk<M> {
     // Takes the orders that came: whether there were some; `None` if one asks for what there isn't.
     fn heed(&mut self, facts: &Facts) -> Option<bool> {
-        let mut has_some = false;
-        for text in self.heard.words.split(|byte| *byte == b'\n') {
-            if !text.is_empty() {
-                let order = order_of(text)?;
-                self.course.as_mut()?.take(order, facts.length());
-                has_some = true;
-            }
+        let Some(texts) = self.heard.words.strip_suffix(&[END_OF_TEXT]) else {
+            return Some(false);
+        };
+        for text in texts.split(|byte| *byte == END_OF_TEXT) {
+            let order = order_of(text)?;
+            self.course.as_mut()?.take(order, facts.length());
         }
-        Some(has_some)
+        Some(true)
     }
 
     // Takes a piece of what the viewer sends.
@@ -325,6 +326,7 @@ impl<M: Mark, C: Connection> Viewer<M, C> {
                 shows_from: 0,
                 lacks_all: false,
                 is_answered: false,
+                heard_at: None,
                 of: PhantomData,
             }),
             changed: Condvar::new(),
@@ -450,9 +452,17 @@ impl<M: Mark, C: Connection> Viewer<M, C> {
         }
     }
 
+    /// Whether the viewer has said nothing for as long as it is waited for at the end.
+    pub fn is_silent<R: Clock + Wait>(&self, rt: &R) -> bool {
+        let heard_at = self.talk.lock(rt).heard_at;
+        let passed = heard_at.and_then(|moment| moment.elapsed(rt).ok());
+        passed.is_none_or(|passed| passed.as_secs() >= FAREWELL)
+    }
+
     // Takes a piece of what the viewer sends, and answers what is due: how the viewer goes on.
     fn hear<R: Clock + Wait>(&self, rt: &R, piece: &[u8], room: &Room<M>) -> Heeded {
         let mut talk = self.talk.lock(rt);
+        talk.heard_at = Instant::now(rt).ok();
         let heeded = talk.feed(piece, &room.facts);
         // Who has ended, or has to, is told that, and nothing after it.
         let goes_on = heeded != Heeded::Over;

@@ -167,6 +167,7 @@ impl<'a, D: Disk + Send, M: Mark + Send + Sync, R: Threads + Clock + Wait + Sync
             bell: &room.bell,
             lobby: doors.lobby,
             names: doors.names,
+            telling: &room.telling,
         };
         thread::scope(thread::scope_env(), self.rt, |scope| {
             accept_until_rung(

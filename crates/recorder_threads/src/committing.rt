@@ -5,7 +5,7 @@ ghost use Rattle.std.specs.Prelude.{◌≡◌};
 use std::mem;
 use std::sync::Wait;
 use std::time::{Clock, Instant};
-use telling::Event;
+use telling::{Event, TimesWatch};
 use watching::book_workers::ReceiptSink;
 use watching::connections::Room;
 use watching::shared_book::{Mark, Receipt};
@@ -21,6 +21,7 @@ pub struct Committing<'a, M: Mark, R: Clock + Wait> {
     room: &'a Room<M>,
     since: Option<Instant>,
     is_short: bool,
+    times: TimesWatch,
     // What was recorded since it was last told of.
     messages: u64,
     bytes: u64,
@@ -34,6 +35,7 @@ impl<'a, M: Mark, R: Clock + Wait> Committing<'a, M, R> {
             room,
             since: Instant::now(rt).ok(),
             is_short: false,
+            times: TimesWatch::new(),
             messages: 0,
             bytes: 0,
         }
@@ -87,6 +89,9 @@ impl<'a, M: Mark, R: Clock + Wait> ReceiptSink<Receipt<M>> for Committing<'a, M,
         }
         if let Some(last) = slice.messages.last() {
             self.room.facts.commit(last.time);
+            if let Some(left) = self.times.look(last.time) {
+                self.room.telling.tell(self.rt, Event::Times(left));
+            }
         }
         self.room.set_committed(slice.first.saturating_add(count));
         self.room.intake.commit(self.rt, bytes);

@@ -1,6 +1,6 @@
 //! How a recorder ended, and which of several reasons is told.
 
-ghost use Rattle.std.specs.Prelude.{◌≡◌, ℕ, None, Some, IfErr, OnOk, OnErr, not, true, false};
+ghost use Rattle.std.specs.Prelude.{◌≡◌, ◌↔◌, ℕ, None, Some, IfErr, IsTrue, OnOk, OnErr, not, true, false};
 ghost use Rattle.host_session.specs.declared.fault.HostFault.{HostFault};
 
 use host_stream::HostEnd;
@@ -30,6 +30,14 @@ pub fn is_end_of_host(worker: Result<(), HostRefusal>, has_hung_up: bool) -> boo
     ensures refused { OnErr worker (result ≡ false) }
 {
     worker.is_ok() && !has_hung_up
+}
+
+/// Whether a viewer in a browser whose showing is over is shown what it asks for next: it asks for
+/// something, is there, and the recorder isn't closing, so that nobody holds up the end by orders.
+pub fn is_shown_next(is_over: bool, has_left: bool, is_closing: bool) -> bool
+    ensures { IsTrue result ↔ ((is_over ≡ true) × ((has_left ≡ false) × (is_closing ≡ false))) }
+{
+    is_over && !has_left && !is_closing
 }
 
 /// The one reason that is told: the flusher's, else the worker's, else the host's or its socket's,

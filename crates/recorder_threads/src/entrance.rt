@@ -2,6 +2,7 @@
 
 use crate::accepting::accept_until_rung;
 use crate::comer::Comer;
+use crate::ends::is_shown_next;
 use crate::no_turnstile::NoTurnstile;
 use crate::service::Service;
 use crate::viewer_stream::ViewerStream;
@@ -139,7 +140,8 @@ impl<'a, D: Disk, M: Mark, R: Clock + Wait> Service<'a, D, M, R> {
                 return self.watch(viewer);
             };
             self.watch_showing(viewer, steering.showing)?;
-            if viewer.has_left() || !viewer.is_over() {
+            let is_closing = self.room.hall.is_closing(self.rt);
+            if !is_shown_next(viewer.is_over(), viewer.has_left(), is_closing) {
                 return Ok(());
             }
         }

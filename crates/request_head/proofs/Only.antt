@@ -7,9 +7,9 @@ use Rattle.httparse.proofs.GrammarLemmas.{request_unique}
 use Rattle.request_head.specs.declared.head.Fault.{Fault}
 use Rattle.request_head.specs.declared.head.Fault.TheVariants.{BadRequest, Forbidden, NotFound, MethodNotAllowed, TooLarge}
 use Rattle.request_head.specs.declared.head.Reading.{Reading}
-use Rattle.request_head.specs.declared.head.Reading.TheVariants.{Unfinished, Get, Refused}
+use Rattle.request_head.specs.declared.head.Reading.TheVariants.{Unfinished, Taken, Refused}
 use Rattle.request_head.specs.Heads.{longest_head, ReadsHead, NeverHasHead, IsBeginning}
-use Rattle.request_head.specs.Judgement.{IsTaken, IsRefused, TakesHead, RefusesHead, IsFaultOf, IsGetAt, IsReading, IsGetOf}
+use Rattle.request_head.specs.Judgement.{IsTaken, IsRefused, TakesHead, RefusesHead, IsFaultOf, IsTakenAt, IsReading, IsTakenWith}
 
 pub one_head : (bytes : List ℕ) (head other : RequestHead) (rest others : List ℕ) → ReadsHead bytes head rest → ReadsHead bytes other others → head ≡ other
 one_head bytes head other rest others reads again = (request_unique bytes head other rest others reads.0 again.0).0
@@ -21,7 +21,7 @@ whole_once bytes head rest reads never = never [] head rest (subst (λ (b : List
 pub not_both : (names : List (Bor (List ℕ))) (method : List ℕ) (minor : ℕ) (hosts : List (List ℕ)) (fault : Fault) → IsTaken names method minor hosts → IsRefused names method minor hosts fault → ⊥
 not_both names method minor hosts BadRequest taken refused = refused taken.has_host
 not_both names method minor hosts Forbidden taken refused = refused.1 taken.is_sent_here
-not_both names method minor hosts MethodNotAllowed taken refused = refused.2 taken.is_get
+not_both names method minor hosts MethodNotAllowed taken refused = refused.2 taken.only_reads
 not_both names method minor hosts NotFound taken refused = refused
 not_both names method minor hosts TooLarge taken refused = refused
 
@@ -96,20 +96,20 @@ same_fault names bytes fault NotFound f o = absurd o
 pub only_unfinished : (names : List (Bor (List ℕ))) (bytes : List ℕ) (spans : List HeaderSpan) (reading : Reading) → IsReading names bytes spans reading
     → length bytes < longest_head → IsBeginning bytes → reading ≡ Unfinished
 only_unfinished names bytes spans Unfinished is short begun = refl
-only_unfinished names bytes spans (Get request) is short begun = absurd (begun.is_not_whole is.0 is.1.is_sound.0 is.1.is_sound.1)
+only_unfinished names bytes spans (Taken request) is short begun = absurd (begun.is_not_whole is.0 is.1.is_sound.0 is.1.is_sound.1)
 only_unfinished names bytes spans (Refused fault) is short begun =
     let long = of_beginning names bytes fault begun is in absurd (omega (arith, short, long))
 
 pub only_taken : (names : List (Bor (List ℕ))) (bytes : List ℕ) (spans : List HeaderSpan) (reading : Reading) → IsReading names bytes spans reading
-    → (head : RequestHead) (rest : List ℕ) → ReadsHead bytes head rest → TakesHead names head → IsGetOf names bytes spans head reading
+    → (head : RequestHead) (rest : List ℕ) → ReadsHead bytes head rest → TakesHead names head → IsTakenWith names bytes spans head reading
 only_taken names bytes spans Unfinished is head rest reads taken = is.1.is_not_whole head rest reads
-only_taken names bytes spans (Get request) is head rest reads taken =
-    subst (λ (h : RequestHead). IsGetAt names bytes spans request h) (one_head bytes is.0 head is.1.is_sound.0 rest is.1.is_sound.1 reads) is.1
+only_taken names bytes spans (Taken request) is head rest reads taken =
+    subst (λ (h : RequestHead). IsTakenAt names bytes spans request h) (one_head bytes is.0 head is.1.is_sound.0 rest is.1.is_sound.1 reads) is.1
 only_taken names bytes spans (Refused fault) is head rest reads taken = not_both names _ _ _ fault taken (of_head names bytes fault head rest reads is)
 
 pub only_refused : (names : List (Bor (List ℕ))) (bytes : List ℕ) (spans : List HeaderSpan) (reading : Reading) → IsReading names bytes spans reading
     → (fault : Fault) → IsFaultOf names bytes fault → reading ≡ Refused fault
 only_refused names bytes spans Unfinished is fault at =
     let long = of_beginning names bytes fault is.1 at in absurd (omega (arith, is.0, long))
-only_refused names bytes spans (Get request) is fault at = absurd (not_both names _ _ _ fault is.1.is_taken (of_head names bytes fault is.0 is.1.is_sound.0 is.1.is_sound.1 at))
+only_refused names bytes spans (Taken request) is fault at = absurd (not_both names _ _ _ fault is.1.is_taken (of_head names bytes fault is.0 is.1.is_sound.0 is.1.is_sound.1 at))
 only_refused names bytes spans (Refused other) is fault at = let same = same_fault names bytes other fault is at in cc

@@ -1,5 +1,5 @@
--- What a head is answered, by whoever has only names of its own and takes only GET.
-use Rattle.std.specs.Prelude.{◌≡◌, ◌≢◌, ◌⊎◌, ℕ, ◌<◌, ◌≤◌, List, [], ◌∷◌, length, All, codes, Option, None, Some, Result, Ok, Err}
+-- What a head is answered, by whoever has only names of its own and is only read.
+use Rattle.std.specs.Prelude.{◌≡◌, ◌⊎◌, ℕ, ◌<◌, ◌≤◌, List, [], ◌∷◌, length, All, codes, Option, None, Some, Result, Ok, Err}
 use Rattle.httparse.specs.declared.spans.HeaderSpan.{HeaderSpan}
 use Rattle.httparse.specs.declared.spans.RequestSpans.{RequestSpans}
 use Rattle.httparse.specs.Grammar.{RequestHead}
@@ -8,7 +8,7 @@ use denote.Ref.{Bor}
 use Rattle.request_head.specs.declared.head.Fault.{Fault}
 use Rattle.request_head.specs.declared.head.Fault.TheVariants.{BadRequest, Forbidden, NotFound, MethodNotAllowed, TooLarge}
 use Rattle.request_head.specs.declared.head.Reading.{Reading}
-use Rattle.request_head.specs.declared.head.Reading.TheVariants.{Unfinished, Get, Refused}
+use Rattle.request_head.specs.declared.head.Reading.TheVariants.{Unfinished, Taken, Refused}
 use Rattle.request_head.specs.Fields.{fields_of, values_of}
 use Rattle.request_head.specs.Heads.{longest_head, ReadsHead, NeverHasHead, IsBeginning}
 use Rattle.request_head.specs.Hosts.{IsAllowed}
@@ -28,18 +28,22 @@ AreHostsOf minor hosts (Err fault) = (fault ≡ BadRequest) × (HasItsHost minor
 abbrev pub hosts_of : RequestHead → List (List ℕ)
 hosts_of head = values_of (codes "Host") (fields_of head)
 
+-- the method asks for something, or for its head alone, and changes nothing (RFC 9110, sections 9.3.1 and 9.3.2)
+abbrev pub OnlyReads : List ℕ → Type 0
+OnlyReads method = (method ≡ codes "GET") ⊎ (method ≡ codes "HEAD")
+
 -- a request for a server with these names is taken
 pub record IsTaken (names : List (Bor (List ℕ))) (method : List ℕ) (minor : ℕ) (hosts : List (List ℕ)) : Type 0 where
   pub has_host : HasItsHost minor hosts
   pub is_sent_here : All (IsAllowed names) hosts
-  pub is_get : method ≡ codes "GET"
+  pub only_reads : OnlyReads method
 
 -- Why a whole head is refused: first for its Host fields, then for what they name, and then for its
 -- method.
 abbrev pub IsRefused : List (Bor (List ℕ)) → List ℕ → ℕ → List (List ℕ) → Fault → Type 0
 IsRefused names method minor hosts BadRequest = HasItsHost minor hosts → ⊥
 IsRefused names method minor hosts Forbidden = HasItsHost minor hosts × (All (IsAllowed names) hosts → ⊥)
-IsRefused names method minor hosts MethodNotAllowed = HasItsHost minor hosts × All (IsAllowed names) hosts × (method ≢ codes "GET")
+IsRefused names method minor hosts MethodNotAllowed = HasItsHost minor hosts × All (IsAllowed names) hosts × (OnlyReads method → ⊥)
 IsRefused names method minor hosts NotFound = ⊥
 IsRefused names method minor hosts TooLarge = ⊥
 
@@ -63,7 +67,7 @@ IsFaultOf names bytes TooLarge = (longest_head ≤ length bytes) × IsBeginning 
 IsFaultOf names bytes NotFound = ⊥
 
 -- the spans cover the parts of this head, with which the bytes begin, and it is taken
-pub record IsGetAt (names : List (Bor (List ℕ))) (bytes : List ℕ) (spans : List HeaderSpan) (request : RequestSpans) (head : RequestHead) : Type 0 where
+pub record IsTakenAt (names : List (Bor (List ℕ))) (bytes : List ℕ) (spans : List HeaderSpan) (request : RequestSpans) (head : RequestHead) : Type 0 where
   pub covers : IsRequestAt bytes spans request head
   pub is_within : IsRequestWithin bytes spans request
   pub is_sound : (rest : List ℕ) × ReadsHead bytes head rest
@@ -72,11 +76,11 @@ pub record IsGetAt (names : List (Bor (List ℕ))) (bytes : List ℕ) (spans : L
 -- what bytes are read as
 abbrev pub IsReading : List (Bor (List ℕ)) → List ℕ → List HeaderSpan → Reading → Type 0
 IsReading names bytes spans Unfinished = (length bytes < longest_head) × IsBeginning bytes
-IsReading names bytes spans (Get request) = (head : RequestHead) × IsGetAt names bytes spans request head
+IsReading names bytes spans (Taken request) = (head : RequestHead) × IsTakenAt names bytes spans request head
 IsReading names bytes spans (Refused fault) = IsFaultOf names bytes fault
 
 -- it is a request that is taken, and this is its head
-abbrev pub IsGetOf : List (Bor (List ℕ)) → List ℕ → List HeaderSpan → RequestHead → Reading → Type 0
-IsGetOf names bytes spans head Unfinished = ⊥
-IsGetOf names bytes spans head (Get request) = IsGetAt names bytes spans request head
-IsGetOf names bytes spans head (Refused fault) = ⊥
+abbrev pub IsTakenWith : List (Bor (List ℕ)) → List ℕ → List HeaderSpan → RequestHead → Reading → Type 0
+IsTakenWith names bytes spans head Unfinished = ⊥
+IsTakenWith names bytes spans head (Taken request) = IsTakenAt names bytes spans request head
+IsTakenWith names bytes spans head (Refused fault) = ⊥

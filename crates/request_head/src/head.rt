@@ -1,6 +1,6 @@
 //! A request's head, read and judged before anything is done for it.
 
-ghost use Rattle.std.specs.Prelude.{◌≡◌, ◌≢◌, ◌++◌, ℕ, ◌≤◌, ◌<◌, List, length, codes, All, MatchResult};
+ghost use Rattle.std.specs.Prelude.{◌≡◌, ◌≢◌, ◌↔◌, ◌++◌, ℕ, ◌≤◌, ◌<◌, List, length, codes, All, IsTrue, MatchResult};
 ghost use denote.Ref.{Bor};
 ghost use Rattle.httparse.specs.declared.spans.HeaderSpan.{HeaderSpan as HeaderSpanValue};
 ghost use Rattle.httparse.specs.Grammar.{HasNoRequest, MayBecomeRequest, RequestHead};
@@ -8,9 +8,9 @@ ghost use Rattle.httparse.specs.Spans.{IsHeaderWithin, IsRequestOf, IsRequestWit
 ghost use Rattle.request_head.specs.declared.head.Fault.{Fault as FaultValue};
 ghost use Rattle.request_head.specs.Fields.{covered, values_of};
 ghost use Rattle.request_head.specs.Heads.{front_of, longest_head, most_fields, ReadsHead, IsBeginning};
-ghost use Rattle.request_head.specs.Judgement.{AreHostsOf, HasItsHost, IsTaken, IsRefused, TakesHead, IsFaultOf, IsReading, IsGetOf};
+ghost use Rattle.request_head.specs.Judgement.{AreHostsOf, HasItsHost, IsTaken, IsRefused, TakesHead, IsFaultOf, IsReading, IsTakenWith, OnlyReads};
 ghost use Rattle.request_head.specs.Hosts.{IsAllowed};
-ghost use Rattle.request_head.specs.Lines.{is_plain_line, is_plain_start};
+ghost use Rattle.request_head.specs.Lines.{begins_with_head, is_line_of_head, is_plain_line, is_plain_start};
 
 use crate::fields::first_value;
 use crate::host::is_allowed;
@@ -31,13 +31,13 @@ pub enum Fault {
     #[error("this isn't an HTTP request")]
     BadRequest,
     /// 403: it was sent to another name than an address, `localhost` or one of the server's own.
-    #[error("this server answers to addresses, to localhost and to its own names alone")]
+    #[error("this server answers to addresses, to localhost and to the names of --web-name alone")]
     Forbidden,
     /// 404: there is no such thing. What there is knows only who reads a head.
     #[error("there is no such thing")]
     NotFound,
-    /// 405: it isn't a GET.
-    #[error("only GET is answered")]
+    /// 405: it is neither a GET nor a HEAD.
+    #[error("only GET and HEAD are answered")]
     MethodNotAllowed,
     /// 431: its head is too long.
     #[error("the request's head is too long")]
@@ -50,7 +50,7 @@ pub enum Reading {
     /// The beginning of a head.
     Unfinished,
     /// A head that is taken, and what its parts are. The first `headers` spans are its fields'.
-    Get(RequestSpans),
+    Taken(RequestSpans),
     Refused(Fault),
 }
 
@@ -117,6 +117,13 @@ fn check_host(head: &[u8], fields: &[HeaderSpan], version: u8, names: &[&[u8]]) 
     }
 }
 
+// Whether a method asks for something to be read.
+fn only_reads(method: &[u8]) -> bool
+    ensures { IsTrue result ↔ OnlyReads method.now }
+{
+    method == b"GET".as_slice() || method == b"HEAD".as_slice()
+}
+
 // Whether a whole head is taken.
 fn check(
     head: &[u8],
@@ -131,7 +138,7 @@ fn check(
         (λ fault. IsRefused names.now (span_bytes head.now request.now.method) request.now.version (values_of (codes "Host") (covered head.now fields.now)) fault) }
 {
     check_host(head, fields, request.version, names)?;
-    if request.method.of(head) == b"GET".as_slice() {
+    if only_reads(request.method.of(head)) {
         Ok(())
     } else {
         Err(Fault::MethodNotAllowed)
@@ -148,7 +155,7 @@ fn judge(head: &[u8], request: RequestSpans, fields: &[HeaderSpan], names: &[&[u
         return Reading::Refused(Fault::BadRequest);
     }
     match check(head, &request, &fields[..request.headers], names) {
-        Ok(()) => Reading::Get(request),
+        Ok(()) => Reading::Taken(request),
         Err(fault) => Reading::Refused(fault),
     }
 }
@@ -182,6 +189,35 @@ fn read(bytes: &[u8], names: &[&[u8]], fields: &mut [HeaderSpan]) -> Reading
     }
 }
 
+// Whether a line begins with the method HEAD.
+fn is_line_of_head(bytes: &[u8]) -> bool
+    ensures { result ≡ is_line_of_head bytes.now }
+{
+    bytes.starts_with(b"HEAD ")
+}
+
+// Whether the first line that isn't empty begins with the method HEAD.
+fn begins_with_head(bytes: &[u8]) -> bool
+    ensures { result ≡ begins_with_head bytes.now }
+{
+    for (index, byte) in bytes.iter().enumerate() {
+        if !matches!(byte, b'\r' | b'\n') {
+            return is_line_of_head(&bytes[index..]);
+        }
+    }
+    false
+}
+
+/// Whether the method of a request that begins so is HEAD: whatever it is answered, the answer is a
+/// head alone (RFC 9110, section 9.3.2). Its first line that isn't empty tells.
+pub fn wants_head_alone(bytes: &[u8]) -> bool
+    ensures begins { result ≡ begins_with_head bytes.now }
+    ensures method { (head : RequestHead) (rest : List ℕ) → ReadsHead bytes.now head rest
+        → IsTrue result ↔ (head.method ≡ codes "HEAD") }
+{
+    begins_with_head(bytes)
+}
+
 /// The front of the bytes that have come so far, of at most as many as a head may have.
 pub fn front(bytes: &[u8]) -> &[u8]
     ensures front { result.now ≡ front_of bytes.now }
@@ -204,7 +240,7 @@ pub fn read_head(bytes: &[u8], names: &[&[u8]], fields: &mut [HeaderSpan]) -> Re
     ensures is { IsReading names.now bytes.now fields.new result }
     ensures unfinished { length bytes.now < longest_head → IsBeginning bytes.now → result ≡ Reading.Unfinished }
     ensures taken { (head : RequestHead) (rest : List ℕ) → ReadsHead bytes.now head rest → TakesHead names.now head
-        → IsGetOf names.now bytes.now fields.new head result }
+        → IsTakenWith names.now bytes.now fields.new head result }
     ensures refused { (fault : FaultValue) → IsFaultOf names.now bytes.now fault → result ≡ Reading.Refused fault }
 
     // Whatever else comes, except for the length.

@@ -2,7 +2,9 @@
 
 mod sent;
 
-use crate::{Fault, LONGEST_HEAD, MOST_FIELDS, Reading, first_value, is_allowed, read_head};
+use crate::{
+    Fault, LONGEST_HEAD, MOST_FIELDS, Reading, first_value, is_allowed, read_head, wants_head_alone,
+};
 use httparse::spans::EMPTY_HEADER_SPAN;
 use sent::HEADS;
 use std::test::Fail;
@@ -16,15 +18,15 @@ fn reading(bytes: &[u8]) -> Option<Reading> {
     Some(read_head(bytes, &[], &mut fields))
 }
 
-// Whether bytes are a whole GET for a target, and each front of them is unfinished.
-fn is_get(bytes: &[u8], target: &[u8]) -> bool {
+// Whether bytes are a whole head for a target that is taken, and each front of them is unfinished.
+fn is_taken(bytes: &[u8], target: &[u8]) -> bool {
     for (end, _) in bytes.iter().enumerate() {
         if reading(&bytes[..end]) != Some(Reading::Unfinished) {
             return false;
         }
     }
     match reading(bytes) {
-        Some(Reading::Get(request)) => {
+        Some(Reading::Taken(request)) => {
             request.len == bytes.len()
                 && bytes.get(request.path.start..request.path.end) == Some(target)
         }
@@ -35,13 +37,15 @@ fn is_get(bytes: &[u8], target: &[u8]) -> bool {
 #[test]
 fn programs_are_heard(rt: HostRuntime) {
     for (bytes, target) in HEADS {
-        assert!(rt; is_get(bytes, target));
+        assert!(rt; is_taken(bytes, target));
     }
 }
 
 #[test]
 fn sound_heads_are_taken(rt: HostRuntime) {
-    let sound: [&[u8]; 6] = [
+    let sound: [&[u8]; 7] = [
+        // RFC 9110, section 9.3.2.
+        b"HEAD / HTTP/1.0\r\n\r\n",
         // Section 3.2: only HTTP/1.1 wants a Host.
         b"GET / HTTP/1.0\r\n\r\n",
         // Section 3.2: it may be empty, and its name is in any case (RFC 9110, section 5.1).
@@ -55,13 +59,13 @@ fn sound_heads_are_taken(rt: HostRuntime) {
         b"GET / HTTP/1.1\r\nHost: localhost\r\n!#$%&'*+-.^_`|~09azAZ: x\r\n\r\n",
     ];
     for bytes in sound {
-        assert!(rt; is_get(bytes, b"/"));
+        assert!(rt; is_taken(bytes, b"/"));
     }
 }
 
 #[test]
 fn others_are_refused(rt: HostRuntime) {
-    let refused: [(&[u8], Fault); 20] = [
+    let refused: [(&[u8], Fault); 19] = [
         // Section 3.2: no Host, or two.
         (b"GET / HTTP/1.1\r\n\r\n", Fault::BadRequest),
         (
@@ -105,7 +109,6 @@ fn others_are_refused(rt: HostRuntime) {
             b"get / HTTP/1.1\r\nHost: localhost\r\n\r\n",
             Fault::MethodNotAllowed,
         ),
-        (b"HEAD / HTTP/1.0\r\n\r\n", Fault::MethodNotAllowed),
     ];
     for (bytes, fault) in refused {
         assert!(rt; reading(bytes) == Some(Reading::Refused(fault)), "{fault}");
@@ -170,7 +173,7 @@ fn a_head_may_be_as_long_as_the_longest(rt: HostRuntime) -> Result<(), Fail> {
     long.truncate(LONGEST_HEAD - 4);
     assert!(rt; reading(&long) == Some(Reading::Unfinished));
     long.extend_from_slice(b"\r\n\r\n")?;
-    assert!(rt; matches!(reading(&long), Some(Reading::Get(_))));
+    assert!(rt; matches!(reading(&long), Some(Reading::Taken(_))));
     Ok(())
 }
 
@@ -181,7 +184,7 @@ fn two_thousand_fields_are_read(rt: HostRuntime) -> Result<(), Fail> {
         many.extend_from_slice(b"a:\nB:\n")?;
     }
     many.extend_from_slice(b"\n")?;
-    let Some(Reading::Get(request)) = reading(&many) else {
+    let Some(Reading::Taken(request)) = reading(&many) else {
         panic!(rt; "not taken")
     };
     assert!(rt; request.headers == 2000);
@@ -192,7 +195,7 @@ fn two_thousand_fields_are_read(rt: HostRuntime) -> Result<(), Fail> {
 fn values_come_in_order(rt: HostRuntime) {
     let head = b"GET / HTTP/1.0\r\nUpgrade: one\r\nOther: two\r\nUPGRADE:  three \r\n\r\n";
     let mut fields = [EMPTY_HEADER_SPAN; MOST_FIELDS];
-    let Reading::Get(request) = read_head(head, &[], &mut fields) else {
+    let Reading::Taken(request) = read_head(head, &[], &mut fields) else {
         panic!(rt; "not taken")
     };
     let Some((one, rest)) = first_value(head, &fields[..request.headers], b"upgrade") else {
@@ -203,4 +206,28 @@ fn values_come_in_order(rt: HostRuntime) {
     };
     assert!(rt; one == b"one".as_slice() && three == b"three".as_slice());
     assert!(rt; first_value(head, rest, b"upgrade").is_none());
+}
+
+#[test]
+fn a_head_alone_is_asked_for(rt: HostRuntime) {
+    let heads: [&[u8]; 3] = [
+        b"HEAD / HTTP/1.1\r\nHost: localhost\r\n\r\n",
+        b"\r\n\nHEAD / HTTP/1.0\n\n",
+        // Also if it is refused.
+        b"HEAD /\xff",
+    ];
+    for bytes in heads {
+        assert!(rt; wants_head_alone(bytes));
+    }
+    let others: [&[u8]; 6] = [
+        b"",
+        b"\r\n",
+        b"HEAD",
+        b"HEADS / HTTP/1.0\r\n\r\n",
+        b"head / HTTP/1.0\r\n\r\n",
+        b"GET /HEAD HTTP/1.0\r\n\r\n",
+    ];
+    for bytes in others {
+        assert!(rt; !wants_head_alone(bytes));
+    }
 }

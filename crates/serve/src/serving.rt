@@ -11,7 +11,7 @@ use recorder_threads::connections::{Device, Hall, Room};
 use recorder_threads::refusals::{Refusal, Stopped};
 use recorder_threads::shared_book::{Mark, Shared, Sharing, Token};
 use recorder_threads::{Comer, Doors, Service, Work, refuse, run_threads};
-use serve_plan::{Origin, Plan};
+use serve_plan::{Origin, Plan, names_of};
 use sockets::{Bell, Listeners, listen_at};
 use std::fmt::Display;
 use std::fs::File;
@@ -100,7 +100,7 @@ fn serve_opened<M: Mark + Send + Sync, R: Threads + Clock + Wait + Sync + AllocG
         comers,
         stop: plan.stop,
     };
-    let names = [plan.web_name.unwrap_or("").as_bytes()];
+    let names = names_of(rt.alloc(), plan.web_names)?;
     let service = Service {
         rt,
         shared: &shared,
@@ -276,7 +276,8 @@ where
     let committed = serve_opened::<Brand, R, W>(
         rt, plan, token, opened, arrivals, bell, telling, last_error, err,
     )?;
-    if !is_still_at(rt, plan.file, identity, written.end()) {
+    // Who only shows a recording has written nothing that could be missing.
+    if plan.host.is_some() && !is_still_at(rt, plan.file, identity, written.end()) {
         telling.tell(rt, Event::Replaced(plan.file));
         return Err(Stopped::Refused(Refusal::File));
     }

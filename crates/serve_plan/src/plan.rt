@@ -1,5 +1,8 @@
 //! What is to be served, and for how long.
 
+ghost use Rattle.std.specs.Prelude.{◌≡◌, ℕ, not, false, true};
+ghost use Rattle.serve_plan.specs.Terms.{is_over_with_host};
+
 use playing::Pace;
 use reception::{Stop, Term};
 use telling::Told;
@@ -44,8 +47,8 @@ pub struct Plan<'a> {
     pub listen: Option<&'a str>,
     /// The address that browsers connect to; without one only viewers watch.
     pub web: Option<&'a str>,
-    /// By which name browsers may ask, besides addresses and `localhost`.
-    pub web_name: Option<&'a str>,
+    /// By which names browsers may ask, besides addresses and `localhost`, with a comma between two.
+    pub web_names: Option<&'a str>,
     /// The host's address; without one the recording is served alone.
     pub host: Option<&'a str>,
     /// The format of a new recording.
@@ -54,6 +57,9 @@ pub struct Plan<'a> {
     pub key_interval: u16,
     /// How many viewers are served.
     pub audience: Audience,
+    /// Whether the end of the host is that of a recorder to which whoever likes comes, also with
+    /// browsers.
+    pub ends_with_host: bool,
     /// Whether what follows the end of the recording is written over, whatever it is.
     pub overwrites: bool,
     /// The position at which each viewer begins.
@@ -68,12 +74,30 @@ pub struct Plan<'a> {
 }
 
 impl Plan<'_> {
+    // Whether there is a host, whose end is the recorder's.
+    fn is_over_with_host(&self) -> bool
+        ensures { result ≡ is_over_with_host self.now }
+    {
+        self.host.is_some() && (self.ends_with_host || self.web.is_none())
+    }
+
     /// What the recorder waits for before it ends.
-    pub fn term(&self) -> Term {
+    pub fn term(&self) -> Term
+        ensures viewers { (all : ℕ) → self.now.audience ≡ Audience.Count all → result ≡ Term.Viewers all }
+        ensures recording { self.now.audience ≡ Audience.Any → is_over_with_host self.now ≡ true → result ≡ Term.Recording }
+        ensures stop { self.now.audience ≡ Audience.Any → is_over_with_host self.now ≡ false → result ≡ Term.Stop }
+    {
         match self.audience {
             Audience::Count(all) => Term::Viewers(all),
-            Audience::Any if self.host.is_some() && self.web.is_none() => Term::Recording,
+            Audience::Any if self.is_over_with_host() => Term::Recording,
             Audience::Any => Term::Stop,
         }
+    }
+
+    /// Whether viewers stay once nothing more is recorded, until the recorder is stopped.
+    pub fn keeps_viewers(&self) -> bool
+        ensures { result ≡ not (is_over_with_host self.now) }
+    {
+        !self.is_over_with_host()
     }
 }

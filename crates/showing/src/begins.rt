@@ -1,6 +1,6 @@
 //! How viewers begin.
 
-ghost use Rattle.std.specs.Prelude.{◌≡◌, max};
+ghost use Rattle.std.specs.Prelude.{◌≡◌, ◌⊎◌, false, max, true};
 
 /// How a viewer begins, as it stands when it comes.
 #[derive(Clone, Copy, Debug, PartialEq, Eq)]
@@ -24,6 +24,19 @@ impl Begins {
         Begins::After {
             from,
             each_until: from.max(committed),
+        }
+    }
+
+    /// How one that begins so is shown the rest once the recorder is closing: one that says nothing
+    /// any more is a live one then, for which nobody has to wait message by message.
+    pub fn at_the_end(self, is_closing: bool, is_silent: bool) -> Begins
+        ensures silent { is_closing ≡ true → is_silent ≡ true → result ≡ Begins.Live }
+        ensures otherwise { ((is_closing ≡ false) ⊎ (is_silent ≡ false)) → result ≡ self }
+    {
+        if is_closing && is_silent {
+            Begins::Live
+        } else {
+            self
         }
     }
 }

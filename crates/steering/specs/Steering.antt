@@ -4,6 +4,8 @@ use Rattle.web_target.specs.declared.asked.Beginning.{Beginning}
 use Rattle.web_target.specs.declared.asked.Beginning.TheVariants as begins
 use Rattle.web_target.specs.declared.asked.Order.{Order}
 use Rattle.web_target.specs.declared.asked.Order.TheVariants as order
+use Rattle.steering.specs.declared.course.Stage.{Stage}
+use Rattle.steering.specs.declared.course.Stage.TheVariants as stage
 use Rattle.steering.specs.declared.steering.Showing.{Showing}
 use Rattle.steering.specs.declared.steering.Showing.TheVariants as shows
 use Rattle.steering.specs.declared.steering.Steering.{Steering}
@@ -48,12 +50,18 @@ begins_at length now (shows.After count) = now
 begins_at length now (shows.Played playback) = min playback.time length
 begins_at length now (shows.Still time) = min time length
 
+-- who is shown each message after its beginning is handed a screen only to catch up, the newest
+abbrev pub time_after_messages : Stage → ℕ → ℕ → ℕ
+time_after_messages stage.Ordered length now = now
+time_after_messages stage.Begun length now = now
+time_after_messages stage.Obeyed length now = length
+
 -- the time of a screen that is handed out in a session that is so long, for who is at that time
-abbrev pub time_of_screen : ℕ → ℕ → Showing → ℕ
-time_of_screen length now shows.Live = length
-time_of_screen length now (shows.After count) = now
-time_of_screen length now (shows.Played playback) = now
-time_of_screen length now (shows.Still time) = now
+abbrev pub time_of_screen : Stage → ℕ → ℕ → Showing → ℕ
+time_of_screen stage length now shows.Live = length
+time_of_screen stage length now (shows.After count) = time_after_messages stage length now
+time_of_screen stage length now (shows.Played playback) = now
+time_of_screen stage length now (shows.Still time) = now
 
 -- what follows on an order at a time
 abbrev pub after_order : Order → ℕ → Steering → Steering

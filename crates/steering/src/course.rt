@@ -83,16 +83,22 @@ impl Course {
     }
 
     /// Hands it a screen of what was begun last, unless it has asked for something else: that is obeyed.
-    /// The newest screen, in a session of this length in milliseconds, is of its end.
+    /// The newest screen, in a session of this length in milliseconds, is of its end: each of a live
+    /// viewer, and each but the first of one that is shown each message, since it has fallen behind.
     pub fn hand_screen(&mut self, length: u32)
-        ensures obeyed { self.old.stage ≢ Stage.Ordered → self.new ≡ record self.old { stage = Stage.Obeyed; time = time_of_screen length self.old.time self.old.steering.showing } }
+        ensures obeyed { self.old.stage ≢ Stage.Ordered → self.new ≡ record self.old { stage = Stage.Obeyed; time = time_of_screen self.old.stage length self.old.time self.old.steering.showing } }
         ensures other { self.old.stage ≡ Stage.Ordered → self.new ≡ self.old }
     {
         if self.stage == Stage::Ordered {
             return;
         }
+        let is_newest = match self.steering.showing {
+            Showing::Live => true,
+            Showing::After(_) => self.stage == Stage::Obeyed,
+            Showing::Played(_) | Showing::Still(_) => false,
+        };
         self.stage = Stage::Obeyed;
-        if self.steering.showing == Showing::Live {
+        if is_newest {
             self.time = length;
         }
     }

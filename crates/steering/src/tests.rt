@@ -139,6 +139,20 @@ fn an_order_is_obeyed_by_its_own_screen(rt: HostRuntime) -> Result<(), Fail> {
 }
 
 #[test]
+fn who_falls_behind_is_at_the_end(rt: HostRuntime) -> Result<(), Fail> {
+    let mut course = Course::of(Steering::of(Beginning::After(7), pace_of(1000)?), 900);
+    course.begin();
+    // The screen before its first message, and that message.
+    course.hand_screen(910);
+    assert!(rt; course.is_obeyed() && course.time == 0);
+    course.hand_message(30);
+    // The newest screen, in place of what it has missed.
+    course.hand_screen(920);
+    assert!(rt; course.time == 920);
+    Ok(())
+}
+
+#[test]
 fn viewers_begin_as_they_ask(rt: HostRuntime) -> Result<(), Fail> {
     let (normal, fast) = (pace_of(1000)?, pace_of(2000)?);
     let playback = Playback {

@@ -6,9 +6,11 @@ mod output;
 mod queue;
 mod silence;
 mod telling;
+mod times_left;
 mod words;
 
 pub use queue::{Item, Queue};
 pub use silence::{Answering, Silence};
 pub use telling::{Telling, Told};
+pub use times_left::{TimesLeft, TimesWatch};
 pub use words::Event;

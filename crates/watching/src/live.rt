@@ -34,8 +34,10 @@ impl Live {
         viewing: &Viewing<'_, M, C, R>,
     ) -> Situation {
         let standing = viewing.viewer.standing(viewing.rt);
+        let is_closing = viewing.is_closing();
+        let is_silent = is_closing && viewing.viewer.is_silent(viewing.rt);
         Situation {
-            begins: self.begins,
+            begins: self.begins.at_the_end(is_closing, is_silent),
             position: viewing.position,
             committed: viewing.room.committed(),
             is_fresh: viewing.is_fresh,
@@ -47,7 +49,7 @@ impl Live {
             is_short: viewing.is_short,
             has_failed: viewing.has_failed,
             has_left: viewing.viewer.is_over(),
-            is_closing: viewing.is_closing(),
+            is_closing,
             is_alone: viewing.room.is_alone,
         }
     }

@@ -10,7 +10,7 @@ use Rattle.request_head.specs.declared.head.Fault.{Fault}
 use Rattle.request_head.specs.declared.head.Fault.TheVariants.{BadRequest, Forbidden, NotFound, MethodNotAllowed, TooLarge}
 use Rattle.request_head.specs.Fields.{Fields, covered, fields_of}
 use Rattle.request_head.specs.Heads.{ReadsHead}
-use Rattle.request_head.specs.Judgement.{IsFaultOf, IsGetAt, TakesHead}
+use Rattle.request_head.specs.Judgement.{IsFaultOf, IsTakenAt, TakesHead}
 use Rattle.web_target.specs.declared.asked.Asked.TheVariants.{Watch}
 use Rattle.web_target.specs.declared.asked.Beginning.{Beginning}
 use Rattle.web_target.specs.Targets.{IsTargetOf}
@@ -60,7 +60,7 @@ of_head names front head rest is_all reads takes whole part judged (inr (inl is)
 of_head names front head rest is_all reads takes whole part judged (inr (inr is)) =
     rw is.1 (head, rest, reads, takes, is.0)
 
-pub of_request : (names : List (Bor (List ℕ))) (front : List ℕ) (spans : List HeaderSpan) (request : RequestSpans) (head : RequestHead) → IsGetAt names front spans request head
+pub of_request : (names : List (Bor (List ℕ))) (front : List ℕ) (spans : List HeaderSpan) (request : RequestSpans) (head : RequestHead) → IsTakenAt names front spans request head
     → (judged : Judged)
     → IsRequests (span_bytes front request.method) (span_bytes front request.path) request.version (covered front (take request.headers spans)) (request.len ≡ length front) judged
     → IsJudgedBy names front judged

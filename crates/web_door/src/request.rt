@@ -79,7 +79,7 @@ fn judge_front(front: &[u8], names: &[&[u8]]) -> Judged
     let mut spans = [EMPTY_HEADER_SPAN; MOST_FIELDS];
     match read_head(front, names, &mut spans) {
         Reading::Unfinished => Judged::Unfinished,
-        Reading::Get(request) => judge_request(front, &request, &spans),
+        Reading::Taken(request) => judge_request(front, &request, &spans),
         Reading::Refused(fault) => Judged::Refused(Refusal::Head(fault)),
     }
 }

@@ -39,10 +39,10 @@ carried (Some (ping _)) = []
 carried (Some (pong _)) = []
 carried (Some (close _)) = []
 
--- a text, and a newline
+-- a text, and the byte that ends it: one that no UTF-8 has (RFC 3629, section 3)
 abbrev pub said : Option Content → List ℕ
 said None = []
-said (Some (text bytes)) = bytes ++ 10 ∷ []
+said (Some (text bytes)) = bytes ++ 255 ∷ []
 said (Some (binary _)) = []
 said (Some (ping _)) = []
 said (Some (pong _)) = []

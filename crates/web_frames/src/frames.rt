@@ -15,7 +15,7 @@ ghost use Rattle.web_frames.specs.declared.fault.Fault.TheVariants.{NoMemory};
 ghost use Rattle.web_frames.specs.Frames.{Gives, HasHeard, IsSame, Refuses, StepsTo, StopsAt};
 
 use crate::fault::Fault;
-use crate::heard::Heard;
+use crate::heard::{END_OF_TEXT, Heard};
 use std::alloc::Global;
 use std::marker::Model;
 use websocket::protocol::{
@@ -61,7 +61,7 @@ fn carry(message: &Option<Received>, input: &[u8], heard: &mut Heard) -> Result<
         Message::Binary(bytes) => Ok(heard.payload.extend_from_slice(bytes)?),
         Message::Text(text) => {
             heard.words.extend_from_slice(text.as_bytes())?;
-            Ok(heard.words.extend_from_slice(b"\n")?)
+            Ok(heard.words.extend_from_slice(&[END_OF_TEXT])?)
         }
         _ => Ok(()),
     }

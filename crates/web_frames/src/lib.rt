@@ -7,7 +7,7 @@ mod heard;
 
 pub use fault::Fault;
 pub use frames::{Frames, LONGEST_FRAME, cuts_do_not_matter, frames_are_read_as_written};
-pub use heard::Heard;
+pub use heard::{END_OF_TEXT, Heard};
 
 #[cfg(test)]
 mod tests;

@@ -34,7 +34,7 @@ fn frames_of_clients_are_heard(rt: HostRuntime) -> Result<(), Fail> {
     for piece in [1, 7, 100] {
         let (heard, end) = heard(&rt, &bytes, piece)?;
         assert!(rt; end.is_ok());
-        assert!(rt; heard.words.as_slice() == b"Hello\nHello\n".as_slice());
+        assert!(rt; heard.words.as_slice() == b"Hello\xffHello\xff".as_slice());
         assert!(rt; heard.payload.as_slice() == b"Hello".as_slice());
         // A server's pong isn't masked.
         assert!(rt; heard.replies.as_slice() == b"\x8a\x05\x48\x65\x6c\x6c\x6f".as_slice());
@@ -96,7 +96,7 @@ fn faults_end_a_connection(rt: HostRuntime) -> Result<(), Fail> {
         all.extend_from_slice(bytes)?;
         let (heard, end) = heard(&rt, &all, 100)?;
         assert!(rt; end == Err(fault), "{fault}");
-        assert!(rt; heard.words.as_slice() == b"Hello\n".as_slice());
+        assert!(rt; heard.words.as_slice() == b"Hello\xff".as_slice());
         let echo: &[u8] = if fault == Fault::Closed {
             b"\x88\x02\x03\xe8"
         } else {

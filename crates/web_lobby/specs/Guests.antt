@@ -1,10 +1,12 @@
 -- Which of the connections that are served are meant.
-use Rattle.std.specs.Prelude.{ℕ, ◌+◌, ◌==◌, ◌&&◌, nat_le, not, Bool}
+use Rattle.std.specs.Prelude.{ℕ, ◌+◌, ◌==◌, nat_le, Bool, true, false}
 use Rattle.web_lobby.specs.declared.guests.Guest.{Guest}
+use Rattle.web_lobby.specs.declared.guests.Progress.{Progress}
+use Rattle.web_lobby.specs.declared.guests.Progress.TheVariants.{Asking, Answered, Over}
 
 -- how many are served at a time
 abbrev pub most : ℕ
-most = 16
+most = 128
 
 -- for how many milliseconds one may say nothing
 abbrev pub patience : ℕ
@@ -14,6 +16,12 @@ patience = 1000
 abbrev pub has_number : ℕ → Guest → Bool
 has_number number g = g.number == number
 
--- nothing came from it for so long, and it isn't answered
-abbrev pub is_silent : ℕ → Guest → Bool
-is_silent now g = not g.is_answered && nat_le (g.heard + patience) now
+-- one that came so far, and of which something came at this time last, gives way to another now
+abbrev pub is_given_up : ℕ → ℕ → Progress → Bool
+is_given_up now heard Asking = nat_le (heard + patience) now
+is_given_up now heard Answered = false
+is_given_up now heard Over = true
+
+-- it gives way: nothing came from it for so long before its request was whole, or its answer is written
+abbrev pub gives_way : ℕ → Guest → Bool
+gives_way now g = is_given_up now g.heard g.progress

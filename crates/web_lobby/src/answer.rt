@@ -1,13 +1,38 @@
-//! Answers: HTTP responses with a body that is known before it is written.
+//! Answers: HTTP responses, with a body that is known before it is written, or without it.
+
+ghost use Rattle.std.specs.Prelude.{◌≡◌, ◌↔◌, true};
+ghost use Rattle.request_head.specs.Lines.{begins_with_head};
 
 use arrayvec::ArrayString;
-use request_head::Fault;
+use request_head::{Fault, wants_head_alone};
 use std::fmt::Display;
 use std::io::Write;
 use std::{fmt, io};
 
 /// No text of a refusal is longer, in bytes.
 const LONGEST_WHY: usize = 100;
+
+/// How much of an answer is written.
+#[derive(Clone, Copy, Debug, PartialEq, Eq)]
+pub enum Extent {
+    /// Its head and its body.
+    Whole,
+    /// Its head alone, as HEAD asks for it (RFC 9110, section 9.3.2).
+    HeadAlone,
+}
+
+impl Extent {
+    /// That of the answer to a request that begins so.
+    pub fn of(request: &[u8]) -> Extent
+        ensures { (result ≡ Extent.HeadAlone) ↔ (begins_with_head request.now ≡ true) }
+    {
+        if wants_head_alone(request) {
+            Extent::HeadAlone
+        } else {
+            Extent::Whole
+        }
+    }
+}
 
 /// What an answer is, in HTTP's words (RFC 9110, sections 8.3 and 15).
 #[derive(Clone, Copy)]
@@ -16,8 +41,8 @@ pub struct Head<'a> {
     pub status: &'a str,
     /// The media type of the body.
     pub media: &'a str,
-    /// How many bytes the body has.
-    pub size: u64,
+    /// How many bytes the body has, if that is known.
+    pub size: Option<u64>,
 }
 
 /// The status of an answer that refuses what isn't a WebSocket of version 13. It names that protocol
@@ -32,10 +57,10 @@ pub fn write_head<W: Write>(out: &mut W, head: Head<'_>) -> io::Result<()> {
         media,
         size,
     } = head;
-    write!(
-        out,
-        "HTTP/1.1 {status}\r\nContent-Type: {media}\r\nContent-Length: {size}\r\n"
-    )?;
+    write!(out, "HTTP/1.1 {status}\r\nContent-Type: {media}\r\n")?;
+    if let Some(size) = size {
+        write!(out, "Content-Length: {size}\r\n")?;
+    }
     write!(
         out,
         "Cache-Control: no-store\r\nX-Content-Type-Options: nosniff\r\nReferrer-Policy: no-referrer\r\n"
@@ -50,12 +75,18 @@ pub fn write_head<W: Write>(out: &mut W, head: Head<'_>) -> io::Result<()> {
             "Upgrade: websocket\r\nSec-WebSocket-Version: 13\r\nConnection: upgrade\r\n"
         )?;
     }
-    write!(out, "Allow: GET\r\nConnection: close\r\n\r\n")
+    write!(out, "Allow: GET, HEAD\r\nConnection: close\r\n\r\n")
 }
 
-/// Writes a whole answer.
-pub fn write_text<W: Write>(out: &mut W, status: &str, media: &str, text: &str) -> io::Result<()> {
-    let size = text.len() as u64;
+/// Writes an answer, or its head alone.
+pub fn write_answer<W: Write>(
+    out: &mut W,
+    status: &str,
+    media: &str,
+    body: &[u8],
+    extent: Extent,
+) -> io::Result<()> {
+    let size = Some(body.len() as u64);
     write_head(
         out,
         Head {
@@ -64,12 +95,26 @@ pub fn write_text<W: Write>(out: &mut W, status: &str, media: &str, text: &str) 
             size,
         },
     )?;
-    out.write_all(text.as_bytes())
+    match extent {
+        Extent::Whole => out.write_all(body),
+        Extent::HeadAlone => Ok(()),
+    }
 }
 
 /// Writes why something isn't given, in a line.
-pub fn write_failure<W: Write>(out: &mut W, status: &str, why: &str) -> io::Result<()> {
-    write_text(out, status, "text/plain; charset=utf-8", why)
+pub fn write_failure<W: Write>(
+    out: &mut W,
+    status: &str,
+    why: &str,
+    extent: Extent,
+) -> io::Result<()> {
+    write_answer(
+        out,
+        status,
+        "text/plain; charset=utf-8",
+        why.as_bytes(),
+        extent,
+    )
 }
 
 /// Writes why a request is refused, as a line.
@@ -77,10 +122,11 @@ pub fn write_refusal<W: Write, T: Display + Drop>(
     out: &mut W,
     status: &str,
     why: T,
+    extent: Extent,
 ) -> io::Result<()> {
     let mut text = ArrayString::<LONGEST_WHY>::new();
     let _written = fmt::Write::write_fmt(&mut text, format_args!("{why}\n"));
-    write_failure(out, status, text.as_str())
+    write_failure(out, status, text.as_str(), extent)
 }
 
 /// What the answer to a request that is refused for its head begins with.

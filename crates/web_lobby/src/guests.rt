@@ -1,17 +1,29 @@
 //! Which connections are served: few at a time.
 
 ghost use Rattle.std.specs.Prelude.{◌≡◌, ◌≤◌, ◌+◌, ◌<◌, ◌^◌, ◌++◌, ◌∷◌, [], ℕ, List, None, Some, false, length, position, remove, slice_get, slice_set};
-ghost use Rattle.web_lobby.specs.Guests.{has_number, is_silent, most};
+ghost use Rattle.web_lobby.specs.Guests.{gives_way, has_number, most};
 ghost use Rattle.web_lobby.specs.declared.guests.Guest.{Guest as GuestValue};
 
 use arrayvec::ArrayVec;
 use std::marker::Model;
 
 /// How many connections are served at a time.
-const MOST: usize = 16;
+const MOST: usize = 128;
 
 /// For how many milliseconds a connection may say nothing before it gives way to another.
 const PATIENCE: u64 = 1000;
+
+/// How far a connection has come.
+#[derive(Clone, Copy, Debug, Default, PartialEq, Eq)]
+pub enum Progress {
+    /// Its request isn't whole yet.
+    #[default]
+    Asking,
+    /// Its request is whole, and it is answered.
+    Answered,
+    /// Its answer is written; only its end is waited for.
+    Over,
+}
 
 /// A connection that is served.
 #[derive(Clone, Copy, Debug, Default, PartialEq, Eq)]
@@ -20,8 +32,7 @@ pub struct Guest {
     pub number: u64,
     /// When something came from it last, or it came itself, in milliseconds of the server.
     pub heard: u64,
-    /// Whether its request is whole, and it is answered.
-    pub is_answered: bool,
+    pub progress: Progress,
 }
 
 /// How a new connection is received.
@@ -51,10 +62,14 @@ impl Model for Guests {
 }
 
 // Whether a connection gives way to another at this time.
-fn is_silent(guest: &Guest, now: u64) -> bool
-    ensures { result ≡ is_silent now guest.now }
+fn gives_way(guest: &Guest, now: u64) -> bool
+    ensures { result ≡ gives_way now guest.now }
 {
-    !guest.is_answered && now.saturating_sub(guest.heard) >= PATIENCE
+    match guest.progress {
+        Progress::Asking => now.saturating_sub(guest.heard) >= PATIENCE,
+        Progress::Answered => false,
+        Progress::Over => true,
+    }
 }
 
 impl Guests {
@@ -75,35 +90,36 @@ impl Guests {
     }
 
     // The index of the first connection that gives way at this time.
-    fn first_silent(&self, now: u64) -> Option<usize>
-        ensures { result ≡ position (is_silent now) self.now }
+    fn first_to_go(&self, now: u64) -> Option<usize>
+        ensures { result ≡ position (gives_way now) self.now }
     {
-        self.guests.iter().position(|guest| is_silent(guest, now))
+        self.guests.iter().position(|guest| gives_way(guest, now))
     }
 
     /// Receives a connection of this number at this time. If as many as may be are served, it
-    /// replaces the first that has said nothing for a second, without a whole request.
+    /// replaces the first whose answer is written, or that has said nothing for a second, without a
+    /// whole request.
     pub fn enter(&mut self, number: u64, now: u64) -> Entrance
         ensures free { length self.old < most → (result ≡ Entrance.Free)
-            × (self.new ≡ self.old ++ record { number = number; heard = now; is_answered = false } ∷ []) }
-        ensures in_place { (i : ℕ) (gone : GuestValue) → most ≤ length self.old → position (is_silent now) self.old ≡ Some i
+            × (self.new ≡ self.old ++ record { number = number; heard = now; progress = Progress.Asking } ∷ []) }
+        ensures in_place { (i : ℕ) (gone : GuestValue) → most ≤ length self.old → position (gives_way now) self.old ≡ Some i
             → slice_get self.old i ≡ Some gone → (result ≡ Entrance.InPlaceOf gone.number)
-            × (self.new ≡ remove self.old i ++ record { number = number; heard = now; is_answered = false } ∷ []) }
-        ensures full { most ≤ length self.old → position (is_silent now) self.old ≡ None → (result ≡ Entrance.Full) × (self.new ≡ self.old) }
+            × (self.new ≡ remove self.old i ++ record { number = number; heard = now; progress = Progress.Asking } ∷ []) }
+        ensures full { most ≤ length self.old → position (gives_way now) self.old ≡ None → (result ≡ Entrance.Full) × (self.new ≡ self.old) }
     {
         let guest = Guest {
             number,
             heard: now,
-            is_answered: false,
+            progress: Progress::Asking,
         };
         if !self.guests.is_full() {
             self.guests.push(guest);
             return Entrance::Free;
         }
-        match self.first_silent(now) {
-            Some(silent) => {
-                let gone = self.guests[silent].number;
-                self.guests.remove(silent);
+        match self.first_to_go(now) {
+            Some(index) => {
+                let gone = self.guests[index].number;
+                self.guests.remove(index);
                 self.guests.push(guest);
                 Entrance::InPlaceOf(gone)
             }
@@ -111,18 +127,18 @@ impl Guests {
         }
     }
 
-    /// Notes that something came from the connection of this number, and whether its request is
-    /// whole with it. One that isn't served any more is passed over.
-    pub fn hear(&mut self, number: u64, now: u64, is_answered: bool)
-        ensures heard { (i : ℕ) → position (has_number number) self.old ≡ Some i
-            → self.new ≡ slice_set self.old i (record { number = number; heard = now; is_answered = is_answered }) }
+    /// Notes that the connection of this number has come so far at this time. One that isn't served
+    /// any more is passed over.
+    pub fn note(&mut self, number: u64, now: u64, progress: Progress)
+        ensures noted { (i : ℕ) → position (has_number number) self.old ≡ Some i
+            → self.new ≡ slice_set self.old i (record { number = number; heard = now; progress = progress }) }
         ensures gone { position (has_number number) self.old ≡ None → self.new ≡ self.old }
     {
         if let Some(position) = self.position_of(number) {
             self.guests[position] = Guest {
                 number,
                 heard: now,
-                is_answered,
+                progress,
             };
         }
     }

@@ -2,6 +2,8 @@
 
 ghost use Rattle.std.specs.Prelude.{◌≤◌, IfOk, length};
 
+use crate::answer::Extent;
+use crate::guests::Progress;
 use crate::lobby::Lobby;
 use sockets::{Bell, Connection, Woken, time_left};
 use std::alloc::Global;
@@ -92,6 +94,15 @@ fn read_piece<R: Clock>(
     }
 }
 
+/// What was heard of a connection.
+#[derive(Clone, Copy, Debug, PartialEq, Eq)]
+pub struct Heard<T> {
+    /// What it asks for.
+    pub asked: T,
+    /// How much of the answer it is given.
+    pub extent: Extent,
+}
+
 /// Reads until what came is judged: what it is.
 pub fn hear<R: Clock + Wait, T: Drop, F: Fn(&[u8]) -> Option<T>>(
     rt: &R,
@@ -101,7 +112,7 @@ pub fn hear<R: Clock + Wait, T: Drop, F: Fn(&[u8]) -> Option<T>>(
     stream: &TcpStream,
     number: u64,
     judge: F,
-) -> io::Result<T>
+) -> io::Result<Heard<T>>
     requires { F.IsAlwaysCallable judge }
 {
     let mut head = Vec::new(alloc);
@@ -114,17 +125,28 @@ pub fn hear<R: Clock + Wait, T: Drop, F: Fn(&[u8]) -> Option<T>>(
         }
         head.extend_from_slice(&buffer[..count])?;
         let judged = judge(&head);
-        lobby.hear(rt, number, judged.is_some());
-        if let Some(judged) = judged {
-            return Ok(judged);
-        }
+        let Some(asked) = judged else {
+            lobby.note(rt, number, Progress::Asking);
+            continue;
+        };
+        lobby.note(rt, number, Progress::Answered);
+        let extent = Extent::of(&head);
+        return Ok(Heard { asked, extent });
     }
     Err(io::ErrorKind::UnexpectedEof.into())
 }
 
-/// Reads what else comes until the other side has ended too, and not for long: a socket that is
-/// closed with bytes unread may take back what was written.
-pub fn wait_for_end<R: Clock>(rt: &R, bell: &Bell, stream: &TcpStream) -> io::Result<()> {
+/// Reads what else comes of a connection whose answer is written until the other side has ended too,
+/// and not for long: a socket that is closed with bytes unread may take back what was written.
+/// Meanwhile it gives way to others.
+pub fn wait_for_end<R: Clock + Wait>(
+    rt: &R,
+    bell: &Bell,
+    lobby: &Lobby,
+    stream: &TcpStream,
+    number: u64,
+) -> io::Result<()> {
+    lobby.note(rt, number, Progress::Over);
     stream.shutdown(Shutdown::Write)?;
     let mut buffer = [0u8; PIECE];
     let started = Instant::now(rt)?;

@@ -7,8 +7,9 @@ mod hearing;
 mod lobby;
 
 pub use answer::{
-    Head, UPGRADE_REQUIRED, status_of, write_failure, write_head, write_refusal, write_text,
+    Extent, Head, UPGRADE_REQUIRED, status_of, write_answer, write_failure, write_head,
+    write_refusal,
 };
-pub use guests::{Entrance, Guest, Guests};
-pub use hearing::{Outlet, hear, wait_for_end};
+pub use guests::{Entrance, Guest, Guests, Progress};
+pub use hearing::{Heard, Outlet, hear, wait_for_end};
 pub use lobby::Lobby;

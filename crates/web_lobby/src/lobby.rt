@@ -1,6 +1,6 @@
 //! Those who are served, and their sockets.
 
-use crate::guests::{Entrance, Guests};
+use crate::guests::{Entrance, Guests, Progress};
 use std::alloc::Global;
 use std::io;
 use std::net::{Shutdown, TcpStream};
@@ -81,10 +81,10 @@ impl Lobby {
         Some((number, stream))
     }
 
-    /// Notes that something came from a connection, and whether its request is whole.
-    pub fn hear<R: Clock + Wait>(&self, rt: &R, number: u64, is_whole: bool) {
+    /// Notes that a connection has come so far.
+    pub fn note<R: Clock + Wait>(&self, rt: &R, number: u64, progress: Progress) {
         let now = self.now(rt);
-        self.served.lock(rt).guests.hear(number, now, is_whole);
+        self.served.lock(rt).guests.note(number, now, progress);
     }
 
     /// Ends the service of a connection.

@@ -10,12 +10,15 @@ use std::io::{BufWriter, Write};
 use std::net::{SocketAddr, TcpStream};
 use std::sync::{Arc, Wait};
 use std::time::Clock;
+use telling::Telling;
 use web_door::{Judged, Refusal, judge, write_answer};
 use web_lobby::{
-    Head, Lobby, Outlet, UPGRADE_REQUIRED, hear, status_of, wait_for_end, write_failure,
-    write_head, write_refusal,
+    Extent, Head, Heard, Lobby, Outlet, UPGRADE_REQUIRED, hear, status_of, wait_for_end,
+    write_answer as write_response, write_failure, write_head, write_refusal,
 };
 use web_target::Asked;
+
+const OK: &str = "200 OK";
 
 const HTML: &str = "text/html; charset=utf-8";
 
@@ -35,6 +38,7 @@ pub struct Porch<'a, R> {
     pub bell: &'a Bell,
     /// The browsers that are served.
     pub lobby: &'a Lobby,
+    pub telling: &'a Telling,
     /// By which names browsers may ask, besides addresses and `localhost`.
     pub names: &'a [&'a [u8]],
 }
@@ -58,28 +62,48 @@ impl<'a, R: Clock + Wait> Porch<'a, R> {
         }
     }
 
-    // Answers, and ends the connection.
-    fn give(&self, stream: &TcpStream, media: &str, body: &[u8]) -> io::Result<()> {
+    // Answers as much as is asked for, and ends the connection.
+    fn give(
+        &self,
+        stream: &TcpStream,
+        number: u64,
+        media: &str,
+        body: &[u8],
+        extent: Extent,
+    ) -> io::Result<()> {
+        let mut out = BufWriter::new(self.alloc, Outlet::new(self.rt, self.bell, stream)?)?;
+        write_response(&mut out, OK, media, body, extent)?;
+        out.flush()?;
+        wait_for_end(self.rt, self.bell, self.lobby, stream, number)
+    }
+
+    // Answers the head of what isn't made for it, and ends the connection. Its length isn't known.
+    fn give_head(&self, stream: &TcpStream, number: u64, media: &str) -> io::Result<()> {
         let mut out = BufWriter::new(self.alloc, Outlet::new(self.rt, self.bell, stream)?)?;
         write_head(
             &mut out,
             Head {
-                status: "200 OK",
+                status: OK,
                 media,
-                size: body.len() as u64,
+                size: None,
             },
         )?;
-        out.write_all(body)?;
         out.flush()?;
-        wait_for_end(self.rt, self.bell, stream)
+        wait_for_end(self.rt, self.bell, self.lobby, stream, number)
     }
 
     // Says why a request is refused, and ends the connection.
-    fn refuse(&self, stream: &TcpStream, refusal: Refusal) -> io::Result<()> {
+    fn refuse(
+        &self,
+        stream: &TcpStream,
+        number: u64,
+        refusal: Refusal,
+        extent: Extent,
+    ) -> io::Result<()> {
         let mut out = BufWriter::new(self.alloc, Outlet::new(self.rt, self.bell, stream)?)?;
-        write_refusal(&mut out, status_of_refusal(refusal), refusal)?;
+        write_refusal(&mut out, status_of_refusal(refusal), refusal, extent)?;
         out.flush()?;
-        wait_for_end(self.rt, self.bell, stream)
+        wait_for_end(self.rt, self.bell, self.lobby, stream, number)
     }
 
     // Answers a viewer's request.
@@ -90,12 +114,19 @@ impl<'a, R: Clock + Wait> Porch<'a, R> {
     }
 
     // Answers what isn't of a recording.
-    fn answer(&self, stream: &TcpStream, asked: Asked) -> io::Result<Option<Wish>> {
+    fn answer(
+        &self,
+        stream: &TcpStream,
+        number: u64,
+        asked: Asked,
+        extent: Extent,
+    ) -> io::Result<Option<Wish>> {
         match asked {
-            Asked::Page => self.give(stream, HTML, PAGE.as_bytes())?,
-            Asked::Painter => self.give(stream, JAVASCRIPT, PAINTER.as_bytes())?,
-            Asked::Script => self.give(stream, JAVASCRIPT, SCRIPT.as_bytes())?,
-            Asked::Style => self.give(stream, CSS, STYLE.as_bytes())?,
+            Asked::Page => self.give(stream, number, HTML, PAGE.as_bytes(), extent)?,
+            Asked::Painter => self.give(stream, number, JAVASCRIPT, PAINTER.as_bytes(), extent)?,
+            Asked::Script => self.give(stream, number, JAVASCRIPT, SCRIPT.as_bytes(), extent)?,
+            Asked::Style => self.give(stream, number, CSS, STYLE.as_bytes(), extent)?,
+            Asked::Times(_) if extent == Extent::HeadAlone => self.give_head(stream, number, JSON)?,
             Asked::Times(survey) => return Ok(Some(Wish::Times(survey))),
             Asked::Watch(_) => {}
         }
@@ -103,9 +134,14 @@ impl<'a, R: Clock + Wait> Porch<'a, R> {
     }
 
     // Hears one request: what of a recording it asks for, if it isn't answered to its end.
-    fn converse(&self, stream: &TcpStream, number: u64) -> io::Result<Option<Wish>> {
+    fn converse(
+        &self,
+        stream: &TcpStream,
+        from: SocketAddr,
+        number: u64,
+    ) -> io::Result<Option<Wish>> {
         watch_over(stream)?;
-        let judged = hear(
+        let Heard { asked, extent } = hear(
             self.rt,
             self.alloc,
             self.bell,
@@ -114,15 +150,16 @@ impl<'a, R: Clock + Wait> Porch<'a, R> {
             number,
             |head| self.judge_whole(head),
         )?;
-        match judged {
+        match asked {
             Judged::Unfinished => Ok(None),
-            Judged::Asked(asked) => self.answer(stream, asked),
+            Judged::Asked(asked) => self.answer(stream, number, asked, extent),
             Judged::Watch(beginning, key) => {
                 self.upgrade(stream, &key)?;
                 Ok(Some(Wish::Watch(beginning)))
             }
             Judged::Refused(refusal) => {
-                self.refuse(stream, refusal)?;
+                self.telling.tell_refused_request(self.rt, from, refusal);
+                self.refuse(stream, number, refusal, extent)?;
                 Ok(None)
             }
         }
@@ -132,7 +169,7 @@ impl<'a, R: Clock + Wait> Porch<'a, R> {
     /// recording: its visit, which still is in the lobby if it isn't to watch. What goes wrong ends
     /// the connection alone.
     pub fn hear(&self, stream: Arc<TcpStream>, from: SocketAddr, number: u64) -> Option<Visit> {
-        let wish = match self.converse(&stream, number) {
+        let wish = match self.converse(&stream, from, number) {
             Ok(wish) => wish,
             Err(_) => None,
         };
@@ -151,20 +188,21 @@ impl<'a, R: Clock + Wait> Porch<'a, R> {
     /// one, that nobody can answer it now.
     pub fn tell(&self, stream: &TcpStream, number: u64, text: Option<&[u8]>) {
         let _told = match text {
-            Some(text) => self.give(stream, JSON, text),
-            None => self.fail(stream),
+            Some(text) => self.give(stream, number, JSON, text, Extent::Whole),
+            None => self.fail(stream, number),
         };
         self.lobby.leave(self.rt, number);
     }
 
     // Says that nobody can answer it now, and ends the connection (RFC 9110, section 15.6.4).
-    fn fail(&self, stream: &TcpStream) -> io::Result<()> {
+    fn fail(&self, stream: &TcpStream, number: u64) -> io::Result<()> {
         let mut outlet = Outlet::new(self.rt, self.bell, stream)?;
         write_failure(
             &mut outlet,
             "503 Service Unavailable",
             "memory is short, or the server is ending\n",
+            Extent::Whole,
         )?;
-        wait_for_end(self.rt, self.bell, stream)
+        wait_for_end(self.rt, self.bell, self.lobby, stream, number)
     }
 }
