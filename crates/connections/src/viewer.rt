@@ -215,14 +215,9 @@ impl<M: Mark> Talk<M> {
         write_answer(rt, connection, room, &out)
     }
 
-    // What the viewer is shown, and how the session stands.
-    fn status(&self, facts: &Facts) -> Status {
-        facts.status(self.session.position(), self.course)
-    }
-
-    // Appends how the session stands.
+    // Appends what the viewer is shown, and how the session stands.
     fn tell(&mut self, facts: &Facts, out: &mut Vec<u8>) -> Result<(), AllocError> {
-        let status = self.status(facts);
+        let status = facts.status(self.session.position(), self.course);
         self.told = Some(status);
         self.carriage.tell(status, out)
     }
@@ -235,7 +230,7 @@ impl<M: Mark> Talk<M> {
         room: &Room<M>,
         is_due: bool,
     ) -> io::Result<()> {
-        let status = self.status(&room.facts);
+        let status = room.facts.status(self.session.position(), self.course);
         let is_news = self.told.is_some_and(|told| status.is_news_after(told));
         if !is_news && !is_due {
             return Ok(());
