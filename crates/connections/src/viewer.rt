@@ -68,7 +68,7 @@ struct Talk<M: Mark> {
     lacks_all: bool,
     /// Whether it was sent an update since it was handed anything.
     is_answered: bool,
-    /// When it said anything last, if the clock could be read.
+    /// When it said anything last, or was begun to be shown anything, if the clock could be read.
     heard_at: Option<Instant>,
     of: PhantomData<M>,
     ghost sized: { (session.view.screen.width ≡ M.head.width) × (session.view.screen.height ≡ M.head.height) },
@@ -386,8 +386,10 @@ impl<M: Mark, C: Connection> Viewer<M, C> {
     }
 
     /// Says that the viewer is shown nothing before it stands at this count. Its handshake is over.
-    pub fn show_from<R: Wait>(&self, rt: &R, count: u64) {
-        self.talk.lock(rt).shows_from = count;
+    pub fn show_from<R: Clock + Wait>(&self, rt: &R, count: u64) {
+        let mut talk = self.talk.lock(rt);
+        talk.shows_from = count;
+        talk.heard_at = Instant::now(rt).ok();
     }
 
     /// Holds back the next update until the viewer stands further on, if it is one of the whole
@@ -447,7 +449,8 @@ impl<M: Mark, C: Connection> Viewer<M, C> {
         }
     }
 
-    /// Whether the viewer has said nothing for as long as it is waited for at the end.
+    /// Whether the viewer has said nothing for as long as it is waited for at the end, since it was
+    /// begun to be shown what it is.
     pub fn is_silent<R: Clock + Wait>(&self, rt: &R) -> bool {
         let heard_at = self.talk.lock(rt).heard_at;
         let passed = heard_at.and_then(|moment| moment.elapsed(rt).ok());
