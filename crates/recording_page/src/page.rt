@@ -51,7 +51,7 @@ kbd { padding: 0 .3em; border: 1px solid var(--dim); border-radius: 3px; font: i
 <button id="link" type="button">Link to this moment</button>
 <button id="save" type="button">Save picture</button>
 <button id="full" type="button">Full screen</button>
-<output id="clock" for="moment"></output>
+<output id="clock" for="moment" aria-live="off"></output>
 </p>
 </main>
 <footer><kbd>Space</kbd> plays and pauses. <kbd>&larr;</kbd> <kbd>&rarr;</kbd> go a second, with
@@ -178,7 +178,10 @@ class Player {
   }
   go(to) {
     this.moment = Math.round(Math.min(Math.max(to, 0), this.length));
-    const count = this.countAt(this.moment);
+    this.show(this.countAt(this.moment));
+  }
+  // Shows the screen after so many messages, as that of this moment.
+  show(count) {
     if (count !== this.screens.count) {
       this.screens.show(count);
       this.pen.putImageData(this.image, 0, 0);
@@ -213,15 +216,15 @@ class Player {
     if (this.moment >= this.length) this.turn();
     else requestAnimationFrame(later => this.tick(later));
   }
+  // By number, since several changes may come in one millisecond; the first is no change. Within a
+  // pause the change before is the one that is shown.
   change(isNext) {
-    const index = this.countAt(this.moment);
-    if (isNext) {
-      if (index < this.times.length) this.seek(this.times[index]);
-      return;
-    }
-    const shown = this.times[index - 1];
-    if (shown < this.moment) this.seek(shown);
-    else this.seek(this.times.findLast(time => time < shown) ?? 0);
+    const { count } = this.screens, isInPause = this.times[count - 1] < this.moment;
+    const to = isNext ? count + 1 : isInPause ? count : count - 1;
+    if (to < 2 || to > this.times.length) return;
+    this.moment = this.times[to - 1];
+    this.show(to);
+    this.begin();
   }
   draw() {
     const canvas = at('overview'), pen = canvas.getContext('2d');
@@ -253,13 +256,20 @@ function linked(player) {
   if (found) player.seek(Number(found[1]));
 }
 
+// Keys that act again while they are held.
+const HELD = ['p', 'n', '+', '-', 'ArrowLeft', 'ArrowRight'];
+
+function fill() {
+  if (document.fullscreenElement) document.exitFullscreen();
+  else if (document.fullscreenEnabled) at('stage').requestFullscreen().catch(() => {});
+}
+
 function listen(player) {
   const faster = step => {
     const speed = at('speed'), index = speed.selectedIndex + step;
     if (index >= 0 && index < speed.options.length) speed.selectedIndex = index;
     player.begin();
   };
-  const fill = () => document.fullscreenElement ? document.exitFullscreen() : at('stage').requestFullscreen();
   const keys = {
     ' ': () => player.turn(), k: () => player.turn(), p: () => player.change(false), n: () => player.change(true),
     Home: () => player.seek(0), End: () => player.seek(player.length), '+': () => faster(1), '-': () => faster(-1),
@@ -268,11 +278,11 @@ function listen(player) {
     s: () => player.save(), f: fill, l: () => player.mark(),
   };
   document.addEventListener('keydown', event => {
-    const act = keys[event.key.length === 1 ? event.key.toLowerCase() : event.key];
+    const key = event.key.length === 1 ? event.key.toLowerCase() : event.key, act = keys[key];
     const isControl = event.target.matches('select, button, [type=checkbox]') && [' ', 'Home', 'End'].includes(event.key);
     if (!act || isControl || event.target === at('speed') || event.ctrlKey || event.altKey || event.metaKey) return;
     event.preventDefault();
-    act(event.shiftKey);
+    if (!event.repeat || HELD.includes(key)) act(event.shiftKey);
   });
   at('moment').addEventListener('input', () => player.seek(Number(at('moment').value)));
   at('overview').addEventListener('click', ({ offsetX }) =>
@@ -284,6 +294,7 @@ function listen(player) {
   at('link').addEventListener('click', () => player.mark());
   at('save').addEventListener('click', () => player.save());
   at('full').addEventListener('click', fill);
+  at('full').hidden = !document.fullscreenEnabled;
   addEventListener('hashchange', () => linked(player));
 }
 
