@@ -11,15 +11,22 @@ are cut at random, in pieces of 1 to 32,768 bytes, a twentieth of a second apart
 What tries the page steers it by GET, and each is answered in JSON:
 
     /mock/picture?message=N           the colours of the screen after N messages, as hexadecimal digits
+    /mock/time?message=N              when message N came, in milliseconds
     /mock/log                         what came: connections, orders, requests, and how many answers
     /mock/quiet, /mock/busy           the host sends nothing; it sends again
     /mock/end                         the host ends
+    /mock/lose?part=PATH&times=N      a part of the page isn't answered N times, but closed at once
+    /mock/fail, /mock/mend            what came when is answered by a web server between; it isn't any more
+    /mock/later?seconds=S             what came when is told of a recording that is S seconds longer
     /mock/crowd?seconds=S             who asks what came when isn't answered for S seconds, but closed at once
     /mock/search?seconds=S            for S seconds what is to be shown next is searched for: no updates
     /mock/cut?seconds=S               each connection breaks off, and none is taken for S seconds
+    /mock/late?seconds=S              viewers are greeted S seconds after they have come
     /mock/stall?seconds=S             nothing is answered, and nothing breaks off, for S seconds
     /mock/close?code=C&reason=TEXT    the viewers are closed
     /mock/refuse?code=C&reason=TEXT   viewers are turned away from now on; until /mock/admit
+    /mock/deny                        their upgrades are answered by 403; until /mock/admit
+    /mock/restart?seconds=S           the recorder ends as one that is told to, and is back after S seconds
 """
 import argparse
 import base64
@@ -46,8 +53,7 @@ LOADER = importlib.machinery.SourceFileLoader("try_page", f"{ROOT}/tools/try_pag
 try_page = importlib.util.module_from_spec(importlib.util.spec_from_loader("try_page", LOADER))
 LOADER.exec_module(try_page)
 
-POLICY = ("default-src 'none'; script-src 'self'; style-src 'self'; connect-src 'self'; img-src 'self' blob: data:; "
-          "frame-ancestors 'none'")
+POLICY = "default-src 'self'; img-src 'self' blob: data:; frame-ancestors 'none'"
 # What is served: the constants of these files.
 FILES = {"/": ("live_page/src/page.rt", "PAGE", "text/html; charset=utf-8"),
          "/painter.js": ("screen_script/src/painter.rt", "PAINTER", "text/javascript; charset=utf-8"),
@@ -263,7 +269,8 @@ class World:
         self.recording, self.is_slow = recording, is_slow
         self.is_quiet = False
         self.cut_until = self.stalled_until = self.crowded_until = self.searching_until = 0
-        self.refusal = None
+        self.refusal, self.is_denied = None, False
+        self.losses, self.is_failing, self.later, self.greeting_after = {}, False, 0, 0
         self.watched, self.orders, self.requests, self.answers, self.looks = [], [], 0, 0, 0
 
     def remember(self, seconds, is_ended):
@@ -280,6 +287,12 @@ class World:
             time.sleep(1 / RATE)
             if not self.is_quiet and not self.recording.has_ended:
                 self.recording.add(int(1000 * (time.monotonic() - began)))
+
+    def come_back(self):
+        """Once it may be reached again, it goes on."""
+        time.sleep(self.cut_until - time.monotonic())
+        self.recording.has_ended = False
+        self.grow()
 
     def wait(self):
         """While it is stalled, nothing goes on."""
@@ -366,9 +379,7 @@ class Viewer:
         return time.monotonic() > self.told_at + (PULSE if self.news() == self.told else NEWS)
 
     def go_to(self, count):
-        last = self.recording.times[max(count, 1) - 1]
-        if self.mode in ("live", "message") or not self.needs_whole:
-            self.time = last
+        self.time = self.recording.times[max(count, 1) - 1]
         self.position, self.needs_whole, self.is_requested = count, False, False
 
     # Writing.
@@ -415,6 +426,7 @@ class Viewer:
         time.sleep(0.3)
 
     def greet(self):
+        time.sleep(self.world.greeting_after)
         self.hear_version()
         self.write_pieces(b"\1\1")
         self.take(1)
@@ -541,23 +553,39 @@ class Handler(http.server.BaseHTTPRequestHandler):
         self.world.wait()
         if time.monotonic() < self.world.cut_until:
             self.close_connection = True
+        elif self.world.losses.get(url.path, 0) > 0:
+            self.world.losses[url.path] -= 1
+            self.close_connection = True
         elif url.path in FILES:
             path, name, media = FILES[url.path]
             self.reply(constant(path, name).encode(), media)
         elif url.path == "/times" and time.monotonic() < self.world.crowded_until:
             self.close_connection = True
+        elif url.path == "/times" and self.world.is_failing:
+            self.world.looks += 1
+            self.reply(b"<!doctype html><title>502</title><h1>Bad Gateway</h1>", "text/html", 502)
         elif url.path == "/times":
             with self.world.recording.changed:
                 self.world.looks += 1
                 told = self.world.recording.told(int(asked["from"]), int(asked.get("every", 0)))
-            self.reply_json(told)
+            self.reply_json(self.prolonged(told))
         elif url.path == "/watch":
             self.watch(url.query, asked)
         else:
             self.reply(b"there is no such page", "text/plain", 404)
 
+    def prolonged(self, told):
+        """The same of a recording with one more message, so much later."""
+        if not self.world.later:
+            return told
+        last = {"time": told["length"] + self.world.later, "message": told["messages"], "block": told["next"], "updates": 1}
+        return {**told, "length": last["time"], "messages": told["messages"] + 1, "stretches": told["stretches"] + [last],
+                "next": told["next"] + 1}
+
     def watch(self, query, asked):
         self.world.watched.append(query)
+        if self.world.is_denied:
+            return self.reply(b"its login has expired", "text/plain", 403)
         key = self.headers["Sec-WebSocket-Key"] + "258EAFA5-E914-47DA-95CA-C5AB0DC85B11"
         accepted = base64.b64encode(hashlib.sha1(key.encode()).digest()).decode()
         self.connection.sendall(f"HTTP/1.1 101 Switching Protocols\r\nUpgrade: websocket\r\nConnection: Upgrade\r\n"
@@ -581,6 +609,9 @@ class Handler(http.server.BaseHTTPRequestHandler):
         del picture[3::4]
         return picture.hex()
 
+    def mock_time(self, asked):
+        return self.world.recording.times[int(asked["message"]) - 1]
+
     def mock_log(self, _):
         world = self.world
         return {"watched": world.watched, "orders": world.orders, "requests": world.requests,
@@ -602,6 +633,21 @@ class Handler(http.server.BaseHTTPRequestHandler):
             viewer.is_gone = True
             viewer.connection.shutdown(socket.SHUT_RDWR)
 
+    def mock_lose(self, asked):
+        self.world.losses[asked["part"]] = int(asked["times"])
+
+    def mock_fail(self, _):
+        self.world.is_failing = True
+
+    def mock_mend(self, _):
+        self.world.is_failing = False
+
+    def mock_later(self, asked):
+        self.world.later = 1000 * int(asked["seconds"])
+
+    def mock_late(self, asked):
+        self.world.greeting_after = float(asked["seconds"])
+
     def mock_crowd(self, asked):
         self.world.crowded_until = time.monotonic() + float(asked["seconds"])
 
@@ -618,8 +664,18 @@ class Handler(http.server.BaseHTTPRequestHandler):
     def mock_refuse(self, asked):
         self.world.refusal = int(asked["code"]), asked["reason"]
 
+    def mock_deny(self, _):
+        self.world.is_denied = True
+
     def mock_admit(self, _):
-        self.world.refusal = None
+        self.world.refusal, self.world.is_denied = None, False
+
+    def mock_restart(self, asked):
+        self.world.recording.has_ended = True
+        time.sleep(2 * NEWS)
+        self.mock_close({"code": 1000, "reason": "the recorder has ended"})
+        self.world.cut_until = time.monotonic() + float(asked["seconds"])
+        threading.Thread(target=self.world.come_back, daemon=True).start()
 
 
 class Server(socketserver.ThreadingTCPServer):

@@ -15,14 +15,16 @@ pub const PAGE: &str = r##"<!doctype html>
 <header><h1 id="name">Recording</h1><span id="facts"></span> <span id="watching"></span></header>
 <main>
 <noscript><p>This page needs JavaScript.</p></noscript>
+<div id="stage">
 <div id="fault" hidden><span id="reason" role="alert"></span> <button id="again" type="button" hidden>Try again</button></div>
-<div id="stage"><canvas id="screen" width="640" height="480" role="img" aria-label="The screen"></canvas></div>
+<canvas id="screen" width="640" height="480" role="img" aria-label="The screen"></canvas>
+</div>
 <canvas id="overview" width="1000" height="32" aria-hidden="true"></canvas>
 <input id="moment" type="range" min="0" max="0" value="0" step="1" aria-label="Moment of the recording">
 <p class="bar">
 <button id="play" type="button">Pause</button>
 <button id="live" type="button" aria-pressed="true">Live</button>
-<b id="state" role="status">Connecting</b>
+<b id="state" role="status">Loading. If this stays, load the page again.</b>
 <output id="clock" for="moment" aria-live="off"></output>
 <span id="behind"></span>
 </p>
@@ -37,6 +39,7 @@ pub const PAGE: &str = r##"<!doctype html>
 <button id="link" type="button">Link to this moment</button>
 <button id="save" type="button">Save picture</button>
 <button id="full" type="button">Full screen</button>
+<span id="notice" role="status"></span>
 </p>
 </main>
 <footer><kbd>Space</kbd> plays and pauses. <kbd>L</kbd> goes to what is live. <kbd>&larr;</kbd> <kbd>&rarr;</kbd>
@@ -58,6 +61,7 @@ body { margin: 0; font: 1rem/1.5 system-ui, sans-serif; color: var(--ink); backg
 header, main, footer { max-width: 90rem; margin: 0 auto; padding: 0 1rem; }
 h1 { display: inline; font-size: 1.1rem; margin: 0 1rem 0 0; overflow-wrap: anywhere; }
 #stage { background: #000; text-align: center; }
+#stage:fullscreen #fault { position: fixed; inset: 0 0 auto; }
 #stage:fullscreen canvas { width: 100vw; height: 100vh; max-height: none; object-fit: contain; }
 #screen { max-width: 100%; max-height: max(60vh, 100vh - 18rem); vertical-align: top; }
 #overview { display: block; width: 100%; height: 2rem; margin-top: .5rem; background: var(--bar); cursor: pointer; }
@@ -68,7 +72,7 @@ button, select { font: inherit; min-height: 2.5rem; padding: 0 .8rem; }
 [type=checkbox] { width: 1.25rem; height: 1.25rem; }
 [aria-pressed=true] { color: var(--paper); background: var(--mark); }
 #clock, #behind { font-variant-numeric: tabular-nums; }
-#fault { margin: .5rem 0; padding: .5rem; border: 2px solid var(--fault); }
+#fault { padding: .5rem; border: 2px solid var(--fault); background: var(--paper); text-align: start; }
 footer, #facts, #watching { color: var(--dim); font-size: .9rem; }
 #watching { margin-left: .5rem; }
 kbd { padding: 0 .3em; border: 1px solid var(--dim); border-radius: 3px; font: inherit; }
@@ -86,9 +90,10 @@ const FORMAT = [32, 24, 0, 1, 0, 255, 0, 255, 0, 255, 0, 8, 16, 0, 0, 0];
 // CopyRect, Hextile, RRE, Raw.
 const ENCODINGS = [1, 5, 2, 0];
 
-// How long an answer may take, and how long nothing may come, in milliseconds: the recorder tells how
-// the session stands each 5 seconds at least, also while it looks for what it is to show.
-const LONGEST_ANSWER = 10000, LONGEST_SILENCE = 40000;
+// How long an answer may take, how long a greeting may, and how long nothing may come after that,
+// in milliseconds: the recorder tells how the session stands each 5 seconds at least, also while it
+// looks for what it is to show.
+const LONGEST_ANSWER = 10000, LONGEST_GREETING = 40000, LONGEST_SILENCE = 15000;
 
 // What the page asks for. Browsers refuse addresses with the name and password by which the page itself may
 // have been opened, and have them without.
@@ -111,6 +116,7 @@ class Session {
     this.status = null;
     this.hasPainted = false;
     this.isAsked = false;
+    this.hasOpened = false;
     this.isOver = false;
     // How many orders were given, how many of them are obeyed, and those that wait for the handshake.
     this.orders = this.obeyed = 0;
@@ -124,6 +130,7 @@ class Session {
     address.protocol = address.protocol.replace('http', 'ws');
     this.socket = new WebSocket(address);
     this.socket.binaryType = 'arraybuffer';
+    this.socket.onopen = () => { this.hasOpened = true; };
     this.socket.onmessage = ({ data }) => this.receive(data);
     this.socket.onclose = ({ code, reason }) => {
       this.isOver = true;
@@ -164,9 +171,9 @@ class Session {
   // of life, has taken too long. An update needn't come while the host is quiet, nor a greeting while
   // the recording is opened.
   get isOverdue() {
-    const isConnecting = this.socket.readyState === WebSocket.CONNECTING;
-    const isDue = isConnecting || this.isAsked && (!this.hasPainted || this.obeyed < this.orders);
-    const longest = isDue ? LONGEST_ANSWER : LONGEST_SILENCE;
+    const isAwaited = !this.hasPainted || this.obeyed < this.orders;
+    const isDue = !this.hasOpened || this.isAsked && isAwaited;
+    const longest = isDue ? LONGEST_ANSWER : this.painter ? LONGEST_SILENCE : LONGEST_GREETING;
     return !this.isOver && performance.now() > Math.max(this.heardAt, this.askedAt) + longest;
   }
   receive(data) {
@@ -240,11 +247,11 @@ function say(id, text) {
   if (at(id).textContent !== text) at(id).textContent = text;
 }
 
-// What is wrong, of each kind the last; whether only a person can tell when to try again.
+// What is wrong, of each kind the last; whether a person may try again.
 const faults = new Map();
 
-function complain(kind, text, isOver = false) {
-  faults.set(kind, { text, isOver });
+function complain(kind, text, mayTry = false) {
+  faults.set(kind, { text, mayTry });
   tellFaults();
 }
 
@@ -256,8 +263,19 @@ function forgive(kind) {
 function tellFaults() {
   const all = [...faults.values()];
   at('fault').hidden = all.length === 0;
-  at('again').hidden = !all.some(({ isOver }) => isOver);
+  at('again').hidden = !all.some(({ mayTry }) => mayTry);
   say('reason', all.map(({ text }) => text).join(' '));
+}
+
+// How long a notice stays, in milliseconds, and what takes it away.
+const NOTICE = 6000;
+let noticing;
+
+// What came of an act that shows nothing by itself.
+function notice(text) {
+  say('notice', text);
+  clearTimeout(noticing);
+  noticing = setTimeout(() => say('notice', ''), NOTICE);
 }
 
 const sentence = text => text.slice(0, 1).toUpperCase() + text.slice(1) + '.';
@@ -266,6 +284,9 @@ const sentence = text => text.slice(0, 1).toUpperCase() + text.slice(1) + '.';
 const LONGEST_PAUSE = 1000;
 // How long the first attempt to connect again waits, and how long any does at most, in milliseconds.
 const FIRST_DELAY = 1000, LONGEST_DELAY = 8000;
+// What is likely if only connections are refused: by what, no browser tells.
+const LIKELY = ' The server answers, but lets no viewer in. Load the page again, since a login may have '
+  + 'expired; a web server before the recorder has to pass on Host, Origin and Upgrade.';
 // How often a long update is shown before it is whole, in milliseconds.
 const GLIMPSE = 100;
 // How long the address waits for further steps, in milliseconds: browsers bound how often it is changed.
@@ -283,22 +304,30 @@ class Picture {
     this.canvas = canvas;
     this.pen = canvas.getContext('2d', { alpha: false });
     this.putAt = 0;
+    // Whether it shows one screen, and not a part of the next.
+    this.isWhole = false;
   }
   open({ width, height, pixels }) {
-    if (this.canvas.width !== width) this.canvas.width = width;
-    if (this.canvas.height !== height) this.canvas.height = height;
+    if (this.canvas.width !== width || this.canvas.height !== height) {
+      Object.assign(this.canvas, { width, height });
+      this.isWhole = false;
+    }
     this.image = new ImageData(new Uint8ClampedArray(pixels.buffer), width, height);
   }
   put({ box: { left, top, right, bottom } }) {
     this.pen.putImageData(this.image, 0, 0, left, top, right - left, bottom - top);
     this.putAt = performance.now();
+    this.isWhole = true;
   }
   putAll() {
     this.pen.putImageData(this.image, 0, 0);
     this.putAt = performance.now();
+    this.isWhole = true;
   }
   glimpse(painter) {
-    if (performance.now() > this.putAt + GLIMPSE) this.put(painter);
+    if (performance.now() <= this.putAt + GLIMPSE) return;
+    this.put(painter);
+    this.isWhole = false;
   }
   save(name) {
     this.canvas.toBlob(picture => {
@@ -312,7 +341,13 @@ class Picture {
 }
 
 // How a connection ends after which another one is tried: it goes away, it is lost, there is no seat.
-const RETRIED = [1001, 1006, 4001];
+const LOST = [1001, 1006], RETRIED = [...LOST, 4001];
+// How it ends if the recorder parts from all: what is said of that until it is there again.
+const PARTED = {
+  1000: 'The recorder has ended.',
+  1011: 'The recorder is short of memory.',
+  4003: 'The recorder is ending.',
+};
 
 // What is watched: live, or from a moment on. It keeps that over connections that come and go.
 class Player {
@@ -325,9 +360,16 @@ class Player {
     this.isLost = false;
     this.isDragged = false;
     this.attempts = 0;
+    // How many connections in a row never opened, and whether other requests were answered then.
+    this.unopened = 0;
+    this.isRefused = false;
+    // What is said since the recorder has parted.
+    this.parting = null;
     // Of the recording: how long it is, in milliseconds, and if its host has ended, once that is known.
     this.length = 0;
     this.hasEnded = null;
+    // Whether its end stands here because it was live until then, and goes on if it does.
+    this.standsAtEnd = false;
     // What the clock shows, in milliseconds of the recording, and when it was right.
     this.moment = 0;
     this.rightAt = { wall: 0, moment: 0 };
@@ -362,10 +404,14 @@ class Player {
   }
   closed(code, reason) {
     this.isConnected = false;
-    const isSaid = reason && (code === 1000 || code >= 4000);
-    const text = code === 1001 || code === 1006 ? 'The connection is lost.' : isSaid ? sentence(reason)
+    this.unopened = this.session.hasOpened ? 0 : this.unopened + 1;
+    const isLost = LOST.includes(code);
+    if (!isLost) this.parting = PARTED[code] ?? null;
+    const text = isLost ? 'The connection is lost.' : reason && code >= 4000 ? sentence(reason)
       : `The recorder closed the connection: ${reason || 'code ' + code}.`;
-    if (RETRIED.includes(code)) this.lose(text); else complain('connection', text, true);
+    if (this.parting) this.part();
+    else if (RETRIED.includes(code)) this.lose(text);
+    else complain('connection', text, true);
     showState(this);
   }
   failed(message) {
@@ -374,9 +420,25 @@ class Player {
     showState(this);
   }
   lose(text) {
-    complain('connection', text + ' This page goes on by itself as soon as it can.');
+    if (this.unopened < 2) this.isRefused = false;
+    else if (!this.isRefused) this.suspect();
+    const likely = this.isRefused ? LIKELY : '';
+    complain('connection', text + ' This page goes on by itself as soon as it can.' + likely);
+    this.goOnAfter(Math.min(FIRST_DELAY * 2 ** this.attempts++, LONGEST_DELAY));
+  }
+  async suspect() {
+    const answer = await timesFrom(this.overview.next, this.overview.every).catch(() => null);
+    this.isRefused = answer !== null && answer.status < 500;
+  }
+  // A recorder that was started again goes on with the recording. What is said stays meanwhile.
+  part() {
+    const stays = this.shown ? ' What was shown last stays.' : '';
+    complain('connection', `${this.parting}${stays} This page tries again by itself.`, true);
+    this.goOnAfter(LONGEST_DELAY);
+  }
+  goOnAfter(delay) {
     this.isLost = true;
-    this.retry = setTimeout(() => this.goOn(), Math.min(FIRST_DELAY * 2 ** this.attempts++, LONGEST_DELAY));
+    this.retry = setTimeout(() => this.goOn(), delay);
   }
   // Goes on after a loss, or after the page was hidden.
   goOn() {
@@ -409,6 +471,7 @@ class Player {
     if (wasEnded === null) this.isRecorded = ended;
     if (this.isLive) this.moment = length;
     if (ended && this.isLive) this.stopLive(wasEnded === null);
+    if (!ended && this.standsAtEnd) this.goLive();
     if (ended !== wasEnded) showState(this); else showClock(this);
     this.overview.follow(length, this);
   }
@@ -417,6 +480,7 @@ class Player {
   stopLive(isAtFirst) {
     this.isLive = false;
     this.isPaused = true;
+    this.standsAtEnd = true;
     if (isAtFirst) this.want(0);
   }
   // Shows a long update as it comes, but no half of a screen over another that is whole.
@@ -438,6 +502,7 @@ class Player {
     at('screen').dataset.message = status.message;
     this.isConnected = true;
     this.attempts = 0;
+    this.parting = null;
     this.shown = status;
     if (isNew) forgive('connection');
     if (sought) this.arrive(status);
@@ -491,6 +556,7 @@ class Player {
   }
   // One moment is asked for at a time; after it the one that was wanted last.
   want(to) {
+    this.standsAtEnd = false;
     this.moment = Math.round(Math.min(Math.max(to, 0), this.length));
     if (this.sought) this.wanted = this.moment; else this.send(this.moment);
   }
@@ -504,6 +570,7 @@ class Player {
     if (this.hasEnded) return this.seek(this.length);
     this.isLive = true;
     this.isPaused = false;
+    this.standsAtEnd = false;
     this.wanted = null;
     this.moment = this.length;
     this.session.mode = 'live';
@@ -543,6 +610,7 @@ class Player {
     showState(this);
   }
   step(message) {
+    this.standsAtEnd = false;
     this.session.mode = 'stepped';
     this.session.order({ message });
     this.steppedTo = this.length;
@@ -559,8 +627,17 @@ class Player {
     clearTimeout(this.marking);
     history.replaceState(null, '', address);
   }
+  // What is on the canvas, by its own time: the clock may be further, or at what is sought.
   save() {
-    if (this.shown) this.picture.save(`${document.title} ${clockOf(this.moment).replaceAll(':', '-')}.png`);
+    const isComing = this.isConnected && this.sought;
+    if (isComing || !this.picture.isWhole) notice('Nothing is saved: the screen is still to come.');
+    else this.picture.save(`${document.title} ${clockOf(this.shown.time).replaceAll(':', '-')}.png`);
+  }
+  async link() {
+    this.mark(this.address);
+    const copying = navigator.clipboard?.writeText(addressOf(this.address).href);
+    const isCopied = copying && await copying.then(() => true, () => false);
+    notice(isCopied ? 'The link is copied.' : "The link is this page's address now.");
   }
 }
 
@@ -571,6 +648,8 @@ function showClock({ moment, length, isLive, hasEnded, isDragged }) {
     slider.max = length;
     slider.value = moment;
   }
+  const name = 'aria-valuetext', spoken = isLive ? 'live' : secondsOf(moment);
+  if (slider.getAttribute(name) !== spoken) slider.setAttribute(name, spoken);
   say('clock', clockOf(moment) + ' of ' + clockOf(length));
   say('behind', late < 1000 ? '' : secondsOf(late) + ' behind live');
 }
@@ -581,9 +660,8 @@ function endOf({ hasEnded, isRecorded }) {
 }
 
 function showState(player) {
-  const { moment, isLive, isPaused, hasEnded } = player;
+  const { isLive, isPaused, hasEnded } = player;
   showClock(player);
-  at('moment').setAttribute('aria-valuetext', isLive ? 'live' : secondsOf(moment));
   at('live').setAttribute('aria-pressed', isLive);
   at('live').disabled = hasEnded === true;
   say('play', isPaused ? 'Play' : 'Pause');
@@ -605,8 +683,17 @@ const PARTS = 2048, FIRST_PARTS = 1020, SHORTEST_PART = 1000;
 // The recorder answers, and tells nothing.
 class Refusal extends Error {}
 
+// Why, in words: a web server between may answer with a page of its own.
+async function reasonOf(answer) {
+  const isText = answer.headers.get('Content-Type')?.startsWith('text/plain');
+  return isText ? (await answer.text()).trim() : 'the answer was ' + answer.status;
+}
+
 const timesFrom = (block, every) =>
   fetch(addressOf(`times?from=${block}&every=${every}`), { signal: AbortSignal.timeout(LONGEST_ANSWER) });
+
+// A color of the style; none, if that didn't load.
+const colorOf = name => getComputedStyle(document.documentElement).getPropertyValue(name);
 
 // How many updates came when, over the whole recording: in each of as many milliseconds as `every`.
 class Overview {
@@ -629,9 +716,10 @@ class Overview {
     this.length = Math.max(this.length, length);
     if (this.isFollowing) return;
     this.isFollowing = true;
-    while (this.seen < this.length && !document.hidden && !player.session.isOver) {
+    const isWanted = () => this.seen < this.length && !document.hidden && !player.session.isOver;
+    while (isWanted()) {
       await new Promise(done => setTimeout(done, this.lookedAt + LOOK - performance.now()));
-      if (!await this.look(player)) break;
+      if (!isWanted() || !await this.look(player)) break;
     }
     this.isFollowing = false;
   }
@@ -655,7 +743,7 @@ class Overview {
     const { counts } = this;
     for (let isWhole = false; !isWhole;) {
       const answer = await timesFrom(this.next, this.every);
-      if (!answer.ok) throw new Refusal(`What came when isn't known: ${(await answer.text()).trim()}.`);
+      if (!answer.ok) throw new Refusal(`What came when isn't known: ${await reasonOf(answer)}.`);
       const { messages, length, stretches, next } = await answer.json(), last = stretches.at(-1);
       if (counts !== this.counts) return;
       stretches.forEach(({ time, updates }) => this.count(time, updates));
@@ -677,12 +765,14 @@ class Overview {
     counts.fill(0, PARTS / 2);
     this.every *= 2;
   }
-  // The updates in each of so many columns, at most: none is shorter than a second.
+  // The updates in each of so many columns, at most: none is shorter than a second. What came later
+  // than the slider's end, as in a recording that was opened again since, isn't among them.
   columns(most) {
-    const wide = Math.max(1, Math.min(most, Math.ceil(this.seen / 1000)));
-    const columns = new Float64Array(wide), each = this.every * wide / Math.max(1, this.seen);
+    const wide = Math.max(1, Math.min(most, Math.ceil(this.length / 1000)));
+    const columns = new Float64Array(wide), each = this.every * wide / Math.max(1, this.length);
     this.counts.forEach((updates, part) => {
-      if (updates > 0) columns[Math.min(wide - 1, Math.floor(part * each))] += updates;
+      const isShown = updates > 0 && part * this.every <= this.length;
+      if (isShown) columns[Math.min(wide - 1, Math.floor(part * each))] += updates;
     });
     return columns;
   }
@@ -690,7 +780,7 @@ class Overview {
     const canvas = at('overview'), pen = canvas.getContext('2d'), columns = this.columns(canvas.width);
     const most = columns.reduce((most, some) => Math.max(most, some), 1), wide = canvas.width / columns.length;
     pen.clearRect(0, 0, canvas.width, canvas.height);
-    pen.fillStyle = getComputedStyle(document.documentElement).getPropertyValue('--mark');
+    pen.fillStyle = colorOf('--mark');
     columns.forEach((updates, x) => {
       if (updates === 0) return;
       const high = Math.max(3, canvas.height * Math.log1p(updates) / Math.log1p(most));
@@ -736,6 +826,9 @@ function fill() {
   }
 }
 
+// Keys that act again while they are held.
+const HELD = ['p', 'n', '+', '-', 'ArrowLeft', 'ArrowRight'];
+
 function listenToKeys(player) {
   const keys = {
     ' ': () => player.turn(), k: () => player.turn(), l: () => player.goLive(),
@@ -747,11 +840,11 @@ function listenToKeys(player) {
     s: () => player.save(), f: fill,
   };
   document.addEventListener('keydown', event => {
-    const act = keys[event.key.length === 1 ? event.key.toLowerCase() : event.key];
+    const key = event.key.length === 1 ? event.key.toLowerCase() : event.key, act = keys[key];
     const isControl = event.target.matches('select, button, [type=checkbox]') && [' ', 'Home', 'End'].includes(event.key);
     if (!act || isControl || event.target === at('speed') || event.ctrlKey || event.altKey || event.metaKey) return;
     event.preventDefault();
-    act(event.shiftKey);
+    if (!event.repeat || HELD.includes(key)) act(event.shiftKey);
   });
 }
 
@@ -769,17 +862,30 @@ function listen(player) {
   on('next', 'click', () => player.change(true));
   on('speed', 'change', () => player.changePace());
   on('skip', 'change', () => player.changePace());
-  on('link', 'click', () => player.mark(player.address));
+  on('link', 'click', () => player.link());
   on('save', 'click', () => player.save());
   on('full', 'click', fill);
   on('again', 'click', () => player.watch());
   at('full').hidden = !document.fullscreenEnabled;
 }
 
+// Loads a part of the page again that didn't load, until it has: the recorder may have been asked
+// for too much at a time.
+function load(kind, attributes, act) {
+  const part = Object.assign(document.createElement(kind), attributes);
+  part.onload = act;
+  part.onerror = () => {
+    part.remove();
+    setTimeout(() => load(kind, attributes, act), FIRST_DELAY);
+  };
+  document.head.append(part);
+}
+
 function start() {
   const overview = new Overview(), player = new Player(overview), moment = linked();
   if (moment !== null) Object.assign(player, { isLive: false, isPaused: true, moment });
   player.watch();
+  say('state', stateOf(player));
   listen(player);
   listenToKeys(player);
   addEventListener('hashchange', () => follow(player));
@@ -789,7 +895,9 @@ function start() {
   matchMedia('(prefers-color-scheme: dark)').addEventListener('change', () => overview.draw());
   const isCalm = matchMedia('(prefers-reduced-motion: reduce)').matches;
   setInterval(() => player.tick(), isCalm ? 1000 : 100);
+  const style = { rel: 'stylesheet', href: 'live.css' };
+  if (!colorOf('--mark')) load('link', style, () => overview.draw());
 }
 
-start();
+if (typeof Painter === 'undefined') load('script', { src: 'painter.js' }, start); else start();
 "##;
