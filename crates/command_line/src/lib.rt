@@ -10,4 +10,4 @@ mod table;
 mod words;
 mod wrong;
 
-pub use running::{command, no_words};
+pub use running::{Terminals, command, no_words};

@@ -18,6 +18,13 @@ use std::sync::Wait;
 use std::thread::Threads;
 use std::time::Clock;
 
+/// Which outputs of the program a person is at, as terminals.
+#[derive(Clone, Copy, Debug, PartialEq, Eq)]
+pub struct Terminals {
+    pub out: bool,
+    pub err: bool,
+}
+
 /// It is done.
 const DONE: u8 = 0;
 /// It is refused; or memory for the program's own work is; or a stream can't be read or written.
@@ -27,6 +34,20 @@ const BAD_WORDS: u8 = 2;
 
 /// What a bad command line is told by, whatever is wrong with it.
 const BAD: &str = "recorderd: bad command line";
+
+/// Why pictures aren't written to a terminal: their bytes are what somebody painted, and some of them
+/// are orders to it.
+const PIXELS: &str =
+    "error: pictures go to a file or another program, and not to a terminal: add, say, '> OUT'\n";
+
+// Whether a command writes pictures to the program's output.
+fn prints_pixels(command: &FileCommand<'_>) -> bool {
+    match command {
+        FileCommand::Frames(_) => true,
+        FileCommand::Picture(scene) => scene.out.is_none(),
+        _ => false,
+    }
+}
 
 // Says why the file of a drill's recording isn't made or written.
 fn refuse_drill<E: Write>(fault: FileFault<'_>, is_verbose: bool, err: &mut E) -> io::Result<bool> {
@@ -145,15 +166,15 @@ where
     Ok(is_done)
 }
 
-/// Runs the program: the words of its command line (the first is its own name), whether a person is
-/// at its standard error, on which long work is told of, its input, and its two outputs; files and
-/// sockets are those of the runtime. To a person, and with `--verbose`, more is told of a refusal
-/// than its line. Answers the exit status: 0 if it is done, 1 if it is refused, if memory for its
+/// Runs the program: the words of its command line (the first is its own name), at which of its
+/// outputs a person is, what tells of long work, its input, and its two outputs; files and sockets
+/// are those of the runtime. To a person at `err`, and with `--verbose`, more is told of a refusal
+/// than its line; to one at `out` no pictures are written. Answers the exit status: 0 if it is done, 1 if it is refused, if memory for its
 /// own work is, or if a stream can't be read or written, and 2 for a bad command line.
 pub fn command<R, I: Read + Drop, O: Write, E: Write>(
     rt: &R,
     words: &[String],
-    is_attended: bool,
+    terminals: Terminals,
     progress: Progress,
     input: I,
     out: &mut O,
@@ -165,7 +186,7 @@ where
     ensures { result ≤ 2 }
 {
     let alloc = rt.alloc();
-    let is_verbose = is_attended || asks_for_more(words);
+    let is_verbose = terminals.err || asks_for_more(words);
     let Ok(chosen) = read_words(alloc, words, is_verbose) else {
         return REFUSED;
     };
@@ -173,6 +194,9 @@ where
         Chosen::Drill { keep: None } => drill::run(alloc, input, out),
         Chosen::Drill { keep: Some(path) } => {
             drill_to_file(rt, path, is_verbose, input, out, err)
+        }
+        Chosen::OnFiles(what) if terminals.out && prints_pixels(&what) => {
+            return bad_words(PIXELS, is_verbose, err);
         }
         Chosen::OnFiles(what) => run(rt, &what, is_verbose, progress, out, err),
         Chosen::Info(paths) => info(rt, &paths, is_verbose, progress, out, err),

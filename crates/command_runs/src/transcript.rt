@@ -3,7 +3,7 @@
 use crate::calls::{Outcome, read_calls};
 use crate::files::{bytes_of, change, other_bytes};
 use crate::streams::{Input, Output};
-use command_line::command;
+use command_line::{Terminals, command};
 use file_disk::Progress;
 use std::fs::File;
 use std::net::{Net, TcpListener, TcpStream};
@@ -24,7 +24,10 @@ where
     let status = command(
         rt,
         words,
-        false,
+        Terminals {
+            out: false,
+            err: false,
+        },
         Progress::silent(),
         input,
         &mut out,

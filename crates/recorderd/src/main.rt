@@ -4,7 +4,7 @@
 ghost use Rattle.std.specs.Prelude.{◌≤◌, IfSome};
 ghost use Rattle.std.specs.Process.{exit_status};
 
-use command_line::{command, no_words};
+use command_line::{Terminals, command, no_words};
 use file_disk::Progress;
 use std::fs::{File, OpenOptions};
 use std::io::IsTerminal;
@@ -52,11 +52,14 @@ fn exit_code(status: Option<u8>) -> ExitCode
 fn main(rt: HostRuntime) -> ExitCode {
     let _held = hold_standard_streams(&rt);
     let mut err = rt.stderr();
-    let is_attended = err.is_terminal();
+    let terminals = Terminals {
+        out: rt.stdout().is_terminal(),
+        err: err.is_terminal(),
+    };
     let words = match arguments(&rt) {
         Ok(words) => words,
         Err(error) if error.kind() == io::ErrorKind::InvalidData => {
-            return exit_code(Some(no_words(is_attended, &mut err)));
+            return exit_code(Some(no_words(terminals.err, &mut err)));
         }
         Err(_) => return exit_code(None),
     };
@@ -65,7 +68,7 @@ fn main(rt: HostRuntime) -> ExitCode {
     let status = command(
         &rt,
         &words,
-        is_attended,
+        terminals,
         progress,
         rt.reader(),
         &mut out,
