@@ -115,7 +115,7 @@ where
     let what = Browsing {
         recording: file,
         listen: "",
-        name: None,
+        names: None,
         stop: Stop {
             at_end_of_input: false,
             after: Some(8),
