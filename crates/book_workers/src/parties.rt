@@ -145,9 +145,9 @@ pub trait ViewerSink<T, E>: Drop {
         ensures bare { fresh self.new ≡ fresh_after result (fresh self.old) };
 
     /// Takes a receipt, and stands at its end then, with a screen. If it has more than one
-    /// message, they take 16 MiB in a block's body at most.
+    /// message, they take 1 MiB at most in the bodies of blocks.
     fn slice(&mut self, receipt: T)
-        requires bounded { is_modelled → 1 < length (slice_of receipt).messages.items → body_size (slice_of receipt).messages.items ≤ 2 ^ 24 }
+        requires bounded { is_modelled → 1 < length (slice_of receipt).messages.items → body_size (slice_of receipt).messages.items ≤ 2 ^ 20 }
         requires sized { IsOfSize (size self.old) (slice_of receipt) }
         requires stands { (slice_of receipt).first ≡ position self.old }
         requires start { has_start (slice_of receipt) ≡ fresh self.old }

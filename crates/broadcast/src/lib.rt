@@ -4,6 +4,7 @@
 mod asking;
 mod desk;
 mod laws;
+mod parts;
 mod reading;
 mod refusal;
 mod runs;

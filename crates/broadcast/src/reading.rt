@@ -1,41 +1,20 @@
 //! Reading what a desk has committed, for no seat.
 
-ghost use Rattle.std.specs.Prelude.{◌≡◌, ◌↔◌, ◌<◌, ◌≤◌, take, drop, IfOk, IsErrOf, Err};
+ghost use Rattle.std.specs.Prelude.{◌≡◌, ◌↔◌, ◌<◌, ◌≤◌, IfOk, IsErrOf, Err};
 ghost use Rattle.disk.specs.Failures.{HasCause};
 
 use crate::desk::Desk;
-use crate::refusal::{NextRefusal, next_refusal};
 use disk::Disk;
 use gated_journal::ReadFault;
 use painter::Screen;
 use replay::ReplayFault;
 
 impl<D: Disk> Desk<D> {
-    ghost use Rattle.key_index.specs.Parts.{IsPartFrom};
-    ghost use Rattle.keyed_entries.specs.Entry.{body_size};
     ghost use Rattle.flusher_core.specs.State.{committed_of};
     ghost use Rattle.flusher_core.specs.Book.{OnlyReads};
     ghost use Rattle.replay.specs.Screens.{IsScreenAt};
     ghost use Rattle.replay.specs.Moments.{IsShownAt};
     ghost use Rattle.broadcast.specs.Seats.{book_of};
-
-    /// How many committed messages from number `first` on are handed on at a time: those up to the
-    /// end of the block that holds it, but no more than take so many bytes together in its body;
-    /// one in any case, and none if there is none. A refusal, as all else, leaves all as it was;
-    /// `Device` is answered exactly when the device failed in this call.
-    pub fn part(&mut self, first: u64, bytes: u32) -> Result<u32, NextRefusal>
-        ensures part { D.is_modelled → first < self.old.state.book.committed → IfOk result (IsPartFrom bytes self.old.state.book.blocks first) }
-        ensures fits { D.is_modelled → IfOk result (λ n. 1 < n → body_size (take n (drop first (committed_of self.old.state.book))) ≤ bytes) }
-        ensures some { first < self.old.state.book.committed → IfOk result (λ n. 1 ≤ n) }
-        ensures only { OnlyReads D.is_modelled D.history (book_of self.old) (book_of self.new) }
-        ensures seats { self.new.state.seats ≡ self.old.state.seats }
-        ensures cause { D.is_modelled → HasCause self.old.state.book.failures self.new.state.book.failures (IsErrOf result NextRefusal.Device) }
-    {
-        if first > self.book.committed() {
-            return Ok(0);
-        }
-        self.book.part(first, bytes).map_err(next_refusal)
-    }
 
     /// How many committed messages a viewer has been shown at this time, in milliseconds: those whose
     /// time isn't later. A refusal, as all else, leaves all as it was; `Device` is answered exactly

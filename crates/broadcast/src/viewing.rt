@@ -1,6 +1,6 @@
 //! The four steps of a viewer: it takes a seat, is handed slices, moves, and leaves.
 
-ghost use Rattle.std.specs.Prelude.{◌≡◌, ◌≢◌, ◌↔◌, ◌+◌, ◌≤◌, length, IsTrue, IfOk, OnOk, OnErr, Err, Some, true, false};
+ghost use Rattle.std.specs.Prelude.{◌≡◌, ◌≢◌, ◌↔◌, ◌+◌, ◌-◌, ◌<◌, ◌≤◌, length, take, drop, min, IsTrue, IfOk, IfSome, OnOk, OnErr, Err, Some, None, true, false};
 ghost use Rattle.disk.specs.History.{LeavesNow};
 
 use crate::desk::Desk;
@@ -17,7 +17,9 @@ impl<D: Disk> Desk<D> {
     ghost use Rattle.broadcast.specs.declared.step.Reply.TheVariants as reply;
     ghost use Rattle.broadcast.specs.Headline.{GoesOn};
     ghost use Rattle.broadcast.specs.Seats.{IsHeld, book_of, seat_at, seated_of};
-    ghost use Rattle.broadcast.specs.Steps.{IsNext, IsSeek, IsLeave, IsStep, start_at};
+    ghost use Rattle.keyed_entries.specs.Entry.{body_size};
+    ghost use Rattle.key_index.specs.Parts.{IsPortion};
+    ghost use Rattle.broadcast.specs.Steps.{handed_in, IsNext, IsSeek, IsLeave, IsStep, start_at};
 
     /// Takes the lowest free seat, fresh, at the committed messages' end or after so many of them.
     /// The first refusal that holds is answered: `NoSeat` if all are taken, `NotCommitted` if fewer
@@ -51,7 +53,7 @@ impl<D: Disk> Desk<D> {
     }
 
     // Whether the desk keeps just what the seat carries.
-    fn keeps(&self, seat: &Seat) -> bool
+    pub(crate) fn keeps(&self, seat: &Seat) -> bool
         ensures { IsTrue result ↔ IsHeld self.now.state.seats seat.now }
     {
         match self.seats.at(seat.number()) {
@@ -60,12 +62,24 @@ impl<D: Disk> Desk<D> {
         }
     }
 
-    // The slice of a seat that is kept.
-    fn hand(&mut self, number: u32, cursor: Cursor, limit: u32) -> Result<Slice, NextRefusal>
+    // The slice of a seat that is kept; of no more messages than take so many bytes, if there is a
+    // bound.
+    pub(crate) fn hand(
+        &mut self,
+        number: u32,
+        cursor: Cursor,
+        limit: u32,
+        bytes: Option<u32>,
+    ) -> Result<Slice, NextRefusal>
         requires { seat_at self.old.state.seats number ≡ Some cursor }
-        ensures step { D.is_modelled → IsNext self.old.head self.old.state number limit result self.new.state }
+        ensures step { D.is_modelled → IsNext self.old.head self.old.state number (handed_in limit result) result self.new.state }
+        ensures portion { D.is_modelled → IfOk result (λ slice. IsPortion bytes (take limit (drop cursor.position (committed_of self.old.state.book))) (length slice.messages.items)) }
         ensures goes_on { GoesOn D.is_modelled D.history self.old self.new }
-        ensures sized { IfOk result (λ slice. IsSized self.old.head cursor.position limit cursor.fresh self.old.state.book.committed slice) }
+        ensures sized { IfOk result (λ slice. IsSized self.old.head cursor.position (length slice.messages.items) cursor.fresh self.old.state.book.committed slice) }
+        ensures few { IfOk result (λ slice. length slice.messages.items ≤ min limit (self.old.state.book.committed - cursor.position)) }
+        ensures some { IfOk result (λ slice. 0 < min limit (self.old.state.book.committed - cursor.position) → 1 ≤ length slice.messages.items) }
+        ensures whole { bytes ≡ None → IfOk result (λ slice. length slice.messages.items ≡ min limit (self.old.state.book.committed - cursor.position)) }
+        ensures fits { IfSome bytes (λ bytes. IfOk result (λ slice. 1 < length slice.messages.items → body_size slice.messages.items ≤ bytes)) }
         ensures within { IfOk result (λ slice. slice.first + length slice.messages.items ≤ self.old.state.book.committed) }
         ensures stands { D.is_modelled → IfOk result (λ slice. Stands self.old.head (committed_of self.old.state.book) slice) }
         ensures handed { D.is_modelled → IfOk result (λ slice. LeavesNow (D.history self.new.disk) (KeepsSlice self.old.head slice)) }
@@ -75,7 +89,10 @@ impl<D: Disk> Desk<D> {
         ensures refused { OnErr result (self.new.state.seats ≡ self.old.state.seats) }
     {
         self.known();
-        match self.book.slice(cursor.position, limit, cursor.fresh) {
+        match self
+            .book
+            .portion(cursor.position, limit, bytes, cursor.fresh)
+        {
             Ok(slice) => {
                 let position = slice.end();
                 self.seats.set(
@@ -115,7 +132,7 @@ impl<D: Disk> Desk<D> {
         if !self.keeps(seat) {
             return Err(NextRefusal::NotSeated);
         }
-        let slice = self.hand(seat.number(), seat.cursor(), limit)?;
+        let slice = self.hand(seat.number(), seat.cursor(), limit, None)?;
         seat.stand(Cursor {
             position: slice.end(),
             fresh: false,
@@ -132,7 +149,7 @@ impl<D: Disk> Desk<D> {
         self.known();
         match self.seats.at(number) {
             None => Err(NextRefusal::NotSeated),
-            Some(cursor) => self.hand(number, cursor, limit),
+            Some(cursor) => self.hand(number, cursor, limit, None),
         }
     }
 

@@ -1,6 +1,6 @@
-//! Receipts, tickets, parts and endings: what a thread was told, which all know to hold for good.
+//! Receipts, tickets and endings: what a thread was told, which all know to hold for good.
 
-ghost use Rattle.std.specs.Prelude.{◌≡◌, ◌+◌, ◌<◌, ◌≤◌, ◌^◌, length, take, drop};
+ghost use Rattle.std.specs.Prelude.{◌≡◌, ◌+◌, ◌<◌, ◌^◌, length};
 
 use book_tokens::{Accepting, Committing, Front, Mark, NumberProof, Pen};
 use replay::Slice;
@@ -39,49 +39,6 @@ impl<M: Mark> Receipt<M> {
         ensures { result.now ≡ self.now }
     {
         &self.slice
-    }
-}
-
-/// How many committed messages are handed on at a time, from a number on, as `part` of
-/// [`Shared`](crate::Shared) answered. It is made by that alone. Contracts see the number, how many,
-/// and the messages that were committed.
-#[derive(Drop)]
-pub struct Part<M: Mark> {
-    pub(crate) first: u64,
-    pub(crate) count: u32,
-    pub(crate) front: Front<M>,
-}
-
-impl<M: Mark> Model for Part<M> {
-    ghost use Rattle.shared_book.specs.Receipts.{Portion, IsPortion};
-
-    ghost Value = { Portion };
-
-    ghost view = { λ p. record { first = p.first; count = p.count; committed = p.front.committed } };
-
-    ghost invariant = { λ p. M.is_modelled → IsPortion (record { first = p.first; count = p.count; committed = p.front.committed }) };
-}
-
-impl<M: Mark> Part<M> {
-    ghost use Rattle.keyed_entries.specs.Entry.{body_size};
-
-    /// How many: of one block, more than one take 16 MiB of it at most; none if none is committed
-    /// there.
-    pub fn count(&self) -> u32
-        ensures count { result ≡ self.now.count }
-        ensures within { M.is_modelled → 0 < result → self.now.first + result ≤ length self.now.committed }
-        ensures some { M.is_modelled → self.now.first < length self.now.committed → 1 ≤ result }
-        ensures bounded { M.is_modelled → 1 < result → body_size (take result (drop self.now.first self.now.committed)) ≤ 2 ^ 24 }
-    {
-        self.count
-    }
-
-    /// Does nothing: its contract is that the messages of a receipt from there on, no more than so
-    /// many, take 16 MiB at most, if they are more than one.
-    pub fn bounds(&self, receipt: &Receipt<M>)
-        ensures { M.is_modelled → receipt.now.first ≡ self.now.first → length receipt.now.messages.items ≤ self.now.count → 1 < length receipt.now.messages.items → body_size receipt.now.messages.items ≤ 2 ^ 24 }
-    {
-        self.front.agrees(&receipt.front);
     }
 }
 

@@ -1,4 +1,5 @@
-//! The positions at which seats begin, and their screens, with the values worked by hand.
+//! The positions at which seats begin, their screens, and how much they are handed, with the values
+//! worked by hand.
 
 ghost use Rattle.std.specs.Prelude.{◌≡◌};
 ghost use Rattle.flusher_core.specs.State.{accepted_count};
@@ -74,6 +75,13 @@ fn begin<D: Disk, M: Mark, R: Wait>(rt: &R, shared: &Shared<D, M>, start: Start)
     })
 }
 
+// How many messages a seat before all of them is handed at once, of whichever blocks.
+fn handed_at_once<D: Disk, M: Mark, R: Wait>(rt: &R, shared: &Shared<D, M>) -> Option<usize> {
+    let mut seat = shared.join(rt, Start::At(0)).ok()?;
+    let receipt = shared.next_part(rt, &mut seat, 8).ok()?;
+    Some(receipt.slice().messages.len())
+}
+
 // Whether a second block has one message, of the time 20, and a viewer is shown another before it.
 fn has_second<D: Disk, M: Mark, R: Wait>(
     rt: &R,
@@ -122,6 +130,7 @@ fn begin_all<D: Disk + Drop, M: Mark, R: Wait + Abort>(
     };
     assert!(rt; begin(rt, &sharing.shared, Start::Live) == Some(due));
     assert!(rt; has_second(rt, alloc, &sharing.shared) == Some(true));
+    assert!(rt; handed_at_once(rt, &sharing.shared) == Some(2));
 }
 
 #[test]
