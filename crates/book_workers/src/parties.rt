@@ -2,7 +2,7 @@
 
 ghost use Rattle.std.specs.Prelude.{◌≡◌, ◌<◌, ◌≤◌, ◌^◌, ◌+◌, IfSome, length, true, false};
 ghost use Rattle.keyed_entries.specs.Entry.{body_size};
-ghost use Rattle.shared_book.specs.Receipts.{IsOfScreen, IsOfSize, has_start};
+ghost use Rattle.shared_book.specs.Receipts.{IsOfScreen, IsOfSize, IsScreenSized, has_start};
 ghost use Rattle.book_workers.specs.Accounts.{IsSettled, after_next, after_ticket};
 ghost use Rattle.book_workers.specs.Wishes.{fresh_after, position_after};
 
@@ -104,12 +104,14 @@ pub enum ViewerWish {
     Stop,
 }
 
-/// What takes a viewer's receipts. Each is of the sink's size and begins at the position of the
+/// What takes a viewer's receipts, each with a snapshot of the screen at its end or without one. It
+/// is of the sink's size and begins at the position of the
 /// sink: that of its seat, of which it is told, that after the receipt before, or that at which it
 /// asked to go on. It has a start in the first and the last of these cases, and in no other. An
 /// ending says that the sink has all.
 pub trait ViewerSink<T, E>: Drop {
-    ghost use Rattle.std.specs.Prelude.{ℕ, Bool};
+    ghost use Rattle.std.specs.Prelude.{ℕ, Bool, Option};
+    ghost use Rattle.keyed_entries.specs.Framebuffer.{Framebuffer};
     ghost use Rattle.terms.specs.declared.screen_size.ScreenSize.{ScreenSize};
     ghost use Rattle.replay.specs.declared.slice.Slice.{Slice};
 
@@ -122,6 +124,8 @@ pub trait ViewerSink<T, E>: Drop {
     ghost fresh: { Self → Bool };
 
     ghost slice_of: { T → Slice };
+
+    ghost snapshot_of: { T → Option Framebuffer };
 
     ghost count_of: { E → ℕ };
 
@@ -145,10 +149,12 @@ pub trait ViewerSink<T, E>: Drop {
         ensures bare { fresh self.new ≡ fresh_after result (fresh self.old) };
 
     /// Takes a receipt, and stands at its end then, with a screen. If it has more than one
-    /// message, they take 1 MiB at most in the bodies of blocks.
+    /// message, they take 1 MiB at most in the bodies of blocks. If a snapshot comes with it, the sink
+    /// need not paint.
     fn slice(&mut self, receipt: T)
         requires bounded { is_modelled → 1 < length (slice_of receipt).messages.items → body_size (slice_of receipt).messages.items ≤ 2 ^ 20 }
         requires sized { IsOfSize (size self.old) (slice_of receipt) }
+        requires snapshot { IsScreenSized (size self.old) (snapshot_of receipt) }
         requires stands { (slice_of receipt).first ≡ position self.old }
         requires start { has_start (slice_of receipt) ≡ fresh self.old }
         requires room { (slice_of receipt).first + length (slice_of receipt).messages.items < 2 ^ 64 }

@@ -3,6 +3,7 @@ pub use Rattle.key_index.specs.Holds
 pub mod Refusals
 pub mod Seats
 pub mod Steps
+pub mod Handing
 pub mod Run
 pub mod Headline
 pub mod Lives

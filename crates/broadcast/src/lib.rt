@@ -3,6 +3,7 @@
 
 mod asking;
 mod desk;
+mod handed;
 mod laws;
 mod parts;
 mod reading;
@@ -15,6 +16,7 @@ mod steps;
 mod viewing;
 
 pub use desk::Desk;
+pub use handed::Handed;
 pub use key_index;
 pub use laws::{any_number_of_runs_and_crashes, runs_go_on, steps_only_append};
 pub use refusal::{JoinRefusal, LeaveRefusal, NextRefusal, SeekRefusal, StepRefusal};

@@ -1,16 +1,17 @@
 //! A viewer, which two threads share.
 
 ghost use Rattle.std.specs.Prelude.{◌≡◌, ◌<◌, ◌≤◌, ◌^◌, ◌+◌, ◌-◌, IfSome, IsTrue, false, length, min, true};
-ghost use Rattle.book_workers.specs.Receipts.{IsOfSize, size_of};
+ghost use Rattle.book_workers.specs.Receipts.{IsOfSize, IsScreenSized, size_of};
 
 use crate::facts::Facts;
 use crate::guest::{Guest, VERSION, hear_version, say};
 use crate::limits::{ANSWER, BETWEEN_ORDERS, FAREWELL, HANDSHAKE, PARTING, PULSE};
 use crate::room::Room;
 use book_workers::replay::Slice;
-use book_workers::shared_book::{Mark, Shared};
+use book_workers::shared_book::{Delivery, Mark, Shared};
 use carriage::{Carriage, Ending, Status};
 use disk::Disk;
+use painter::Snapshot;
 use rfb_wire::HostMessage;
 use sockets::{Bell, Connection, Woken};
 use std::alloc::{AllocError, Global};
@@ -154,15 +155,25 @@ impl<M: Mark> Talk<M> {
         }
     }
 
-    // Goes on by a slice that begins at the session's position, or has a start: whether it does.
-    fn advance(&mut self, slice: &Slice, facts: &Facts) -> bool
+    // Goes on by a slice that begins at the session's position, or has a start, to a snapshot of the
+    // screen at its end, or by painting it if there is none: whether it does. There may be no memory
+    // to paint.
+    fn advance(&mut self, slice: &Slice, snapshot: Option<Snapshot>, facts: &Facts) -> bool
         requires sized { IsOfSize (size_of M.head) slice.now }
+        requires snapshot { IsScreenSized (size_of M.head) snapshot }
         requires room { slice.now.first + length slice.now.messages.items < 2 ^ 64 }
     {
         if slice.start.is_none() && slice.first != self.session.position() {
             return false;
         }
-        self.session.advance(slice);
+        match snapshot {
+            Some(snapshot) => self.session.advance_to(slice, snapshot),
+            None => {
+                if self.session.advance(slice).is_err() {
+                    return false;
+                }
+            }
+        }
         if let Some(course) = &mut self.course {
             follow(course, slice, facts);
         }
@@ -398,13 +409,15 @@ impl<M: Mark, C: Connection> Viewer<M, C> {
         self.talk.lock(rt).hold_back()
     }
 
-    /// Goes on by a slice, and answers what is due.
-    pub fn show<R: Clock + Wait>(&self, rt: &R, slice: &Slice, room: &Room<M>)
-        requires sized { IsOfSize (size_of M.head) slice.now }
-        requires room { slice.now.first + length slice.now.messages.items < 2 ^ 64 }
+    /// Goes on by what was delivered, and answers what is due.
+    pub fn show<R: Clock + Wait>(&self, rt: &R, delivery: Delivery<M>, room: &Room<M>)
+        requires sized { IsOfSize (size_of M.head) delivery.slice }
+        requires snapshot { IsScreenSized (size_of M.head) delivery.snapshot }
+        requires room { delivery.slice.first + length delivery.slice.messages.items < 2 ^ 64 }
     {
+        let (receipt, snapshot) = delivery.split();
         let mut talk = self.talk.lock(rt);
-        let is_shown = talk.advance(slice, &room.facts)
+        let is_shown = talk.advance(receipt.slice(), snapshot, &room.facts)
             && talk.answer(rt, &self.connection, room, true).is_ok();
         drop(talk);
         if !is_shown {

@@ -13,3 +13,5 @@ pub mod SentRows
 pub mod SentColors
 pub mod SentParts
 pub mod SentNumbers
+pub mod Banded
+pub mod BlackBands

@@ -1,5 +1,5 @@
 -- Rectangles and messages, one after the other.
-use Rattle.std.proofs.Common.{◌≡◌, ℕ, ◌+◌, ◌-◌, ◌<◌, List, [], ◌∷◌, ◌++◌, length, take, get_or, inl, inr, refl, ap, ◌∙◌, arith}
+use Rattle.std.proofs.Common.{◌≡◌, ℕ, ◌+◌, ◌-◌, ◌<◌, false, List, [], ◌∷◌, ◌++◌, length, take, get_or, inl, inr, refl, ap, ◌∙◌, arith}
 use Rattle.std.specs.List.{AllByRecursion}
 use Rattle.std.proofs.lemmas.Bool.{cases_Bool}
 use Rattle.std.specs.Prelude.{slice_range}
@@ -39,6 +39,11 @@ pub last_painted : (bytes : List ℕ) (rectangles : List Rectangle) (i : ℕ) (b
 last_painted bytes rectangles i before lt =
     ap (λ (rs : List Rectangle). painted_rectangles bytes rs before) (take_more rectangles i no_rectangle lt)
     ∙ one_more bytes (take i rectangles) (get_or rectangles i no_rectangle) before
+
+-- what is painted on an area leaves the other pixels
+pub unpainted : (encoding : Encoding) (area : Area) (bytes : List ℕ) (before : Picture) (x y : ℕ) → is_in area x y ≡ false → painted_data host_format encoding area bytes before x y ≡ before x y
+unfolding painted_data
+unpainted encoding area bytes before x y outside = rw outside refl
 
 -- ---- screens
 

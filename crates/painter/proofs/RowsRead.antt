@@ -1,7 +1,7 @@
 -- Reading an area row by row.
-use Rattle.std.proofs.Common.{◌≡◌, ℕ, ◌+◌, ◌-◌, ◌*◌, ◌<◌, ◌≤◌, List, [], ◌++◌, length, take, drop, get_or, inl, inr, sym, ap, ◌∙◌, arith, rules, subst}
+use Rattle.std.proofs.Common.{◌≡◌, ℕ, ◌+◌, ◌-◌, ◌*◌, ◌<◌, ◌≤◌, List, [], ◌++◌, length, take, drop, map, inl, inr, sym, ap, ◌∙◌, arith, subst}
 use Rattle.std.proofs.lemmas.Bool.{cases_lt}
-use Rattle.std.proofs.lemmas.List.{places, length-take, length-drop, length-append, take_at, drop-drop, drop_all, append-nil, get_or_default}
+use Rattle.std.proofs.lemmas.List.{length-take, length-drop, length-append, take_at, drop-drop, drop_all, append-nil, get_or_default}
 use Rattle.std.proofs.lemmas.Nat.{mul-add-lt}
 use Rattle.std.proofs.Math.Nat.{mul-le-mul_left}
 use borrow.Rule.Slice.PartMut.{put_mid}
@@ -11,76 +11,71 @@ use Rattle.pixel_format.specs.Canvas.{black, nth, rows_of}
 use Rattle.terms.specs.declared.area.Area.{Area}
 use Rattle.painter.specs.declared.pixel.Pixel.{Pixel}
 use Rattle.painter.specs.Framebuffer.{Framebuffer, color_at, AppendsColors}
-use Rattle.painter.specs.Pixels.{black_pixel, color_of, pixel_color_at, color_in}
+use Rattle.painter.specs.Pixels.{color_of, pixel_color_at}
+use Rattle.painter.specs.Sent.{row_colors}
+use Rattle.painter.proofs.Screens.{color_is}
+use Rattle.painter.proofs.SentColors.{row_color}
 use Rattle.painter.proofs.Region.{below_part, in_part}
 
--- a pixel of a part of the pixels
-pixel_of_part : (pixels : List Pixel) (start n k : ℕ) → k < n → pixel_color_at (take n (drop start pixels)) k ≡ pixel_color_at pixels (start + k)
-pixel_of_part pixels start n k lt =
-    let here : get_or (take n (drop start pixels)) k black_pixel ≡ get_or pixels (start + k) black_pixel = search (rules, places) in
-    ap color_of here
-
--- a row that was read: the colours of a part of the pixels, in as many elements of the colours
-pub record ReadsRow (pixels : List Pixel) (colors line : List Color) (width w left top row : ℕ) : Type 0 where
-  pub fits : row * w + w ≤ length colors
-  pub len : length line ≡ w
-  pub value : (k : ℕ) → k < w → nth line k ≡ pixel_color_at pixels ((top + row) * width + left + k)
-  pub screen : (k : ℕ) → k < w → IsScreenColor (nth line k)
+-- a row that was read: its colours, in as many elements of the colours
+pub record ReadsRow (screen : Framebuffer) (colors line : List Color) (area : Area) (row : ℕ) : Type 0 where
+  pub fits : row * area.w + area.w ≤ length colors
+  pub len : length line ≡ area.w
+  pub value : (k : ℕ) → k < area.w → nth line k ≡ color_at screen (area.x + k) (area.y + row)
+  pub channels : (k : ℕ) → k < area.w → IsScreenColor (nth line k)
 
 -- what the code read
-pub row_read : (pixels : List Pixel) (colors line : List Color) (width w left top row h : ℕ) → length colors ≡ h * w → row < h
-    → length line ≡ length (take (row * w + w - row * w) (drop (row * w) colors))
-    → ((k : ℕ) → k < length (take (row * w + w - row * w) (drop (row * w) colors))
-    → nth line k ≡ pixel_color_at (take w (drop ((top + row) * width + left) pixels)) k)
-    → ((k : ℕ) → k < length (take (row * w + w - row * w) (drop (row * w) colors)) → IsScreenColor (nth line k))
-    → ReadsRow pixels colors line width w left top row
-row_read pixels colors line width w left top row h size lt len value screen =
-    let reach : row + 1 ≤ h = omega arith in
-    let fits : row * w + w ≤ length colors = omega (arith, mul-le-mul_left w reach) in
-    let part : length (take (row * w + w - row * w) (drop (row * w) colors)) ≡ w = simp (length-take, length-drop) (omega arith) in
+pub row_read : (screen : Framebuffer) (pixels : List Pixel) (colors line : List Color) (area : Area) (row : ℕ) → length colors ≡ area.h * area.w → row < area.h
+    → map color_of pixels ≡ row_colors screen area row
+    → length line ≡ length (take (row * area.w + area.w - row * area.w) (drop (row * area.w) colors))
+    → ((k : ℕ) → k < length (take (row * area.w + area.w - row * area.w) (drop (row * area.w) colors)) → nth line k ≡ pixel_color_at pixels k)
+    → ((k : ℕ) → k < length (take (row * area.w + area.w - row * area.w) (drop (row * area.w) colors)) → IsScreenColor (nth line k))
+    → ReadsRow screen colors line area row
+row_read screen pixels colors line area row size lt is len value each =
+    let reach : row + 1 ≤ area.h = omega arith in
+    let fits : row * area.w + area.w ≤ length colors = omega (arith, mul-le-mul_left area.w reach) in
+    let part : length (take (row * area.w + area.w - row * area.w) (drop (row * area.w) colors)) ≡ area.w = simp (length-take, length-drop) (omega arith) in
     record {
       fits = fits;
       len = len ∙ part;
-      value = λ k below. value k (omega arith) ∙ pixel_of_part pixels ((top + row) * width + left) _ k (omega arith);
-      screen = λ k below. screen k (omega arith);
+      value = λ k below. value k (omega arith) ∙ sym (color_is pixels k) ∙ ap (λ (cs : List Color). nth cs k) is ∙ row_color screen area row k below;
+      channels = λ k below. each k (omega arith);
     }
 
 -- the first rows, and the next one: their colours are those of the pixels
-pub rows_more : (pixels : List Pixel) (colors line : List Color) (width w left top row n : ℕ) → n ≡ w → ReadsRow pixels colors line width w left top row
-    → ((x y : ℕ) → x < w → y < row → nth colors (y * w + x) ≡ color_in pixels width (left + x) (top + y))
-    → (x y : ℕ) → x < w → y < row + 1 → nth (put_mid (row * w) n colors line) (y * w + x) ≡ color_in pixels width (left + x) (top + y)
-rows_more pixels colors line width w left top row n n_is read so_far x y across down =
+pub rows_more : (screen : Framebuffer) (colors line : List Color) (area : Area) (row n : ℕ) → n ≡ area.w → ReadsRow screen colors line area row
+    → ((x y : ℕ) → x < area.w → y < row → nth colors (y * area.w + x) ≡ color_at screen (area.x + x) (area.y + y))
+    → (x y : ℕ) → x < area.w → y < row + 1 → nth (put_mid (row * area.w) n colors line) (y * area.w + x) ≡ color_at screen (area.x + x) (area.y + y)
+rows_more screen colors line area row n n_is read so_far x y across down =
     let fits = read.fits in
     let len = read.len in
     elim (cases_lt y row) [
       | inl above ↦
-          below_part (row * w) n colors line (y * w + x) black (omega arith) (omega (arith, mul-add-lt y w x row above across))
+          below_part (row * area.w) n colors line (y * area.w + x) black (omega arith) (omega (arith, mul-add-lt y area.w x row above across))
           ∙ so_far x y across above
       | inr level ↦
           let same : y ≡ row = omega arith in
-          let there : (top + row) * width + left + x ≡ (top + row) * width + (left + x) = omega arith in
-          ap (λ (r : ℕ). nth (put_mid (row * w) n colors line) (r * w + x)) same
-          ∙ in_part (row * w) n colors line x black (omega arith) (omega arith)
+          ap (λ (r : ℕ). nth (put_mid (row * area.w) n colors line) (r * area.w + x)) same
+          ∙ in_part (row * area.w) n colors line x black (omega arith) (omega arith)
           ∙ read.value x across
-          ∙ ap (pixel_color_at pixels) there
-          ∙ ap (λ (r : ℕ). color_in pixels width (left + x) (top + r)) (sym same)
+          ∙ ap (λ (r : ℕ). color_at screen (area.x + x) (area.y + r)) (sym same)
     ]
 
 -- and are those of a screen
-pub screen_more : (pixels : List Pixel) (colors line : List Color) (width w left top row n : ℕ) → ReadsRow pixels colors line width w left top row
-    → ((k : ℕ) → k < row * w → IsScreenColor (nth colors k))
-    → (k : ℕ) → k < (row + 1) * w → IsScreenColor (nth (put_mid (row * w) n colors line) k)
-screen_more pixels colors line width w left top row n read so_far k lt =
+pub screen_more : (screen : Framebuffer) (colors line : List Color) (area : Area) (row n : ℕ) → ReadsRow screen colors line area row
+    → ((k : ℕ) → k < row * area.w → IsScreenColor (nth colors k))
+    → (k : ℕ) → k < (row + 1) * area.w → IsScreenColor (nth (put_mid (row * area.w) n colors line) k)
+screen_more screen colors line area row n read so_far k lt =
     let fits = read.fits in
     let len = read.len in
-    elim (cases_lt k (row * w)) [
+    elim (cases_lt k (row * area.w)) [
       | inl before ↦
-          subst IsScreenColor (sym (below_part (row * w) n colors line k black (omega arith) before)) (so_far k before)
+          subst IsScreenColor (sym (below_part (row * area.w) n colors line k black (omega arith) before)) (so_far k before)
       | inr following ↦
-          let within : k - row * w < w = omega arith in
-          let at : row * w + (k - row * w) ≡ k = omega arith in
-          subst (λ (i : ℕ). IsScreenColor (nth (put_mid (row * w) n colors line) i)) at
-          (subst IsScreenColor (sym (in_part (row * w) n colors line (k - row * w) black (omega arith) (omega arith))) (read.screen (k - row * w) within))
+          let within : k - row * area.w < area.w = omega arith in
+          let at : row * area.w + (k - row * area.w) ≡ k = omega arith in
+          subst (λ (i : ℕ). IsScreenColor (nth (put_mid (row * area.w) n colors line) i)) at
+          (subst IsScreenColor (sym (in_part (row * area.w) n colors line (k - row * area.w) black (omega arith) (omega arith))) (read.channels (k - row * area.w) within))
     ]
 
 -- colours that are written into the room after a list are appended to it

@@ -1,33 +1,35 @@
 -- The colours of the pixels of an area, row by row.
-use Rattle.std.proofs.Common.{◌≡◌, ℕ, zero, suc, ◌+◌, ◌*◌, ◌%◌, ◌<◌, ◌≤◌, List, ◌++◌, length, take, drop, get_or, map, sym, ap, subst, ◌∙◌, arith, length-append}
+use Rattle.std.proofs.Common.{◌≡◌, ℕ, zero, suc, ◌+◌, ◌*◌, ◌%◌, ◌<◌, ◌≤◌, List, [], ◌∷◌, ◌++◌, length, take, drop, get_or, map, sym, ap, subst, ◌∙◌, arith, length-append}
 use Rattle.std.specs.Prelude.{All}
 use Rattle.std.specs.List.{flat_map, range_with_len}
 use Rattle.std.proofs.Math.ListN.{get_or-append}
 use Rattle.std.proofs.Math.Nat.{mul-le-mul_left}
+use Rattle.std.proofs.lemmas.List.Elements.{All-append, All-take, All-drop}
 use Rattle.std.proofs.lemmas.List.{get_or-map, length-map, take-map, drop-map, get_or-append-add, length-take, length-drop, get_or-take, get_or-drop}
-use Rattle.std.proofs.lemmas.Simd.{map-map}
 use Rattle.pixel_format.specs.declared.Color.{Color}
-use Rattle.pixel_format.specs.Format.{Format}
-use Rattle.pixel_format.specs.Pixel.{converted, IsScreenColor}
+use Rattle.pixel_format.specs.Pixel.{IsScreenColor}
 use Rattle.pixel_format.specs.Canvas.{black, nth}
 use Rattle.terms.specs.declared.area.Area.{Area}
 use Rattle.painter.specs.declared.pixel.Pixel.{Pixel}
-use Rattle.painter.specs.Framebuffer.{AreColorsOf}
+use Rattle.painter.specs.Framebuffer.{Framebuffer, color_at, AreColorsOf}
 use Rattle.painter.specs.Pixels.{black_pixel, color_of}
-use Rattle.painter.specs.Sent.{row_colors, area_colors, sent_colors, seen_colors, seen_area}
+use Rattle.painter.specs.Bands.{IsFilled}
+use Rattle.painter.specs.Sent.{row_colors, area_colors}
 use Rattle.painter.proofs.Screens.{screen_of}
-use Rattle.painter.proofs.SentRows.{rows_mapped}
 
--- a row of pixels, each of which is mapped
-row_mapped : {X : Type 0} (h : Color → X) (w start : ℕ) (pixels : List Pixel) → map h (take w (drop start (map color_of pixels))) ≡ map (λ p. h (color_of p)) (take w (drop start pixels))
-row_mapped h w start pixels =
-    ap (λ cs. map h (take w cs)) (drop-map color_of start pixels) ∙ ap (map h) (take-map color_of w (drop start pixels)) ∙ map-map h color_of (take w (drop start pixels))
+-- the colours of a row of pixels
+pub row_is : (width height : ℕ) (pixels : List Pixel) (area : Area) (row : ℕ) → map color_of (take area.w (drop ((area.y + row) * width + area.x) pixels)) ≡ row_colors (screen_of width height pixels) area row
+row_is width height pixels area row =
+    sym (ap (take area.w) (drop-map color_of ((area.y + row) * width + area.x) pixels) ∙ take-map color_of area.w (drop ((area.y + row) * width + area.x) pixels))
 
--- what is sent of a screen is what is sent of its pixels
-pub sent_is : (f : Format) (width height : ℕ) (pixels : List Pixel) (area : Area) → sent_colors f (screen_of width height pixels) area ≡ seen_area f pixels width area area.h
-sent_is f width height pixels area =
-    rows_mapped (converted f) (row_colors (screen_of width height pixels) area) (λ row. seen_colors f (take area.w (drop ((area.y + row) * width + area.x) pixels)))
-    (λ row. row_mapped (converted f) area.w ((area.y + row) * width + area.x) pixels) (range_with_len 0 area.h)
+-- a colour of a row
+pub row_color : (screen : Framebuffer) (area : Area) (row k : ℕ) → k < area.w → nth (row_colors screen area row) k ≡ color_at screen (area.x + k) (area.y + row)
+row_color screen area row k across =
+    let slots_are = screen.slots in
+    let at : (area.y + row) * screen.width + area.x + k ≡ (area.y + row) * screen.width + (area.x + k) = omega arith in
+    get_or-take area.w (drop ((area.y + row) * screen.width + area.x) slots_are) k black across
+    ∙ get_or-drop ((area.y + row) * screen.width + area.x) slots_are k black
+    ∙ ap (nth slots_are) at
 
 -- ---- pixels of rows that come one after the other
 
@@ -69,30 +71,34 @@ all_screen : (pixels : List Pixel) → All IsScreenColor (map color_of pixels)
 all_screen pixels k d less =
     subst IsScreenColor (sym (get_or-map color_of pixels k black_pixel d (omega (arith, length-map pixels color_of)))) (screen_color (get_or pixels k black_pixel))
 
+-- the pixels of a screen have such colours, and as many
+pub are_filled : (width height : ℕ) (pixels : List Pixel) → length pixels ≡ height * width → IsFilled (screen_of width height pixels)
+are_filled width height pixels size = record { size = length-map pixels color_of ∙ size; colors = all_screen pixels }
+
+all_rows : (screen : Framebuffer) (area : Area) (rows : List ℕ) → All IsScreenColor screen.slots → All IsScreenColor (flat_map (row_colors screen area) rows)
+all_rows screen area [] each = λ k d less. absurd (omega arith)
+all_rows screen area (row ∷ rows) each =
+    All-append IsScreenColor (row_colors screen area row) (flat_map (row_colors screen area) rows)
+    (All-take IsScreenColor area.w (drop ((area.y + row) * screen.width + area.x) screen.slots) (All-drop IsScreenColor ((area.y + row) * screen.width + area.x) screen.slots each))
+    (all_rows screen area rows each)
+
 -- they are those of its pixels
-pub colors_are : (width height : ℕ) (pixels : List Pixel) (area : Area) → length pixels ≡ height * width → area.x + area.w ≤ width → area.y + area.h ≤ height
-    → AreColorsOf (screen_of width height pixels) area (area_colors (screen_of width height pixels) area)
-colors_are width height pixels area size columns rows =
-    let screen = screen_of width height pixels in
+pub colors_are : (screen : Framebuffer) (area : Area) → IsFilled screen → area.x + area.w ≤ screen.width → area.y + area.h ≤ screen.height
+    → AreColorsOf screen area (area_colors screen area)
+colors_are screen area filled columns rows =
     let w = area.w in
     let slots_are = screen.slots in
-    let many : length slots_are ≡ height * width = length-map pixels color_of ∙ size in
-    let fits : (k : ℕ) → k < area.h → (area.y + k) * width + area.x + w ≤ length slots_are = λ k down.
-    let below : area.y + k + 1 ≤ height = omega arith in
-    omega (arith, many, mul-le-mul_left width below) in
+    let many = filled.size in
+    let fits : (k : ℕ) → k < area.h → (area.y + k) * screen.width + area.x + w ≤ length slots_are = λ k down.
+    let below : area.y + k + 1 ≤ screen.height = omega arith in
+    omega (arith, many, mul-le-mul_left screen.width below) in
     let long : (k : ℕ) → k < 0 + area.h → length (row_colors screen area k) ≡ w = λ k down. let room = fits k (omega arith) in simp (length-take, length-drop) (omega arith) in
-    let mapped : area_colors screen area ≡ map color_of (flat_map (λ row. take w (drop ((area.y + row) * width + area.x) pixels)) (range_with_len 0 area.h)) =
-    sym (rows_mapped color_of (λ row. take w (drop ((area.y + row) * width + area.x) pixels)) (row_colors screen area)
-    (λ row. sym (ap (take w) (drop-map color_of ((area.y + row) * width + area.x) pixels) ∙ take-map color_of w (drop ((area.y + row) * width + area.x) pixels))) (range_with_len 0 area.h)) in
     record {
       size = rows_long (row_colors screen area) w 0 area.h long;
       shows = λ x y across down.
-          let at : (area.y + y) * width + area.x + x ≡ (area.y + y) * width + (area.x + x) = omega arith in
           let none : 0 + y ≡ y = omega arith in
           nth_of_rows (row_colors screen area) w 0 area.h x y long across down
           ∙ ap (λ (k : ℕ). nth (row_colors screen area k) x) none
-          ∙ get_or-take w (drop ((area.y + y) * width + area.x) slots_are) x black across
-          ∙ get_or-drop ((area.y + y) * width + area.x) slots_are x black
-          ∙ ap (nth slots_are) at;
-      each = subst (All IsScreenColor) (sym mapped) (all_screen _);
+          ∙ row_color screen area y x across;
+      each = all_rows screen area (range_with_len 0 area.h) filled.colors;
     }

@@ -4,6 +4,7 @@ use Rattle.std.specs.Prelude.{Result, Ok, Err, OnOk}
 use Rattle.std.specs.List.{flat_map, range_with_len}
 use Rattle.std.proofs.lemmas.List.{append-nil, get_or-map, length-map, map-append}
 use Rattle.std.proofs.lemmas.Grind.{flat_map-append}
+use Rattle.std.proofs.lemmas.Simd.{map-map}
 use borrow.Rule.Slice.PartMut.{put_mid}
 use Rattle.pixel_format.specs.declared.Color.{Color}
 use Rattle.pixel_format.specs.Format.{Format, pixel_bytes, host_format}
@@ -12,13 +13,15 @@ use Rattle.pixel_format.specs.Pixel.{pixel_of, pixel_color, converted, converted
 use Rattle.pixel_format.specs.Canvas.{black, nth}
 use Rattle.terms.specs.Appending.{Appends, Grows}
 use Rattle.terms.proofs.Appends.{grows_more}
-use Rattle.terms.proofs.Progress.{Joins, joins_mapped}
+use Rattle.terms.proofs.Progress.{Joins, joins_mapped, both_appended}
 use Rattle.rect_codec.specs.Picture.{pixel_at}
 use Rattle.rect_codec.specs.Written.{IsPixelOf, ArePixels}
 use Rattle.rect_codec.proofs.PixelsJoined.{are_joined}
+use Rattle.terms.specs.declared.area.Area.{Area}
 use Rattle.painter.specs.declared.pixel.Pixel.{Pixel}
 use Rattle.painter.specs.Pixels.{color_of}
-use Rattle.painter.specs.Sent.{seen_colors}
+use Rattle.painter.specs.Framebuffer.{Framebuffer}
+use Rattle.painter.specs.Sent.{row_colors, seen_colors}
 use Rattle.painter.proofs.PixelsPut.{pixel_more}
 
 -- the host's format has a screen's colours as they are
@@ -63,7 +66,7 @@ pub row_pixels_join : (f : Format) → Joins (AreRowPixels f)
 row_pixels_join f = joins_mapped (λ p. converted f (color_of p)) (ArePixels f) (are_joined f)
 
 -- one number more of a range
-range_more : (a n : ℕ) → range_with_len a (suc n) ≡ range_with_len a n ++ (a + n) ∷ []
+pub range_more : (a n : ℕ) → range_with_len a (suc n) ≡ range_with_len a n ++ (a + n) ∷ []
 range_more a zero = ap (λ (k : ℕ). k ∷ []) (omega arith)
 range_more a (suc n) =
     let last : a + 1 + n ≡ a + suc n = omega arith in
@@ -79,10 +82,20 @@ rows_joined g n =
     ∙ flat_map-append g (range_with_len 0 n) ((0 + n) ∷ [])
     ∙ ap (λ r. flat_map g (range_with_len 0 n) ++ r) (append-nil (g (0 + n)) ∙ ap g last)
 
--- the colours of rows, each of which is mapped
-pub rows_mapped : {X Y : Type 0} (h : X → Y) (g : ℕ → List X) (k : ℕ → List Y) → ((n : ℕ) → map h (g n) ≡ k n) → (ns : List ℕ) → map h (flat_map g ns) ≡ flat_map k ns
-rows_mapped h g k each [] = refl
-rows_mapped h g k each (n ∷ ns) = map-append h (g n) (flat_map g ns) ∙ ap (λ r. r ++ map h (flat_map g ns)) (each n) ∙ ap (λ r. k n ++ r) (rows_mapped h g k each ns)
+-- the colours of the first so many rows of an area, as the format has them
+abbrev pub sent_rows : Format → Framebuffer → Area → ℕ → List Color
+sent_rows f screen area rows = map (converted f) (flat_map (row_colors screen area) (range_with_len 0 rows))
+
+-- those of one row more, whose pixels were read
+pub rows_appended : (Are : List Color → List ℕ → Type 0) → Joins Are → (f : Format) (screen : Framebuffer) (area : Area) (row : ℕ) (pixels : List Pixel) (old between new : List ℕ)
+    → map color_of pixels ≡ row_colors screen area row → Appends (Are (sent_rows f screen area row)) old between → Appends (Are (seen_colors f pixels)) between new
+    → Appends (Are (sent_rows f screen area (row + 1))) old new
+rows_appended Are joins f screen area row pixels old between new is so_far more =
+    let here : seen_colors f pixels ≡ map (converted f) (row_colors screen area row) = sym (map-map (converted f) color_of pixels) ∙ ap (map (converted f)) is in
+    let all : sent_rows f screen area (row + 1) ≡ sent_rows f screen area row ++ map (converted f) (row_colors screen area row) =
+    ap (map (converted f)) (rows_joined (row_colors screen area) row) ∙ map-append (converted f) (flat_map (row_colors screen area) (range_with_len 0 row)) (row_colors screen area row) in
+    subst (λ (cs : List Color). Appends (Are cs) old new) (sym all)
+    (both_appended Are joins (sent_rows f screen area row) (map (converted f) (row_colors screen area row)) old between new so_far (subst (λ (cs : List Color). Appends (Are cs) between new) here more))
 
 -- what was appended so far, and what some bytes more are
 pub grows_so_far : {P : List ℕ → Type 0} (old between new : List ℕ) → Appends P old between → Grows between new → Grows old new

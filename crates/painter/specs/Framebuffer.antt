@@ -39,6 +39,11 @@ pub record AppendsColors (screen : Framebuffer) (area : Area) (old new : List Co
   pub new_is : new ≡ old ++ colors
   pub has : AreColorsOf screen area colors
 
+-- the two screens have the same colour at each pixel of an area
+abbrev pub AgreeIn : Area → Framebuffer → Framebuffer → Type 0
+AgreeIn area one other = (x y : ℕ) → x < area.w → y < area.h
+    → color_at one (area.x + x) (area.y + y) ≡ color_at other (area.x + x) (area.y + y)
+
 -- two screens of one size, with the same colour at each pixel
 pub record IsSame (one other : Framebuffer) : Type 0 where
   pub size : SameSize one other

@@ -21,12 +21,6 @@ area_colors screen area = flat_map (row_colors screen area) (range_with_len 0 ar
 abbrev pub sent_colors : Format → Framebuffer → Area → List Color
 sent_colors f screen area = map (converted f) (area_colors screen area)
 
--- ---- the same of the pixels that a screen keeps
-
+-- the same of pixels that a screen keeps
 abbrev pub seen_colors : Format → List Pixel → List Color
 seen_colors f pixels = map (λ p. converted f (color_of p)) pixels
-
--- the first so many rows of an area
-abbrev pub seen_area : Format → List Pixel → ℕ → Area → ℕ → List Color
-seen_area f pixels width area rows =
-    flat_map (λ row. seen_colors f (take area.w (drop ((area.y + row) * width + area.x) pixels))) (range_with_len 0 rows)

@@ -1,18 +1,19 @@
 //! The pixels of areas as numbers of a viewer's format.
 
-ghost use Rattle.std.specs.Prelude.{◌≡◌, ◌+◌, ◌*◌, ◌<◌, ◌≤◌, ℕ, OnOk, length, slice_index};
+ghost use Rattle.std.specs.Prelude.{◌≡◌, ◌*◌, ◌<◌, ◌≤◌, ℕ, IfOk, OnOk, length, slice_index};
 ghost use Rattle.pixel_format.specs.Canvas.{nth};
 ghost use Rattle.pixel_format.specs.Format.{host_format};
-ghost use Rattle.pixel_format.specs.Number.{number_color, IsNumber};
 ghost use Rattle.pixel_format.specs.Pixel.{AreSmall};
 ghost use Rattle.terms.specs.Appending.{Appends};
-ghost use Rattle.painter.specs.Areas.{LiesIn};
-ghost use Rattle.painter.specs.Sent.{seen_colors, seen_area};
+ghost use Rattle.terms.specs.Area.{LiesWithin};
+ghost use Rattle.painter.specs.Sent.{seen_colors, sent_colors};
 ghost use Rattle.painter.specs.Numbered.{AreNumbersOf, HasNumber};
 
 use crate::pixel::Pixel;
-use crate::row::{area_row, color_of_pixel};
+use crate::reading::Rows;
+use crate::row::color_of_pixel;
 use pixel_format::PixelFormat;
+use std::alloc::Global;
 use terms::{Area, NoMemory};
 
 // How many numbers are appended at once.
@@ -97,23 +98,20 @@ fn append_row(
     Ok(())
 }
 
-/// Appends the numbers of the pixels of an area, row by row. Running out of memory may leave a part
-/// of them.
-pub(crate) fn number_area(
+/// The numbers of the pixels of an area, by rows, as a format has them.
+pub(crate) fn number_area<R: Rows>(
+    alloc: Global,
     format: &PixelFormat,
-    pixels: &[Pixel],
-    width: u16,
+    rows: &R,
     area: Area,
-    out: &mut Vec<u32>,
-) -> Result<(), NoMemory>
-    requires { LiesIn width (length pixels.now) area }
-    ensures { OnOk result (Appends (AreNumbersOf format.now (seen_area format.now pixels.now width area area.h)) out.old.items out.new.items) }
+) -> Result<Vec<u32>, NoMemory>
+    requires { LiesWithin (R.shown rows.now).width (R.shown rows.now).height area }
+    ensures { IfOk result (λ numbers. AreNumbersOf format.now (sent_colors format.now (R.shown rows.now) area) numbers.items) }
 {
-    out.reserve(usize::from(area.h) * usize::from(area.w))?;
+    let mut numbers = Vec::with_capacity(alloc, usize::from(area.h) * usize::from(area.w))?;
     let mut block = [0; AT_ONCE];
     for row in 0..usize::from(area.h) {
-        let slots = area_row(pixels, width, area, row);
-        append_row(format, slots, &mut block, out)?;
+        append_row(format, rows.row(area, row), &mut block, &mut numbers)?;
     }
-    Ok(())
+    Ok(numbers)
 }

@@ -1,52 +1,51 @@
 //! Screens.
 
-ghost use Rattle.std.specs.Prelude.{◌≡◌, ◌↔◌, ◌<◌, ℕ, ◌++◌, ◌∷◌, [], IsTrue, IfOk, OnOk, OnErr, List, length, slice_index_or};
+ghost use Rattle.std.specs.Prelude.{◌≡◌, ◌↔◌, ◌<◌, ◌^◌, ◌++◌, ◌∷◌, [], All, IsTrue, IfOk, OnOk, OnErr, List, length, slice_index_or};
 ghost use Rattle.rfb_wire.specs.Host.{Host};
 ghost use Rattle.pixel_format.specs.Pixel.{IsScreenColor};
 ghost use Rattle.painter.specs.Framebuffer.{Framebuffer, color_at, SameSize, Has, AreColorsOf, AppendsColors, IsSame, Shows};
-ghost use Rattle.rect_codec.specs.Picture.{painted_data};
 ghost use Rattle.rfb_wire.specs.declared.message.Rectangle.{Rectangle};
 ghost use Rattle.painter.specs.Picture.{black, painted_rectangle, painted_message};
-ghost use Rattle.pixel_format.specs.Format.{host_format};
-ghost use Rattle.rect_data.specs.Data.{AreData};
 ghost use Rattle.rect_codec.specs.Written.{ArePixels};
 ghost use Rattle.terms.specs.Appending.{Appends};
 ghost use Rattle.painter.specs.Sent.{area_colors, sent_colors};
-ghost use Rattle.painter.specs.Numbered.{AreNumbersOf};
+ghost use Rattle.painter.specs.SentUpdate.{parts_of, CanBeSent};
+ghost use Rattle.rect_codec.specs.Parts.{AreParts};
 ghost use Rattle.terms.specs.Area.{LiesWithin};
 ghost use Rattle.terms.specs.declared.area.Area.{Area};
 
-use crate::colors::read_area;
-use crate::numbering::number_area;
-use crate::pixel::{BLACK, Pixel};
-use crate::rectangle::{copy_area, fill_area, paint_raw};
-use crate::row::{color_of_pixel, pixel_of_color};
+use crate::bands::{BAND_ROWS, Band, forget, keep_bands, make_room};
+use crate::colors::append_colors;
+use crate::reading::Rows;
 use crate::sending::append_area;
-use pixel_format::{Canvas, Color, PixelFormat};
-use rect_data::source_at;
-use rfb_wire::{Encoding, HostMessage};
+use crate::sheet::Sheet;
+use crate::snapshot::Snapshot;
+use crate::update::{ScreenPart, append_parts};
+use pixel_format::{Color, PixelFormat};
+use rfb_wire::HostMessage;
 use std::alloc::Global;
 use std::marker::Model;
-use terms::{Area, NoMemory, ScreenSize, whole_or_none};
+use terms::{Area, NoMemory, ScreenSize};
 
-/// A screen: a colour for each of its pixels. It takes four bytes a pixel.
+/// A screen: a colour for each of its pixels. It takes four bytes a pixel, and as many again if a
+/// snapshot was made of it.
 #[derive(Drop)]
 pub struct Screen {
-    size: ScreenSize,
-    // By rows, from the top and the left.
-    pixels: Vec<Pixel>,
+    sheet: Sheet,
+    // The bands that the last snapshot has, none at one that was painted since. They are empty
+    // until there is a snapshot.
+    kept: Vec<Option<Band>>,
 }
 
 impl Model for Screen {
-    ghost use Rattle.std.specs.Prelude.{◌≡◌, ◌*◌, map, vec_len};
     ghost use Rattle.painter.specs.Framebuffer.{Framebuffer};
-    ghost use Rattle.painter.specs.Pixels.{color_of};
+    ghost use Rattle.painter.specs.Bands.{AreKept};
 
     ghost Value = { Framebuffer };
 
-    ghost view = { λ s. record { width = s.size.width; height = s.size.height; slots = map color_of s.pixels.items } };
+    ghost view = { λ s. s.sheet };
 
-    ghost invariant = { λ s. vec_len s.pixels ≡ s.size.height * s.size.width };
+    ghost invariant = { λ s. AreKept s.sheet s.kept.items };
 }
 
 impl Screen {
@@ -57,16 +56,16 @@ impl Screen {
         ensures black { IfOk result (λ screen. Has screen black) }
         ensures shows { IfOk result (λ screen. Shows screen []) }
     {
-        let slots = usize::from(size.width) * usize::from(size.height);
-        let pixels = vec![in alloc; BLACK; slots]?;
-        Ok(Screen { size, pixels })
+        let sheet = Sheet::black(alloc, size)?;
+        let kept = Vec::new(alloc);
+        Ok(Screen { sheet, kept })
     }
 
     /// Its size.
     pub fn size(&self) -> ScreenSize
         ensures { result ≡ record { width = self.now.width; height = self.now.height } }
     {
-        self.size
+        self.sheet.size()
     }
 
     /// The colour of a pixel: column x of row y, counted from 0 at the left and the top. Its
@@ -77,8 +76,7 @@ impl Screen {
         ensures value { result ≡ color_at self.now x y }
         ensures screen { IsScreenColor result }
     {
-        let slot = usize::from(y) * usize::from(self.size.width) + usize::from(x);
-        color_of_pixel(self.pixels[slot])
+        self.sheet.color(x, y)
     }
 
     /// Appends the colours of the pixels of an area, by rows from the top and each from the left.
@@ -88,11 +86,7 @@ impl Screen {
         ensures ok { OnOk result (AppendsColors self.now area out.old.items out.new.items) }
         ensures err { OnErr result (out.new.items ≡ out.old.items) }
     {
-        let start = out.len();
-        let slots = usize::from(area.h) * usize::from(area.w);
-        out.resize(start + slots, color_of_pixel(BLACK))?;
-        read_area(&self.pixels, self.size.width, area, &mut out[start..]);
-        Ok(())
+        append_colors(&self.sheet, area, out)
     }
 
     /// Which colours `area_colors` are: those of the pixels of an area, by rows. (It does nothing.)
@@ -100,7 +94,7 @@ impl Screen {
         ensures { (area : Area) → LiesWithin self.now.width self.now.height area
             → AreColorsOf self.now area (area_colors self.now area) }
     {
-        let _ = &self.size;
+        self.sheet.known_rows();
     }
 
     /// Appends the pixels of an area, by rows from the top and each from the left (RFC 6143,
@@ -116,70 +110,65 @@ impl Screen {
         ensures ok { OnOk result (Appends (ArePixels format.now (sent_colors format.now self.now area)) out.old.items out.new.items) }
         ensures err { OnErr result (out.new.items ≡ out.old.items) }
     {
-        let start = out.len();
-        let appended = append_area(format, &self.pixels, self.size.width, area, out);
-        whole_or_none(appended, start, out)
+        append_area(format, &self.sheet, area, out)
     }
 
-    /// The numbers of the pixels of an area, by rows, as a format has them.
-    pub(crate) fn numbers(
+    /// Appends a FramebufferUpdate (RFC 6143, section 7.6.1) with a rectangle for each of these
+    /// parts, in their order, as `rect_codec::write_parts` writes one of the screen's colours as
+    /// the format has them; Raw straight from the screen. Running out of memory leaves `out` as it
+    /// was.
+    pub fn append_update(
         &self,
         alloc: Global,
         format: &PixelFormat,
-        area: Area,
-    ) -> Result<Vec<u32>, NoMemory>
-        requires within { LiesWithin self.now.width self.now.height area }
-        ensures { IfOk result (λ numbers. AreNumbersOf format.now (sent_colors format.now self.now area) numbers.items) }
+        parts: &[ScreenPart],
+        out: &mut Vec<u8>,
+    ) -> Result<(), NoMemory>
+        requires count { length parts.now < 2 ^ 16 }
+        requires each { All (CanBeSent self.now) parts.now }
+        ensures ok { OnOk result (Appends (AreParts format.now (parts_of format.now self.now parts.now)) out.old.items out.new.items) }
+        ensures err { OnErr result (out.new.items ≡ out.old.items) }
     {
-        let mut numbers = Vec::new(alloc);
-        number_area(format, &self.pixels, self.size.width, area, &mut numbers)?;
-        Ok(numbers)
+        append_parts(alloc, format, &self.sheet, parts, out)
     }
 
     /// Whether the other screen is the same: it has this size, and the same colour at each pixel.
     pub fn same(&self, other: &Screen) -> bool
         ensures { IsTrue result ↔ IsSame self.now other.now }
     {
-        self.size == other.size && self.pixels == other.pixels
+        self.sheet.same(&other.sheet)
     }
 
     /// The same screen again.
     pub fn copy(&self, alloc: Global) -> Result<Screen, NoMemory>
         ensures { IfOk result (λ screen. screen ≡ self.now) }
     {
-        let pixels = Vec::from_slice(alloc, &self.pixels)?;
-        Ok(Screen {
-            size: self.size,
-            pixels,
-        })
+        let sheet = self.sheet.copy(alloc)?;
+        let kept = Vec::new(alloc);
+        Ok(Screen { sheet, kept })
     }
 
-    /// Takes over the colours of another screen of this size. It takes no memory.
-    pub fn set(&mut self, other: &Screen)
-        requires width { other.now.width ≡ self.old.width }
-        requires height { other.now.height ≡ self.old.height }
-        ensures { self.new ≡ other.now }
+    /// What the screen shows now. It copies the bands that were painted since the last snapshot, and
+    /// shares the others with that. The screen stays as it was, at a refusal too.
+    pub fn snapshot(&mut self, alloc: Global) -> Result<Snapshot, NoMemory>
+        ensures shows { IfOk result (λ snapshot. snapshot ≡ self.old) }
+        ensures same { self.new ≡ self.old }
     {
-        self.pixels.copy_from_slice(&other.pixels);
+        let size = self.sheet.size();
+        self.sheet.known();
+        make_room(usize::from(size.height).div_ceil(BAND_ROWS), &mut self.kept)?;
+        let bands = keep_bands(alloc, &self.sheet, &mut self.kept)?;
+        Snapshot::new(alloc, size, bands)
     }
 
-    // Paints a rectangle of this area from its data.
-    fn paint_data(&mut self, encoding: Encoding, area: Area, bytes: &[u8])
-        requires content { AreData host_format self.old.width self.old.height encoding area bytes.now }
-        requires within { LiesWithin self.old.width self.old.height area }
-        ensures size { SameSize self.old self.new }
-        ensures painted { Has self.new (painted_data host_format encoding area bytes.now (color_at self.old)) }
+    /// Takes over the colours of a snapshot of this size. It takes no memory.
+    pub fn set_to(&mut self, snapshot: &Snapshot)
+        requires width { snapshot.now.width ≡ self.old.width }
+        requires height { snapshot.now.height ≡ self.old.height }
+        ensures { self.new ≡ snapshot.now }
     {
-        let host = PixelFormat::host();
-        let width = self.size.width;
-        match encoding {
-            Encoding::Raw => paint_raw(&mut self.pixels, width, area, bytes),
-            Encoding::CopyRect => {
-                copy_area(&mut self.pixels, width, source_at(area, bytes), area);
-            }
-            Encoding::Rre => rre::paint(&host, area, bytes, self),
-            Encoding::Hextile => hextile::paint(&host, area, bytes, self),
-        }
+        self.sheet.set_to(snapshot);
+        self.kept.clear();
     }
 
     /// Paints the rectangle of this number, counted from 0, of a message of this size, over what the
@@ -193,8 +182,12 @@ impl Screen {
             (slice_index_or message.now.rectangles number other) (color_at self.old)) }
     {
         let rectangle = message.rectangles()[number];
+        let area = rectangle.area;
         let data = &message.bytes()[rectangle.start..rectangle.end];
-        self.paint_data(rectangle.encoding, rectangle.area, data);
+        self.sheet.known();
+        forget(&mut self.kept, area);
+        self.sheet.paint_data(rectangle.encoding, area, data);
+        self.sheet.known();
     }
 
     /// Paints a message of this size: its rectangles in their order, each over what the ones before
@@ -209,28 +202,5 @@ impl Screen {
         for number in 0..message.rectangles().len() {
             self.paint_rectangle(message, number);
         }
-    }
-}
-
-impl Canvas for Screen {
-    ghost use Rattle.pixel_format.specs.Pixel.{IsScreenColor};
-    ghost use Rattle.painter.specs.Framebuffer.{color_at};
-
-    ghost width = { λ s. s.width };
-
-    ghost height = { λ s. s.height };
-
-    ghost holds = { IsScreenColor };
-
-    ghost picture = { color_at };
-
-    #[inline(always)]
-    fn fill(&mut self, area: Area, color: Color) {
-        let width = self.size.width;
-        fill_area(&mut self.pixels, width, area, pixel_of_color(color));
-    }
-
-    fn host_pixels(&mut self, area: Area, bytes: &[u8]) {
-        paint_raw(&mut self.pixels, self.size.width, area, bytes);
     }
 }

@@ -1,6 +1,6 @@
-//! Appending the pixels of areas that are kept by rows.
+//! Appending the pixels of areas.
 
-ghost use Rattle.std.specs.Prelude.{◌≡◌, ◌+◌, ◌*◌, ◌<◌, ◌≤◌, ℕ, OnOk, length};
+ghost use Rattle.std.specs.Prelude.{◌≡◌, ◌+◌, ◌*◌, ◌<◌, ◌≤◌, ℕ, OnOk, OnErr, length};
 ghost use Rattle.pixel_format.specs.Canvas.{nth};
 ghost use Rattle.pixel_format.specs.Format.{host_format, pixel_bytes};
 ghost use Rattle.pixel_format.specs.Number.{number_color, IsNumber};
@@ -8,13 +8,14 @@ ghost use Rattle.pixel_format.specs.Pixel.{AreSmall, IsWithin};
 ghost use Rattle.terms.specs.Appending.{Appends, Grows};
 ghost use Rattle.rect_codec.specs.Picture.{pixel_at as wire_pixel};
 ghost use Rattle.rect_codec.specs.Written.{IsPixelOf, ArePixels};
-ghost use Rattle.painter.specs.Areas.{LiesIn};
-ghost use Rattle.painter.specs.Sent.{seen_colors, seen_area};
+ghost use Rattle.terms.specs.Area.{LiesWithin};
+ghost use Rattle.painter.specs.Sent.{seen_colors, sent_colors};
 
 use crate::pixel::Pixel;
-use crate::row::{area_row, color_of_pixel};
+use crate::reading::Rows;
+use crate::row::color_of_pixel;
 use pixel_format::{Color, PixelFormat};
-use terms::{Area, NoMemory};
+use terms::{Area, NoMemory, whole_or_none};
 
 // How many pixels are appended at once.
 const AT_ONCE: usize = 256;
@@ -131,23 +132,38 @@ fn append_row(
     Ok(())
 }
 
-/// Appends the pixels of an area, row by row. Running out of memory may leave a part of them.
-pub(crate) fn append_area(
+// Appends the pixels of an area, row by row. Running out of memory may leave a part of them.
+fn append_rows<R: Rows>(
     format: &PixelFormat,
-    pixels: &[Pixel],
-    width: u16,
+    rows: &R,
     area: Area,
     out: &mut Vec<u8>,
 ) -> Result<(), NoMemory>
-    requires { LiesIn width (length pixels.now) area }
-    ensures ok { OnOk result (Appends (ArePixels format.now (seen_area format.now pixels.now width area area.h)) out.old.items out.new.items) }
+    requires { LiesWithin (R.shown rows.now).width (R.shown rows.now).height area }
+    ensures ok { OnOk result (Appends (ArePixels format.now (sent_colors format.now (R.shown rows.now) area)) out.old.items out.new.items) }
     ensures grows { Grows out.old.items out.new.items }
 {
     out.reserve(usize::from(area.h) * usize::from(area.w) * format.bytes())?;
     let mut block = [0; 4 * AT_ONCE];
     for row in 0..usize::from(area.h) {
-        let slots = area_row(pixels, width, area, row);
-        append_row(format, slots, &mut block, out)?;
+        append_row(format, rows.row(area, row), &mut block, out)?;
     }
     Ok(())
+}
+
+/// Appends the pixels of an area, by rows from the top and each from the left, as the format has
+/// their colours. Running out of memory leaves `out` as it was.
+pub(crate) fn append_area<R: Rows>(
+    format: &PixelFormat,
+    rows: &R,
+    area: Area,
+    out: &mut Vec<u8>,
+) -> Result<(), NoMemory>
+    requires { LiesWithin (R.shown rows.now).width (R.shown rows.now).height area }
+    ensures ok { OnOk result (Appends (ArePixels format.now (sent_colors format.now (R.shown rows.now) area)) out.old.items out.new.items) }
+    ensures err { OnErr result (out.new.items ≡ out.old.items) }
+{
+    let start = out.len();
+    let appended = append_rows(format, rows, area, out);
+    whole_or_none(appended, start, out)
 }

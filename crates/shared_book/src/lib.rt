@@ -11,5 +11,5 @@ pub use broadcast;
 pub use closed::Closed;
 pub use flusher_core;
 pub use held::Held;
-pub use receipt::{Ending, FlusherPen, HostPen, Receipt, Ticket};
+pub use receipt::{Delivery, Ending, FlusherPen, HostPen, Receipt, Ticket};
 pub use shared::{Shared, Sharing};

@@ -1,8 +1,9 @@
-//! Receipts, tickets and endings: what a thread was told, which all know to hold for good.
+//! Receipts, deliveries, tickets and endings: what a thread was told, which holds for good.
 
-ghost use Rattle.std.specs.Prelude.{◌≡◌, ◌+◌, ◌<◌, ◌^◌, length};
+ghost use Rattle.std.specs.Prelude.{◌≡◌, ◌+◌, ◌<◌, ◌^◌, None, length};
 
 use book_tokens::{Accepting, Committing, Front, Mark, NumberProof, Pen};
+use painter::Snapshot;
 use replay::Slice;
 use std::marker::Model;
 
@@ -12,9 +13,9 @@ pub type HostPen<M> = Pen<M, Accepting>;
 /// The one right to commit messages. Contracts see how many were committed in all.
 pub type FlusherPen<M> = Pen<M, Committing>;
 
-/// A slice that `gate`, `next` or `newest` answered, of [`Shared`](crate::Shared). It is made by
-/// these alone, and its type keeps that it stands in the recording that threads share, from then on.
-/// Contracts see the slice.
+/// A slice that `gate` or `next` answered, or that was delivered, of [`Shared`](crate::Shared). It is
+/// made by these alone, and its type keeps that it stands in the recording that threads share, from
+/// then on. Contracts see the slice.
 #[derive(Drop)]
 pub struct Receipt<M: Mark> {
     pub(crate) slice: Slice,
@@ -39,6 +40,63 @@ impl<M: Mark> Receipt<M> {
         ensures { result.now ≡ self.now }
     {
         &self.slice
+    }
+}
+
+/// A receipt and, if there is one, a snapshot of the screen at its end, that `next_part` or `newest`
+/// answered, of [`Shared`](crate::Shared). One with a snapshot is made by these alone, and its type
+/// keeps that this is the screen there of the recording that threads share, from then on. Contracts
+/// see the slice, and what the snapshot shows.
+#[derive(Drop)]
+pub struct Delivery<M: Mark> {
+    pub(crate) receipt: Receipt<M>,
+    pub(crate) snapshot: Option<Snapshot>,
+    pub(crate) front: Front<M>,
+}
+
+impl<M: Mark> Model for Delivery<M> {
+    ghost use Rattle.broadcast.specs.declared.handed.Handed.{Handed};
+    ghost use Rattle.shared_book.specs.Receipts.{IsShownIn};
+
+    ghost Value = { Handed };
+
+    ghost view = { λ d. record { slice = d.receipt; snapshot = d.snapshot } };
+
+    ghost invariant = { λ d. M.is_modelled → IsShownIn M.head d.front.committed d.receipt d.snapshot };
+}
+
+impl<M: Mark> Delivery<M> {
+    /// The slice that was answered.
+    pub fn slice(&self) -> &Slice
+        ensures { result.now ≡ self.now.slice }
+    {
+        self.receipt.slice()
+    }
+
+    /// A receipt, and no snapshot.
+    pub fn without_snapshot(receipt: Receipt<M>) -> Delivery<M>
+        ensures slice { result.slice ≡ receipt }
+        ensures none { result.snapshot ≡ None }
+    {
+        let front = receipt.front.again();
+        Delivery {
+            receipt,
+            snapshot: None,
+            front,
+        }
+    }
+
+    /// Its receipt, and its snapshot.
+    pub fn split(self) -> (Receipt<M>, Option<Snapshot>)
+        ensures receipt { result.0 ≡ self.slice }
+        ensures snapshot { result.1 ≡ self.snapshot }
+    {
+        let Delivery {
+            receipt,
+            snapshot,
+            ..
+        } = self;
+        (receipt, snapshot)
     }
 }
 

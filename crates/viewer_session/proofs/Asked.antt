@@ -12,7 +12,7 @@ use Rattle.client_wire.specs.declared.message.ClientMessage.{ClientMessage}
 use Rattle.terms.specs.Area.{is_in, HasJust, IsSmallest}
 use Rattle.gated_journal.specs.Recording.{Head}
 use Rattle.keyed_entries.specs.declared.entry.Stamped.{Stamped}
-use Rattle.terms.proofs.Areas.{in_is, is_in_true, or_parts, or_right, same_smallest}
+use Rattle.terms.proofs.Areas.{in_is, is_in_true, or_right, same_smallest}
 use Rattle.pixel_sets.proofs.Looked.{around_within}
 use Rattle.pixel_sets.specs.Pixels.{PixelSet, SameSize, holds}
 use Rattle.viewer_session.specs.declared.copies.KeptCopy.{KeptCopy}

@@ -11,3 +11,4 @@ pub mod Pieces
 pub mod Same
 pub mod Conversations
 pub mod Refused
+pub mod Notings

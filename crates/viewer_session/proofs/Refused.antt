@@ -1,5 +1,5 @@
 -- A viewer's stream is refused with one fault, unless memory runs out.
-use Rattle.std.proofs.Common.{◌≡◌, ℕ, List, [], refl, sym, ap, ◌∙◌}
+use Rattle.std.proofs.Common.{◌≡◌, ℕ, List, [], sym, ap, ◌∙◌}
 use Rattle.std.specs.Prelude.{Option, Some, None}
 use Rattle.terms.specs.Reading.{Bad}
 use Rattle.terms.specs.Talk.{Talk}

@@ -2,6 +2,8 @@ pub use Rattle.terms.specs.Reading
 pub use Rattle.terms.specs.Talk
 pub mod Copies
 pub mod View
+pub mod Noting
+pub mod Shown
 pub mod Encoded
 pub mod Parts
 pub mod Sent

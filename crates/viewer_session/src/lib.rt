@@ -8,8 +8,10 @@ mod greeting;
 mod handshake;
 mod laws;
 mod listener;
+mod noting;
 mod painting;
 mod session;
+mod shown;
 mod update;
 mod view;
 

@@ -1,100 +1,58 @@
-//! How a view goes on by messages, rectangle by rectangle.
+//! How a slice is painted on a screen, rectangle by rectangle.
 
-ghost use Rattle.std.specs.Prelude.{◌≡◌, ◌<◌, All, length, MatchOption, slice_index_or};
-ghost use Rattle.rfb_wire.specs.declared.message.Rectangle.{Rectangle};
-ghost use Rattle.viewer_session.specs.View.{IsSound, CanBeKept, IsKeptAfter, IsPainted, ArePainted, AreAllPainted};
-ghost use Rattle.rect_data.specs.Data.{AreData};
-ghost use Rattle.pixel_format.specs.Format.{host_format};
-ghost use Rattle.viewer_session.specs.declared.copies.KeptCopy.{KeptCopy as Kept};
+ghost use Rattle.std.specs.Prelude.{◌≡◌, All, IfSome};
+ghost use Rattle.std.specs.List.{AllByRecursion};
+ghost use Rattle.painter.specs.Framebuffer.{SameSize};
+ghost use Rattle.keyed_entries.specs.Entry.{IsStampedOf};
+ghost use Rattle.viewer_session.specs.Shown.{ArePaintedOver, AreAllPaintedOver, start_or};
 
-use crate::copies::KeptCopy;
-use crate::view::View;
-use rect_data::Encoding;
+use painter::{Screen, Snapshot};
+use replay::Slice;
 use replay::key_index::Stamped;
-use rfb_wire::{HostMessage, Rectangle};
+use rfb_wire::HostMessage;
 
-impl View {
-    // The copy that a rectangle makes, if the viewer can be sent it.
-    fn own_copy(&self, rectangle: Rectangle, bytes: &[u8]) -> Option<KeptCopy>
-        requires sound { IsSound self.now }
-        requires content { AreData host_format self.now.screen.width self.now.screen.height
-            rectangle.encoding rectangle.area bytes.now }
-        ensures { MatchOption result
-            ((c : Kept) → CanBeKept self.now rectangle bytes.now c → ⊥)
-            (CanBeKept self.now rectangle bytes.now) }
-    {
-        if !self.takes_copies || self.asked_whole || rectangle.encoding != Encoding::CopyRect {
-            return None;
-        }
-        if rectangle.area.w == 0 || rectangle.area.h == 0 {
-            return None;
-        }
-        let copy = KeptCopy::named(rectangle.area, bytes);
-        if !self.stale.has_none(copy.source()) {
-            return None;
-        }
-        Some(copy)
+// Paints a message's rectangles.
+fn paint(screen: &mut Screen, message: &HostMessage)
+    requires width { message.now.width ≡ screen.old.width }
+    requires height { message.now.height ≡ screen.old.height }
+    ensures size { SameSize screen.old screen.new }
+    ensures painted { ArePaintedOver message.now.bytes screen.old screen.new message.now.rectangles }
+{
+    for number in 0..message.rectangles().len() {
+        screen.paint_rectangle(message, number);
     }
+}
 
-    // The copy that is kept once a rectangle is painted.
-    fn copy_after(&self, rectangle: Rectangle, bytes: &[u8]) -> Option<KeptCopy>
-        requires sound { IsSound self.now }
-        requires content { AreData host_format self.now.screen.width self.now.screen.height
-            rectangle.encoding rectangle.area bytes.now }
-        ensures { IsKeptAfter self.now rectangle bytes.now result }
-    {
-        let Some(copy) = self.copy else {
-            return self.own_copy(rectangle, bytes);
-        };
-        if rectangle.area.common(copy.area).is_some() {
-            return self.own_copy(rectangle, bytes);
-        }
-        Some(copy)
+// Paints messages.
+fn paint_all(screen: &mut Screen, messages: &[Stamped])
+    requires widths { All (λ m. m.message.width ≡ screen.old.width) messages.now }
+    requires heights { All (λ m. m.message.height ≡ screen.old.height) messages.now }
+    ensures size { SameSize screen.old screen.new }
+    ensures painted { AreAllPaintedOver screen.old screen.new messages.now }
+{
+    for stamped in messages {
+        paint(screen, &stamped.message);
     }
+}
 
-    // Paints the rectangle of this number of a message, and makes its pixels stale. Whether it
-    // makes a copy is asked before.
-    fn paint_rectangle(&mut self, message: &HostMessage, number: usize)
-        requires sound { IsSound self.old }
-        requires width { message.now.width ≡ self.old.screen.width }
-        requires height { message.now.height ≡ self.old.screen.height }
-        requires number { number < length message.now.rectangles }
-        ensures { (other : Rectangle) → IsPainted self.old self.new message.now.bytes
-            (slice_index_or message.now.rectangles number other) }
-    {
-        let rectangle = message.rectangles()[number];
-        let data = &message.bytes()[rectangle.start..rectangle.end];
-        let copy = self.copy_after(rectangle, data);
-        self.screen.paint_rectangle(message, number);
-        self.stale.insert(rectangle.area);
-        self.copy = copy;
+// Takes a start over, if there is one.
+fn take_over(screen: &mut Screen, start: &Option<Snapshot>)
+    requires { IfSome start.now (λ s. (s.width ≡ screen.old.width) × (s.height ≡ screen.old.height)) }
+    ensures { screen.new ≡ start_or start.now screen.old }
+{
+    if let Some(start) = start {
+        screen.set_to(start);
     }
+}
 
-    // Paints a message's rectangles.
-    fn paint(&mut self, message: &HostMessage)
-        requires sound { IsSound self.old }
-        requires width { message.now.width ≡ self.old.screen.width }
-        requires height { message.now.height ≡ self.old.screen.height }
-        ensures sound { IsSound self.new }
-        ensures painted { ArePainted message.now.bytes self.old self.new message.now.rectangles }
-        ensures wide { self.new.screen.width ≡ self.old.screen.width }
-        ensures high { self.new.screen.height ≡ self.old.screen.height }
-    {
-        for number in 0..message.rectangles().len() {
-            self.paint_rectangle(message, number);
-        }
-    }
-
-    /// Paints messages. It takes no memory.
-    pub fn paint_all(&mut self, messages: &[Stamped])
-        requires sound { IsSound self.old }
-        requires widths { All (λ m. m.message.width ≡ self.old.screen.width) messages.now }
-        requires heights { All (λ m. m.message.height ≡ self.old.screen.height) messages.now }
-        ensures sound { IsSound self.new }
-        ensures painted { AreAllPainted self.old self.new messages.now }
-    {
-        for stamped in messages {
-            self.paint(&stamped.message);
-        }
-    }
+/// Paints a slice's messages over its start or, if it has none, over what the screen shows. It takes
+/// no memory.
+pub fn paint_slice(screen: &mut Screen, slice: &Slice)
+    requires each { AllByRecursion (IsStampedOf screen.old.width screen.old.height) slice.now.messages.items }
+    requires start { IfSome slice.now.start (λ s. (s.width ≡ screen.old.width) × (s.height ≡ screen.old.height)) }
+    ensures size { SameSize screen.old screen.new }
+    ensures painted { AreAllPaintedOver (start_or slice.now.start screen.old) screen.new slice.now.messages.items }
+{
+    take_over(screen, &slice.start);
+    paint_all(screen, &slice.messages);
 }

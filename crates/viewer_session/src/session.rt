@@ -6,7 +6,9 @@ ghost use Rattle.pixel_format.specs.Format.{host_format};
 ghost use Rattle.terms.specs.Appending.{Appends};
 ghost use Rattle.gated_journal.specs.Recording.{Head};
 ghost use Rattle.keyed_entries.specs.declared.entry.Stamped.{Stamped};
+ghost use Rattle.replay.specs.Screens.{IsScreenAt};
 ghost use Rattle.replay.specs.Slices.{Stands};
+ghost use Rattle.viewer_session.specs.Noting.{NotesSlice};
 ghost use Rattle.client_wire.specs.declared.message.ClientMessage.{ClientMessage};
 ghost use Rattle.viewer_session.specs.Encoded.{IsEncodedFor};
 ghost use Rattle.viewer_session.specs.View.{IsRight, IsNext, AreStale, stale_at, is_stale_after, is_there, GoesOn, IsDue, Answers, HasAreasDue};
@@ -17,6 +19,7 @@ use crate::fault::SessionFault;
 use crate::greeting::Greeting;
 use crate::listener::Listener;
 use crate::view::{View, take_all};
+use painter::Snapshot;
 use rect_data::Encoding;
 use replay::Slice;
 use std::alloc::Global;
@@ -38,7 +41,6 @@ pub struct Session {
 }
 
 impl Model for Session {
-    ghost use Rattle.std.specs.Prelude.{drop};
     ghost use Rattle.viewer_session.specs.Session.{Session, IsSoundSession};
     ghost use Rattle.viewer_session.specs.Listener.{due_by};
 
@@ -60,7 +62,8 @@ impl Model for Session {
 
 impl Session {
     /// A session at the start of a viewer's stream, for a screen of this size, in pixels, and a
-    /// name: black, before the first message, in the host format and Raw, with all pixels stale.
+    /// name: black, before the first message, in the host format and Raw, with all pixels stale. It
+    /// has no screen of its own.
     pub fn new(alloc: Global, size: ScreenSize, name: &[u8]) -> Result<Session, NoMemory>
         requires { length name.now < 2 ^ 32 }
         ensures after { IfOk result (λ s. IsAfter s [] [] []) }
@@ -151,12 +154,42 @@ impl Session {
         self.view.position
     }
 
-    /// Goes on by a slice of the session's size, from its start or from the session's position. It
-    /// takes no memory.
-    pub fn advance(&mut self, slice: &Slice)
+    /// Goes on by a slice of the session's size, from its start or from the session's position, which
+    /// it paints. If the slice has messages, and the session shows a snapshot, it takes memory for
+    /// a screen of its own, and else none. A refusal changes nothing.
+    pub fn advance(&mut self, slice: &Slice) -> Result<(), NoMemory>
         requires { IsNext self.old.view slice.now }
+        ensures right { OnOk result ((head : Head) → (seen : Picture) → (messages : List Stamped)
+            → IsRight head self.old.view seen messages → Stands head messages slice.now
+            → IsRight head self.new.view seen messages) }
+        ensures stale { OnOk result (AreStale self.new.view
+            (λ x y. is_stale_after slice.now x y || stale_at self.old.view x y)) }
+        ensures position { OnOk result (self.new.view.position
+            ≡ slice.now.first + length slice.now.messages.items) }
+        ensures started { OnOk result (self.new.view.started
+            ≡ (is_there slice.now.start || self.old.view.started)) }
+        ensures size { (self.new.view.screen.width ≡ self.old.view.screen.width)
+            × (self.new.view.screen.height ≡ self.old.view.screen.height) }
+        ensures asked { (self.new.view.format ≡ self.old.view.format)
+            × (self.new.view.encoding ≡ self.old.view.encoding)
+            × (self.new.view.pending ≡ self.old.view.pending) }
+        ensures goes_on { OnOk result (GoesOn self.old.view self.new.view slice.now) }
+        ensures kept { self.new ≡ record self.old { view = self.new.view } }
+        ensures err { OnErr result (self.new ≡ self.old) }
+    {
+        self.view.advance(self.alloc, slice)
+    }
+
+    /// Goes on by a slice of the session's size, from its start or from the session's position, to a
+    /// snapshot of the screen at its end, which somebody else has painted. It takes no memory, and
+    /// paints nothing. If the session had a screen of its own, that is given up.
+    pub fn advance_to(&mut self, slice: &Slice, snapshot: Snapshot)
+        requires next { IsNext self.old.view slice.now }
+        requires width { snapshot.width ≡ self.old.view.screen.width }
+        requires height { snapshot.height ≡ self.old.view.screen.height }
         ensures right { (head : Head) → (seen : Picture) → (messages : List Stamped)
             → IsRight head self.old.view seen messages → Stands head messages slice.now
+            → IsScreenAt head messages (slice.now.first + length slice.now.messages.items) snapshot
             → IsRight head self.new.view seen messages }
         ensures stale { AreStale self.new.view
             (λ x y. is_stale_after slice.now x y || stale_at self.old.view x y) }
@@ -166,13 +199,14 @@ impl Session {
             ≡ (is_there slice.now.start || self.old.view.started) }
         ensures size { (self.new.view.screen.width ≡ self.old.view.screen.width)
             × (self.new.view.screen.height ≡ self.old.view.screen.height) }
+        ensures screen { self.new.view.screen ≡ snapshot }
         ensures asked { (self.new.view.format ≡ self.old.view.format)
             × (self.new.view.encoding ≡ self.old.view.encoding)
             × (self.new.view.pending ≡ self.old.view.pending) }
-        ensures goes_on { GoesOn self.old.view self.new.view slice.now }
+        ensures notes { NotesSlice self.old.view self.new.view slice.now snapshot }
         ensures kept { self.new ≡ record self.old { view = self.new.view } }
     {
-        self.view.advance(slice);
+        self.view.advance_to(slice, snapshot);
     }
 
     /// Whether the viewer asks for an area.

@@ -7,7 +7,8 @@ ghost use Rattle.viewer_session.specs.Encoded.{IsUpdateOf};
 ghost use Rattle.viewer_session.specs.Parts.{screen_parts};
 
 use crate::copies::KeptCopy;
-use painter::{Screen, ScreenPart};
+use crate::shown::Shown;
+use painter::ScreenPart;
 use pixel_format::PixelFormat;
 use rect_data::Encoding;
 use std::alloc::Global;
@@ -46,7 +47,7 @@ pub fn write_areas(
     alloc: Global,
     format: &PixelFormat,
     encoding: Encoding,
-    screen: &Screen,
+    screen: &Shown,
     copy: Option<KeptCopy>,
     areas: &[Area],
     out: &mut Vec<u8>,

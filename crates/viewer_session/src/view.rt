@@ -1,6 +1,6 @@
 //! What a viewer has of a recording's screen, and what it lacks.
 
-ghost use Rattle.std.specs.Prelude.{◌≡◌, ◌+◌, ◌<◌, ◌||◌, ℕ, true, false, List, length, Option, None, IfOk, IfSome, MatchOption, OnOk, OnErr};
+ghost use Rattle.std.specs.Prelude.{◌≡◌, ◌+◌, ◌<◌, ◌||◌, true, false, List, length, Option, None, IfOk, IfSome, MatchOption, OnOk, OnErr};
 ghost use Rattle.pixel_format.specs.Canvas.{Picture};
 ghost use Rattle.pixel_format.specs.Format.{host_format};
 ghost use Rattle.terms.specs.Appending.{Appends};
@@ -8,16 +8,19 @@ ghost use Rattle.terms.specs.Area.{is_in, IsSmallest, LiesWithin};
 ghost use Rattle.painter.specs.Framebuffer.{SameSize as SameScreenSize};
 ghost use Rattle.gated_journal.specs.Recording.{Head};
 ghost use Rattle.keyed_entries.specs.declared.entry.Stamped.{Stamped};
+ghost use Rattle.replay.specs.Screens.{IsScreenAt};
 ghost use Rattle.replay.specs.Slices.{Stands};
+ghost use Rattle.viewer_session.specs.Noting.{BeginsUnpainted, NotesSlice};
 ghost use Rattle.viewer_session.specs.Copies.{copy_in, IsPart};
 ghost use Rattle.viewer_session.specs.Encoded.{IsEncodedFor};
 ghost use Rattle.viewer_session.specs.Sent.{IsNothing, IsSent};
-ghost use Rattle.viewer_session.specs.View.{IsRight, IsSound, IsNext, AreStale, stale_at, is_stale_after, is_there, is_pending, Begins, GoesOn, IsDue, IsAsked, IsTaken, AreTaken, Answers, HasAreasDue};
+ghost use Rattle.viewer_session.specs.View.{IsRight, IsSound, IsNext, AreStale, stale_at, is_stale_after, is_there, is_pending, GoesOn, IsDue, IsAsked, IsTaken, AreTaken, Answers, HasAreasDue};
 
 use crate::copies::{KeptCopy, lies_in, put_back, take_out};
+use crate::shown::Shown;
 use crate::update::write_areas;
 use client_wire::ClientMessage;
-use painter::Screen;
+use painter::Snapshot;
 use pixel_format::PixelFormat;
 use pixel_sets::Pixels;
 use rect_codec::{pick, written_parts_are_read};
@@ -36,7 +39,7 @@ pub struct View {
     pub format: PixelFormat,
     /// The encoding in which it wants them.
     pub encoding: Encoding,
-    pub screen: Screen,
+    pub screen: Shown,
     /// How many messages of the recording the screen shows.
     pub position: u64,
     /// Whether a start has come.
@@ -85,7 +88,7 @@ impl View {
         Ok(View {
             format: PixelFormat::host(),
             encoding: Encoding::Raw,
-            screen: Screen::black(alloc, size)?,
+            screen: Shown::black(alloc, size)?,
             position: 0,
             started: false,
             stale: Pixels::all(alloc, size)?,
@@ -96,18 +99,17 @@ impl View {
         })
     }
 
-    // Begins on a slice, from its start or from the screen's position. It is then to stand at the
-    // slice's end.
+    // Begins on a slice, from its start or from the screen's position, whatever the screen is to be.
+    // It is then to stand at the slice's end.
     fn begin(&mut self, slice: &Slice)
         requires sound { IsSound self.old }
         requires next { IsNext self.old slice.now }
         ensures sound { IsSound self.new }
-        ensures begins { Begins self.old self.new slice.now.start
+        ensures begins { BeginsUnpainted self.old self.new slice.now.start
             (slice.now.first + length slice.now.messages.items) }
-        ensures size { SameScreenSize self.old.screen self.new.screen }
+        ensures screen { self.new.screen ≡ self.old.screen }
     {
-        if let Some(start) = &slice.start {
-            self.screen.set(start);
+        if slice.start.is_some() {
             self.stale.insert_all(); // whatever the viewer shows is from another position
             self.started = true;
             self.copy = None; // nor can it be copied from there
@@ -115,25 +117,58 @@ impl View {
         self.position = slice.end();
     }
 
-    /// Goes on by a slice, from its start or from the screen's position. It takes no memory.
-    pub fn advance(&mut self, slice: &Slice)
+    /// Goes on by a slice, from its start or from the screen's position. If the slice has messages,
+    /// and the view shows a snapshot, it takes memory for a screen of its own. A refusal changes
+    /// nothing.
+    pub fn advance(&mut self, alloc: Global, slice: &Slice) -> Result<(), NoMemory>
         requires sound { IsSound self.old }
         requires next { IsNext self.old slice.now }
         ensures sound { IsSound self.new }
+        ensures right { OnOk result ((head : Head) → (seen : Picture) → (messages : List Stamped)
+            → IsRight head self.old seen messages → Stands head messages slice.now
+            → IsRight head self.new seen messages) }
+        ensures stale { OnOk result (AreStale self.new
+            (λ x y. is_stale_after slice.now x y || stale_at self.old x y)) }
+        ensures position { OnOk result (self.new.position
+            ≡ slice.now.first + length slice.now.messages.items) }
+        ensures started { OnOk result (self.new.started
+            ≡ (is_there slice.now.start || self.old.started)) }
+        ensures size { SameScreenSize self.old.screen self.new.screen }
+        ensures asked { (self.new.format ≡ self.old.format) × (self.new.encoding ≡ self.old.encoding)
+            × (self.new.pending ≡ self.old.pending) }
+        ensures goes_on { OnOk result (GoesOn self.old self.new slice.now) }
+        ensures err { OnErr result (self.new ≡ self.old) }
+    {
+        self.screen.paint(alloc, slice)?;
+        self.begin(slice);
+        self.note_all(&slice.messages);
+        Ok(())
+    }
+
+    /// Goes on by a slice, from its start or from the screen's position, to a snapshot of the screen
+    /// at its end, which somebody else has painted. It takes no memory, and paints nothing.
+    pub fn advance_to(&mut self, slice: &Slice, snapshot: Snapshot)
+        requires sound { IsSound self.old }
+        requires next { IsNext self.old slice.now }
+        requires size { SameScreenSize self.old.screen snapshot }
+        ensures sound { IsSound self.new }
         ensures right { (head : Head) → (seen : Picture) → (messages : List Stamped)
             → IsRight head self.old seen messages → Stands head messages slice.now
+            → IsScreenAt head messages (slice.now.first + length slice.now.messages.items) snapshot
             → IsRight head self.new seen messages }
         ensures stale { AreStale self.new
             (λ x y. is_stale_after slice.now x y || stale_at self.old x y) }
         ensures position { self.new.position ≡ slice.now.first + length slice.now.messages.items }
         ensures started { self.new.started ≡ (is_there slice.now.start || self.old.started) }
         ensures size { SameScreenSize self.old.screen self.new.screen }
+        ensures screen { self.new.screen ≡ snapshot }
         ensures asked { (self.new.format ≡ self.old.format) × (self.new.encoding ≡ self.old.encoding)
             × (self.new.pending ≡ self.old.pending) }
-        ensures goes_on { GoesOn self.old self.new slice.now }
+        ensures notes { NotesSlice self.old self.new slice.now snapshot }
     {
         self.begin(slice);
-        self.paint_all(&slice.messages);
+        self.note_all(&slice.messages);
+        self.screen.give(snapshot);
     }
 
     // The copy with which an update begins, if any: all pixels that it goes to are asked for.

@@ -1,6 +1,6 @@
 //! What no clause says: sessions worked by hand, and a viewer that paints what it is answered.
 
-ghost use Rattle.std.specs.Prelude.{◌≡◌, ◌<◌, ◌^◌, IfOk, length};
+ghost use Rattle.std.specs.Prelude.{◌≡◌, ◌<◌, ◌^◌, IfOk, OnOk, length};
 
 use crate::row;
 use key_index::Stamped;
@@ -63,13 +63,14 @@ fn started(alloc: Global, width: u16, update: &[u8]) -> Result<Box<Session>, Fai
     ensures width { IfOk result (λ s. s.value.view.screen.width ≡ width) }
     ensures height { IfOk result (λ s. s.value.view.screen.height ≡ 1) }
 {
-    let start = painted_once(alloc, width, update)?;
+    let mut screen = painted_once(alloc, width, update)?;
+    let start = screen.snapshot(alloc)?;
     let mut session = new_session(alloc, row(width), b"r")?;
     session.advance(&Slice {
         first: 1,
         start: Some(start),
         messages: Vec::new(alloc),
-    });
+    })?;
     session.feed(&HANDSHAKE)?;
     session.answer(&mut Vec::new(alloc))?;
     Ok(session)
@@ -197,19 +198,26 @@ fn tiles(rt: HostRuntime) -> Result<(), Fail> {
     Ok(())
 }
 
-// Goes on by one update.
-fn go_on(alloc: Global, session: &mut Session, width: u16, update: &[u8]) -> Result<(), Fail>
+// Goes on by one update, from a position on.
+fn go_on(
+    alloc: Global,
+    session: &mut Session,
+    first: u64,
+    width: u16,
+    update: &[u8],
+) -> Result<(), Fail>
+    requires few { first < 2 ^ 32 }
     requires width { session.old.view.screen.width ≡ width }
     requires height { session.old.view.screen.height ≡ 1 }
-    requires position { session.old.view.position ≡ 1 }
+    requires position { session.old.view.position ≡ first }
 {
     let message = HostMessage::from_bytes(alloc, row(width), update)?;
     let messages = Vec::from_array(alloc, [Stamped { time: 0, message }])?;
     session.advance(&Slice {
-        first: 1,
+        first,
         start: None,
         messages,
-    });
+    })?;
     Ok(())
 }
 
@@ -228,10 +236,48 @@ fn copies(rt: HostRuntime) -> Result<(), Fail> {
     for (sent, told) in rows {
         let mut session = started(alloc, 3, &THREE)?;
         answered(alloc, &mut session, sent)?;
-        go_on(alloc, &mut session, 3, &COPIED)?;
+        go_on(alloc, &mut session, 1, 3, &COPIED)?;
         let answer = answered(alloc, &mut session, b"\x03\x01\0\0\0\0\0\x03\0\x01")?;
         assert!(rt; answer.as_slice() == told);
     }
+    Ok(())
+}
+
+// Goes on by one update, to a snapshot of a screen that was painted by another, and then by this.
+fn go_on_to(alloc: Global, session: &mut Session, painted: &[u8], update: &[u8]) -> Result<(), Fail>
+    requires width { session.old.view.screen.width ≡ 2 }
+    requires height { session.old.view.screen.height ≡ 1 }
+    requires position { session.old.view.position ≡ 1 }
+    ensures width { OnOk result (session.new.view.screen.width ≡ 2) }
+    ensures height { OnOk result (session.new.view.screen.height ≡ 1) }
+    ensures position { OnOk result (session.new.view.position ≡ 2) }
+{
+    let message = HostMessage::from_bytes(alloc, row(2), update)?;
+    let mut screen = painted_once(alloc, 2, painted)?;
+    screen.paint(&message);
+    let snapshot = screen.snapshot(alloc)?;
+    let messages = Vec::from_array(alloc, [Stamped { time: 0, message }])?;
+    let slice = Slice {
+        first: 1,
+        start: None,
+        messages,
+    };
+    session.advance_to(&slice, snapshot);
+    Ok(())
+}
+
+// Who is given a snapshot is answered what it shows, and then what is painted over that.
+#[test]
+fn snapshots(rt: HostRuntime) -> Result<(), Fail> {
+    let alloc = rt.alloc();
+    let mut session = started(alloc, 2, &RED)?;
+    answered(alloc, &mut session, b"\x03\0\0\0\0\0\0\x02\0\x01")?;
+    go_on_to(alloc, &mut session, &RED, &GREEN)?;
+    let shown = answered(alloc, &mut session, b"\x03\x01\0\0\0\0\0\x02\0\x01")?;
+    assert!(rt; shown.as_slice() == GREEN.as_slice());
+    go_on(alloc, &mut session, 2, 2, &RED)?;
+    feed(&mut session, b"\x03\0\0\0\0\0\0\x02\0\x01")?;
+    assert!(rt; put_out(alloc, &mut session)?.as_slice() == BOTH.as_slice());
     Ok(())
 }
 

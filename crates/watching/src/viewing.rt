@@ -1,12 +1,11 @@
 //! A viewer's position in a recording.
 
 ghost use Rattle.std.specs.Prelude.{◌≡◌, ◌↔◌, ◌<◌, ◌^◌, ◌+◌, IsTrue, length, false, true};
-ghost use Rattle.connections.specs.Receipts.{IsOfSize, size_of};
+ghost use Rattle.connections.specs.Receipts.{IsOfSize, IsScreenSized, size_of};
 
 use crate::failure::{AfterFailure, after_failure};
 use connections::book_workers::ViewerWish;
-use connections::replay::Slice;
-use connections::shared_book::Mark;
+use connections::shared_book::{Delivery, Mark};
 use connections::{Room, Viewer};
 use showing::Next;
 use sockets::Connection;
@@ -61,10 +60,11 @@ impl<'a, M: Mark, C: Connection, R: Clock + Wait> Viewing<'a, M, C, R> {
         self.is_at_end = false;
     }
 
-    /// Shows the viewer these messages, if they are due, and it hasn't left.
-    pub fn show(&mut self, slice: &Slice, are_due: bool)
-        requires sized { IsOfSize (size_of M.head) slice.now }
-        requires room { slice.now.first + length slice.now.messages.items < 2 ^ 64 }
+    /// Shows the viewer what was delivered, if it is due, and the viewer hasn't left.
+    pub fn show(&mut self, delivery: Delivery<M>, is_due: bool)
+        requires sized { IsOfSize (size_of M.head) delivery.slice }
+        requires snapshot { IsScreenSized (size_of M.head) delivery.snapshot }
+        requires room { delivery.slice.first + length delivery.slice.messages.items < 2 ^ 64 }
         ensures position { self.new.position ≡ self.old.position }
         ensures fresh { self.new.is_fresh ≡ self.old.is_fresh }
         ensures handed { (self.new.has_waited ≡ false) × ((self.new.is_short ≡ false) × (self.new.has_failed ≡ false)) }
@@ -72,8 +72,8 @@ impl<'a, M: Mark, C: Connection, R: Clock + Wait> Viewing<'a, M, C, R> {
         self.has_waited = false;
         self.is_short = false;
         self.has_failed = false;
-        if are_due && !self.viewer.is_over() {
-            self.viewer.show(self.rt, slice, self.room);
+        if is_due && !self.viewer.is_over() {
+            self.viewer.show(self.rt, delivery, self.room);
         }
     }
 

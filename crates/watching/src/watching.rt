@@ -7,7 +7,7 @@ ghost use Rattle.connections.specs.Wishes.{fresh_after, position_after};
 use crate::viewing::Viewing;
 use connections::book_workers::{ViewerSink, ViewerWish};
 use connections::replay::Slice;
-use connections::shared_book::{Ending, Mark, Receipt};
+use connections::shared_book::{Delivery, Ending, Mark};
 use connections::{Room, Viewer};
 use showing::Next;
 use sockets::Connection;
@@ -103,7 +103,7 @@ fn wait_until_due<M: Mark, C: Connection, R: Clock + Wait, G: Guide<M, C, R>>(
 }
 
 impl<'a, M: Mark, C: Connection, R: Clock + Wait, G: Guide<M, C, R>> ViewerSink<
-    Receipt<M>,
+    Delivery<M>,
     Ending<M>,
 > for Watching<'a, M, C, R, G> {
     ghost use Rattle.connections.specs.Receipts.{size_of};
@@ -116,7 +116,9 @@ impl<'a, M: Mark, C: Connection, R: Clock + Wait, G: Guide<M, C, R>> ViewerSink<
 
     ghost fresh = { λ w. w.viewing.is_fresh };
 
-    ghost slice_of = { λ r. r };
+    ghost slice_of = { λ d. d.slice };
+
+    ghost snapshot_of = { λ d. d.snapshot };
 
     ghost count_of = { λ e. e.count };
 
@@ -142,12 +144,12 @@ impl<'a, M: Mark, C: Connection, R: Clock + Wait, G: Guide<M, C, R>> ViewerSink<
         wish
     }
 
-    fn slice(&mut self, receipt: Receipt<M>) {
-        let slice = receipt.slice();
-        let are_due = wait_until_due(&self.viewing, &mut self.guide, slice);
+    fn slice(&mut self, delivery: Delivery<M>) {
+        let slice = delivery.slice();
+        let is_due = wait_until_due(&self.viewing, &mut self.guide, slice);
         self.viewing.position = slice.end();
         self.viewing.is_fresh = false;
-        self.viewing.show(slice, are_due);
+        self.viewing.show(delivery, is_due);
     }
 
     fn end(&mut self, _ending: Ending<M>)

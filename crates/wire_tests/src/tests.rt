@@ -10,4 +10,5 @@ mod readers;
 mod rre_data;
 mod samples;
 mod screens;
+mod snapshots;
 mod updates;

@@ -8,7 +8,7 @@ use crate::account::{Account, Untold};
 use crate::screens::painted;
 use crate::words::bytes;
 use key_index::Stamped;
-use painter::Screen;
+use painter::Snapshot;
 use replay::Slice;
 use rfb_wire::HostMessage;
 use std::alloc::Global;
@@ -17,7 +17,7 @@ use viewer_session::Session;
 
 // A session that begins with a screen. It is boxed, so that a function that ends early doesn't take
 // it apart.
-fn started(alloc: Global, size: ScreenSize, start: Screen) -> Result<Box<Session>, NoMemory>
+fn started(alloc: Global, size: ScreenSize, start: Snapshot) -> Result<Box<Session>, NoMemory>
     requires { (start.width ≡ size.width) × (start.height ≡ size.height) }
     ensures width { IfOk result (λ s. s.value.view.screen.width ≡ size.width) }
     ensures height { IfOk result (λ s. s.value.view.screen.height ≡ size.height) }
@@ -28,7 +28,7 @@ fn started(alloc: Global, size: ScreenSize, start: Screen) -> Result<Box<Session
         messages: Vec::new(alloc),
     };
     let mut session = Box::new(alloc, Session::new(alloc, size, b"r")?)?;
-    session.advance(&slice);
+    session.advance(&slice)?;
     Ok(session)
 }
 
@@ -66,7 +66,7 @@ fn go_on(
     if first > 1_000_000 {
         return Err(Untold::NoVector);
     }
-    session.advance(&slice_of(alloc, first, size, update)?);
+    session.advance(&slice_of(alloc, first, size, update)?)?;
     Ok(())
 }
 
@@ -142,7 +142,8 @@ fn take_parts(
 /// pieces of the viewer's stream, and updates by which the recording goes on, each after a plus.
 pub(crate) fn run(account: &mut Account, size: ScreenSize, text: &str) -> Result<(), Untold> {
     let (update, parts) = text.split_once(",").unwrap_or((text, ""));
-    let start = painted(account.alloc, size, &bytes(account.alloc, update)?)?;
+    let mut screen = painted(account.alloc, size, &bytes(account.alloc, update)?)?;
+    let start = screen.snapshot(account.alloc)?;
     let mut session = started(account.alloc, size, start)?;
     take_parts(account, &mut session, size, parts)
 }

@@ -294,13 +294,12 @@ fn go_on(
     let message = HostMessage::from_bytes(alloc, SIZE, &update)?;
     screen.paint(&message);
     if below(seed, 8) == 0 {
-        let mut start = Screen::black(alloc, SIZE)?;
-        start.set(screen);
+        let start = screen.snapshot(alloc)?;
         session.advance(&Slice {
             first: 7,
             start: Some(start),
             messages: Vec::new(alloc),
-        });
+        })?;
         return Ok(());
     }
     let first = session.position();
@@ -311,7 +310,7 @@ fn go_on(
             first,
             start: None,
             messages,
-        });
+        })?;
     }
     Ok(())
 }

@@ -10,7 +10,7 @@ ghost use Rattle.book_tests.specs.OnePixel.{IsOfOnePixel};
 use super::UPDATE;
 use crate::{ONE_PIXEL, desk_of_one_pixel};
 use book_workers::shared_book::{
-    Ending, FlusherPen, HostPen, Mark, Receipt, Shared, Sharing, Ticket, Token,
+    Delivery, Ending, FlusherPen, HostPen, Mark, Receipt, Shared, Sharing, Ticket, Token,
 };
 use book_workers::{
     FlusherEnd, HostSource, Point, ReceiptSink, Turnstile, ViewerSink, ViewerWish, run_flusher,
@@ -155,7 +155,7 @@ struct Onlooker<'a> {
     has_all: bool,
 }
 
-impl<'a, M: Mark> ViewerSink<Receipt<M>, Ending<M>> for Onlooker<'a> {
+impl<'a, M: Mark> ViewerSink<Delivery<M>, Ending<M>> for Onlooker<'a> {
     ghost is_modelled = { Unit {0} };
 
     ghost size = { λ o. record { width = 1; height = 1 } };
@@ -164,7 +164,9 @@ impl<'a, M: Mark> ViewerSink<Receipt<M>, Ending<M>> for Onlooker<'a> {
 
     ghost fresh = { λ o. o.is_fresh };
 
-    ghost slice_of = { λ r. r };
+    ghost slice_of = { λ d. d.slice };
+
+    ghost snapshot_of = { λ d. d.snapshot };
 
     ghost count_of = { λ e. e.count };
 
@@ -183,8 +185,8 @@ impl<'a, M: Mark> ViewerSink<Receipt<M>, Ending<M>> for Onlooker<'a> {
         }
     }
 
-    fn slice(&mut self, receipt: Receipt<M>) {
-        let slice = receipt.slice();
+    fn slice(&mut self, delivery: Delivery<M>) {
+        let slice = delivery.slice();
         *self.seen = slice.messages.len() as u64;
         self.position = slice.end();
         self.is_fresh = false;

@@ -7,7 +7,7 @@ ghost use Rattle.book_tests.specs.OnePixel.{IsOfOnePixel};
 use super::{UPDATE, confirm, find};
 use crate::{ONE_PIXEL, desk_of_one_pixel};
 use book_workers::shared_book::{
-    Closed, Ending, FlusherPen, HostPen, Mark, Receipt, Shared, Sharing, Ticket, Token,
+    Closed, Delivery, Ending, FlusherPen, HostPen, Mark, Receipt, Shared, Sharing, Ticket, Token,
 };
 use book_workers::{
     FlusherEnd, HostSource, Point, ReceiptSink, Turnstile, ViewerEnd, ViewerSink, ViewerWish,
@@ -216,7 +216,7 @@ struct Viewer<'a, M: Mark, R: Clock> {
     seen: &'a mut Seen<M>,
 }
 
-impl<'a, M: Mark, R: Clock> ViewerSink<Receipt<M>, Ending<M>> for Viewer<'a, M, R> {
+impl<'a, M: Mark, R: Clock> ViewerSink<Delivery<M>, Ending<M>> for Viewer<'a, M, R> {
     ghost is_modelled = { ⊥ };
 
     ghost size = { λ v. record { width = 1; height = 1 } };
@@ -225,7 +225,9 @@ impl<'a, M: Mark, R: Clock> ViewerSink<Receipt<M>, Ending<M>> for Viewer<'a, M, 
 
     ghost fresh = { λ v. v.is_fresh };
 
-    ghost slice_of = { λ r. r };
+    ghost slice_of = { λ d. d.slice };
+
+    ghost snapshot_of = { λ d. d.snapshot };
 
     ghost count_of = { λ e. e.count };
 
@@ -250,7 +252,8 @@ impl<'a, M: Mark, R: Clock> ViewerSink<Receipt<M>, Ending<M>> for Viewer<'a, M, 
         }
     }
 
-    fn slice(&mut self, receipt: Receipt<M>) {
+    fn slice(&mut self, delivery: Delivery<M>) {
+        let (receipt, _snapshot) = delivery.split();
         self.position = receipt.slice().end();
         self.is_fresh = false;
         if self.seen.receipts.push(receipt).is_err() {

@@ -1,13 +1,14 @@
-//! The positions at which seats begin, their screens, and how much they are handed, with the values
-//! worked by hand.
+//! The positions at which seats begin, and their screens, with the values worked by hand; how much
+//! they are handed at once, and which slices come with a snapshot.
 
 ghost use Rattle.std.specs.Prelude.{◌≡◌};
+ghost use Rattle.book_workers.specs.Receipts.{IsScreenSized, size_of};
 ghost use Rattle.flusher_core.specs.State.{accepted_count};
 ghost use Rattle.book_tests.specs.OnePixel.{IsOfOnePixel};
 
 use super::UPDATE;
 use crate::{ONE_PIXEL, desk_of_one_pixel};
-use book_workers::shared_book::{Mark, Shared, Sharing, Token};
+use book_workers::shared_book::{Delivery, Mark, Shared, Sharing, Token};
 use broadcast::{Desk, Start};
 use disk::{Disk, MemoryDisk};
 use flusher_core::BlockStart;
@@ -75,11 +76,34 @@ fn begin<D: Disk, M: Mark, R: Wait>(rt: &R, shared: &Shared<D, M>, start: Start)
     })
 }
 
-// How many messages a seat before all of them is handed at once, of whichever blocks.
-fn handed_at_once<D: Disk, M: Mark, R: Wait>(rt: &R, shared: &Shared<D, M>) -> Option<usize> {
+// How many messages were delivered, and the colour of the snapshot, if there is one.
+fn delivered<M: Mark>(delivery: Delivery<M>) -> (usize, Option<Color>)
+    requires one { IsOfOnePixel M.head }
+    requires sized { IsScreenSized (size_of M.head) delivery.snapshot }
+{
+    let (receipt, snapshot) = delivery.split();
+    let color = match snapshot {
+        Some(snapshot) => Some(snapshot.color(0, 0)),
+        None => None,
+    };
+    (receipt.slice().messages.len(), color)
+}
+
+// What a seat before two blocks is delivered: one message of them, all that are left, and then the
+// newest screen.
+fn deliver<D: Disk, M: Mark, R: Wait>(
+    rt: &R,
+    shared: &Shared<D, M>,
+) -> Option<[(usize, Option<Color>); 4]>
+    requires { IsOfOnePixel M.head }
+{
     let mut seat = shared.join(rt, Start::At(0)).ok()?;
-    let receipt = shared.next_part(rt, &mut seat, 8).ok()?;
-    Some(receipt.slice().messages.len())
+    let one = delivered(shared.next_part(rt, &mut seat, 1).ok()?);
+    let rest = delivered(shared.next_part(rt, &mut seat, 8).ok()?);
+    let newest = delivered(shared.newest(rt, &mut seat).ok()?);
+    let mut other = shared.join(rt, Start::At(0)).ok()?;
+    let both = delivered(shared.next_part(rt, &mut other, 8).ok()?);
+    Some([one, rest, newest, both])
 }
 
 // Whether a second block has one message, of the time 20, and a viewer is shown another before it.
@@ -130,7 +154,8 @@ fn begin_all<D: Disk + Drop, M: Mark, R: Wait + Abort>(
     };
     assert!(rt; begin(rt, &sharing.shared, Start::Live) == Some(due));
     assert!(rt; has_second(rt, alloc, &sharing.shared) == Some(true));
-    assert!(rt; handed_at_once(rt, &sharing.shared) == Some(2));
+    let due = [(1, None), (1, Some(RED)), (0, Some(RED)), (2, Some(RED))];
+    assert!(rt; deliver(rt, &sharing.shared) == Some(due));
 }
 
 #[test]

@@ -226,7 +226,8 @@ fn both<D: Disk, M: Mark, R: Wait>(
             let newest = desk.committed();
             desk.seek(seat, newest).ok()?;
             let answer = desk.next(seat, 0);
-            hand_out(&mut kept.receipts, answer, shared.newest(rt, twin))
+            let delivered = shared.newest(rt, twin).map(|delivery| delivery.split().0);
+            hand_out(&mut kept.receipts, answer, delivered)
         }
         Leave => {
             let (seat, twin) = kept.seats.pop()?;

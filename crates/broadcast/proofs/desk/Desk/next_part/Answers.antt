@@ -1,8 +1,8 @@
 use Rattle.std.proofs.Common.{rules, arith}
 use Rattle.broadcast.proofs.desk.Desk.next_part.Goals as goal
 
-pub end-requires : goal.end-requires
-end-requires g c = omega (arith, c.in_ok-slice.ensures.within, c.known.ensures.small)
+pub end-position-requires : goal.end-position-requires
+end-position-requires g c = omega (arith, c.in_ok-slice.ensures.within, c.known.ensures.small)
 
 pub returns-clause-step : goal.returns-clause-step
 returns-clause-step c = search rules

@@ -1,8 +1,0 @@
-use Rattle.rect_codec.specs.Written.{ArePixels}
-use Rattle.terms.specs.Appending.{Appends}
-use Rattle.painter.specs.Sent.{seen_area}
-use Rattle.painter.proofs.sending.append_area.Given as goal
-
--- the first rows are appended
-abbrev pub invariant-loop-row : goal.invariant-loop-row
-invariant-loop-row l = Appends (ArePixels l.format (seen_area l.format l.pixels l.fn.width l.fn.area l.row)) l.fn.out.items l.out.items
