@@ -10,6 +10,7 @@ use std::io;
 use std::time::{Clock, Instant};
 use terms::ScreenSize;
 use viewer_session::Session;
+use viewer_session::shared_updates::Unshared;
 use web_frames::Heard;
 
 /// How many bytes are read at a time while the handshake is under way.
@@ -76,7 +77,7 @@ impl<C: Connection> Guest<C> {
         out.append(&mut self.heard.replies)?;
         if is_carried {
             let mut due = Vec::new(self.alloc);
-            self.session.answer(&mut due)?;
+            self.session.answer(&Unshared, &mut due)?;
             self.carriage.wrap(&mut due, &mut out)?;
         }
         self.connection.write_within(rt, &out, HANDSHAKE)?;

@@ -20,6 +20,7 @@ use std::sync::{Condvar, Mutex, Wait};
 use std::time::{Clock, Duration, Instant};
 use telling::{Answering, Event, Silence, Telling};
 use terms::RecordedScreen;
+use viewer_session::shared_updates::Shelf;
 
 /// The position at which viewers begin in a recording that is open, and how it is played.
 #[derive(Clone, Copy, Debug, PartialEq, Eq)]
@@ -240,6 +241,8 @@ pub struct Room<M: Mark> {
     pub last_error: LastError,
     pub device: Device,
     pub facts: Facts,
+    /// The updates that viewers were sent last.
+    pub shelf: Mutex<Shelf>,
     /// Whether viewers stay once the recording has ended, until the recorder is stopped.
     pub stays: bool,
     committed: AtomicU64,
@@ -285,6 +288,7 @@ impl<M: Mark> Room<M> {
             last_error,
             device,
             facts: Facts::new(last_time),
+            shelf: Mutex::new(Shelf::new(alloc)),
             stays: plan.keeps_viewers(),
             committed: AtomicU64::new(committed),
             is_unreadable: AtomicBool::new(false),

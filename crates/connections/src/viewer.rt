@@ -23,6 +23,7 @@ use std::time::{Clock, Duration, Instant};
 use steering::{Course, Stage, Steering};
 use terms::four_bytes;
 use viewer_session::Session;
+use viewer_session::shared_updates::CommonShelf;
 use web_frames::{END_OF_TEXT, Heard};
 use web_target::order_of;
 
@@ -215,7 +216,14 @@ impl<M: Mark> Talk<M> {
         if goes_on && self.is_there() {
             let mut due = Vec::new(room.alloc);
             let is_asked = self.session.wants();
-            self.session.answer(&mut due)?;
+            let status = room.facts.status(self.session.position(), self.course);
+            let updates = CommonShelf {
+                rt,
+                alloc: room.alloc,
+                shelf: &room.shelf,
+                are_several: status.watching > 1,
+            };
+            self.session.answer(&updates, &mut due)?;
             if is_asked && !self.session.wants() {
                 self.lacks_all = false; // an update is among what is due
                 self.is_answered = true;

@@ -22,10 +22,11 @@ use Rattle.pixel_sets.specs.Pixels.{PixelSet, SameSize, AreJust, AreSent, holds,
 use Rattle.pixel_sets.proofs.Equal.{same_set}
 use Rattle.pixel_sets.proofs.Sent.{IsInside, sent_inside, sent_cover, sent_few, sent_pixel, none_sent}
 use Rattle.viewer_session.specs.declared.view.View.{View}
-use Rattle.viewer_session.specs.declared.copies.KeptCopy.{KeptCopy}
+use Rattle.shared_updates.specs.declared.copy.KeptCopy.{KeptCopy}
 use Rattle.viewer_session.specs.Copies.{IsPart, IsCopyWithin, ShowsSource, is_copied, lies_in, copy_in, copy_asked}
 use Rattle.viewer_session.specs.View.{IsRight, IsSound, IsKept, IsDue, IsWithout, AreDueIn, Answers, HasAreasDue, copy_due, is_pending, is_covered, stale_at}
-use Rattle.viewer_session.specs.Encoded.{IsScreenPart, IsUpdateOf, IsEncodedFor, copy_parts}
+use Rattle.shared_updates.specs.Updates.{IsScreenPart, IsUpdateOf, copy_parts}
+use Rattle.viewer_session.specs.Encoded.{IsEncodedFor}
 use Rattle.viewer_session.specs.Sent.{IsNothing, IsSent}
 use Rattle.viewer_session.proofs.Views.{neither}
 use Rattle.viewer_session.proofs.Zipped.{zip_length, appended}

@@ -15,7 +15,7 @@ use Rattle.keyed_entries.specs.declared.entry.Stamped.{Stamped}
 use Rattle.terms.proofs.Areas.{in_is, is_in_true, or_right, same_smallest}
 use Rattle.pixel_sets.proofs.Looked.{around_within}
 use Rattle.pixel_sets.specs.Pixels.{PixelSet, SameSize, holds}
-use Rattle.viewer_session.specs.declared.copies.KeptCopy.{KeptCopy}
+use Rattle.shared_updates.specs.declared.copy.KeptCopy.{KeptCopy}
 use Rattle.viewer_session.specs.Copies.{IsPart, IsCopyWithin, ShowsSource}
 use Rattle.viewer_session.specs.declared.view.View.{View}
 use Rattle.viewer_session.specs.View.{IsRight, IsSound, IsKept, Asks, IsAsked, IsReformatted, IsReencoded, IsTaken, AreTaken, is_left, is_pending, stale_at}

@@ -18,7 +18,7 @@ use Rattle.gated_journal.specs.Recording.{Head}
 use Rattle.replay.specs.Screens.{IsScreenAt}
 use Rattle.replay.specs.Slices.{Stands}
 use Rattle.replay.specs.declared.slice.Slice.{Slice}
-use Rattle.viewer_session.specs.declared.copies.KeptCopy.{KeptCopy}
+use Rattle.shared_updates.specs.declared.copy.KeptCopy.{KeptCopy}
 use Rattle.viewer_session.specs.declared.view.View.{View}
 use Rattle.viewer_session.specs.Copies.{ShowsSource}
 use Rattle.viewer_session.specs.View.{IsRight, IsSound, IsNext, IsKept, CanBeKept, IsKeptAfter, IsPainted, ArePainted, AreAllPainted, Begins, GoesOn, AreStale, stale_at, is_there, is_stale_after}

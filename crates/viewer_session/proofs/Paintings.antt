@@ -29,9 +29,10 @@ use Rattle.gated_journal.specs.Recording.{Head}
 use Rattle.replay.specs.Screens.{IsScreenAt}
 use Rattle.replay.specs.Slices.{StartStands, Stands}
 use Rattle.replay.specs.declared.slice.Slice.{Slice}
-use Rattle.viewer_session.specs.declared.copies.KeptCopy.{KeptCopy}
+use Rattle.shared_updates.specs.declared.copy.KeptCopy.{KeptCopy}
 use Rattle.viewer_session.specs.declared.view.View.{View}
-use Rattle.viewer_session.specs.Copies.{source, IsPart, ShowsSource}
+use Rattle.shared_updates.specs.Copies.{source}
+use Rattle.viewer_session.specs.Copies.{IsPart, ShowsSource}
 use Rattle.viewer_session.specs.View.{IsRight, IsSound, IsNext, IsKept, IsCopyBy, CanBeKept, Meet, IsKeptAfter, IsPainted, ArePainted, AreAllPainted, Begins, GoesOn, AreStale, stale_at, is_there, is_touched, is_touched_by, is_stale_after}
 use Rattle.viewer_session.proofs.Views.{Converts, neither, screen_on}
 

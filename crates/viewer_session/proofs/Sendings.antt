@@ -19,10 +19,11 @@ use Rattle.rect_codec.specs.Update.{Drawn, HasColors, painted, all_painted}
 use Rattle.painter.specs.Framebuffer.{Framebuffer, color_at}
 use Rattle.pixel_sets.specs.Pixels.{is_in_some}
 use Rattle.pixel_sets.proofs.Sent.{IsInside}
-use Rattle.viewer_session.specs.declared.copies.KeptCopy.{KeptCopy}
+use Rattle.shared_updates.specs.declared.copy.KeptCopy.{KeptCopy}
 use Rattle.viewer_session.specs.Copies.{IsCopyWithin, ShowsSource, is_copied}
-use Rattle.viewer_session.specs.View.{AreConverted, AreDrawn, is_covered}
-use Rattle.viewer_session.specs.Encoded.{IsScreenPart, copy_parts}
+use Rattle.shared_updates.specs.Updates.{AreConverted}
+use Rattle.viewer_session.specs.View.{AreDrawn, is_covered}
+use Rattle.shared_updates.specs.Updates.{IsScreenPart, copy_parts}
 use Rattle.viewer_session.proofs.Views.{neither}
 
 -- what is painted shows the screen in an area, and is elsewhere as it was

@@ -16,11 +16,11 @@ use Rattle.rect_data.specs.declared.encoding.Encoding.{Encoding}
 use Rattle.painter.specs.Framebuffer.{Framebuffer, AreColorsOf}
 use Rattle.painter.specs.Sent.{area_colors, sent_colors}
 use Rattle.painter.specs.SentUpdate.{parts_of, CanBeSent}
-use Rattle.viewer_session.specs.View.{AreConverted}
+use Rattle.shared_updates.specs.Updates.{AreConverted}
 use Rattle.painter.specs.declared.update.ScreenPart.{ScreenPart}
 use Rattle.painter.specs.declared.update.ScreenPart.TheVariants.{Copy}
-use Rattle.viewer_session.specs.declared.copies.KeptCopy.{KeptCopy}
-use Rattle.viewer_session.specs.Encoded.{IsScreenPart, copy_parts}
+use Rattle.shared_updates.specs.declared.copy.KeptCopy.{KeptCopy}
+use Rattle.shared_updates.specs.Updates.{IsScreenPart, copy_parts}
 use Rattle.viewer_session.specs.Parts.{pixels_of, screen_copy, screen_parts}
 
 pub zip_length : {A B : Type 0} (R : A → B → Type 0) (xs : List A) (ys : List B) → AllZip R xs ys → length xs ≡ length ys

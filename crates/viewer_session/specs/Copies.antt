@@ -6,11 +6,8 @@ use Rattle.pixel_format.specs.Format.{Format}
 use Rattle.pixel_format.specs.Pixel.{converted}
 use Rattle.pixel_format.specs.Canvas.{Picture}
 use Rattle.painter.specs.Framebuffer.{Framebuffer, color_at}
-use Rattle.viewer_session.specs.declared.copies.KeptCopy.{KeptCopy}
-
--- the area that is copied
-abbrev pub source : KeptCopy → Area
-source c = record { x = c.source_x; y = c.source_y; w = c.area.w; h = c.area.h }
+use Rattle.shared_updates.specs.declared.copy.KeptCopy.{KeptCopy}
+use Rattle.shared_updates.specs.Copies.{source}
 
 -- a part of a screen of this size, of some pixels
 pub record IsPart (width height : ℕ) (area : Area) : Type 0 where

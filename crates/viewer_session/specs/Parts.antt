@@ -4,7 +4,7 @@ use Rattle.terms.specs.declared.area.Area.{Area}
 use Rattle.rect_data.specs.declared.encoding.Encoding.{Encoding}
 use Rattle.painter.specs.declared.update.ScreenPart.{ScreenPart}
 use Rattle.painter.specs.declared.update.ScreenPart.TheVariants.{Copy, Region}
-use Rattle.viewer_session.specs.declared.copies.KeptCopy.{KeptCopy}
+use Rattle.shared_updates.specs.declared.copy.KeptCopy.{KeptCopy}
 
 -- the pixels of an area, for one who asked for an encoding
 abbrev pub pixels_of : Encoding → Area → ScreenPart

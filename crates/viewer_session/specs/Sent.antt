@@ -3,9 +3,9 @@ use Rattle.std.specs.Prelude.{◌≡◌, ℕ, List, [], Option, None}
 use Rattle.terms.specs.Appending.{Appends}
 use Rattle.terms.specs.declared.area.Area.{Area}
 use Rattle.pixel_sets.specs.Pixels.{AreSent}
-use Rattle.viewer_session.specs.declared.copies.KeptCopy.{KeptCopy}
+use Rattle.shared_updates.specs.declared.copy.KeptCopy.{KeptCopy}
 use Rattle.viewer_session.specs.declared.view.View.{View}
-use Rattle.viewer_session.specs.Encoded.{IsUpdateOf}
+use Rattle.shared_updates.specs.Updates.{IsUpdateOf}
 
 -- there is no copy and no stale pixel, and nothing is written
 pub record IsNothing (v : View) (pending : Area) (copy : Option KeptCopy) (before after : List ℕ) : Type 0 where

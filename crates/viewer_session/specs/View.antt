@@ -1,12 +1,11 @@
 -- What a viewer has of a recording's screen, and what it lacks.
-use Rattle.std.specs.Prelude.{◌≡◌, ℕ, ℤ, pos, ◌⊎◌, nat_lt, ◌+◌, ◌*◌, ◌<◌, ◌^◌, All, Bool, true, false, not, ◌&&◌, ◌||◌, List, [], ◌∷◌, length, map, slice_range, Option, Some, None, IfSome, MatchOption}
+use Rattle.std.specs.Prelude.{◌≡◌, ℕ, ℤ, pos, ◌⊎◌, nat_lt, ◌+◌, ◌<◌, ◌^◌, All, Bool, true, false, not, ◌&&◌, ◌||◌, List, [], ◌∷◌, length, map, slice_range, Option, Some, None, IfSome, MatchOption}
 use Rattle.std.specs.List.{AllByRecursion, list_any}
 use Rattle.std.specs.Ordering.{int_eq}
 use Rattle.pixel_format.specs.Format.{Format}
-use Rattle.pixel_format.specs.Pixel.{converted, IsWithin}
-use Rattle.pixel_format.specs.declared.Color.{Color}
+use Rattle.pixel_format.specs.Pixel.{converted}
 use Rattle.terms.specs.Reading.{Got}
-use Rattle.pixel_format.specs.Canvas.{Picture, rows_of}
+use Rattle.pixel_format.specs.Canvas.{Picture}
 use Rattle.terms.specs.declared.area.Area.{Area}
 use Rattle.client_wire.specs.declared.message.ClientMessage.{ClientMessage}
 use Rattle.client_wire.specs.declared.message.ClientMessage.TheVariants as messages
@@ -26,9 +25,10 @@ use Rattle.replay.specs.Screens.{IsScreenAt}
 use Rattle.replay.specs.declared.slice.Slice.{Slice}
 use Rattle.pixel_sets.specs.Pixels.{PixelSet, holds, AreJust, HasNone, AreSent}
 use Rattle.pixel_sets.specs.Pixels as sets
-use Rattle.viewer_session.specs.declared.copies.KeptCopy.{KeptCopy}
+use Rattle.shared_updates.specs.declared.copy.KeptCopy.{KeptCopy}
 use Rattle.viewer_session.specs.declared.view.View.{View}
-use Rattle.viewer_session.specs.Copies.{source, IsPart, IsCopyWithin, ShowsSource, is_copied, copy_asked}
+use Rattle.shared_updates.specs.Copies.{source}
+use Rattle.viewer_session.specs.Copies.{IsPart, IsCopyWithin, ShowsSource, is_copied, copy_asked}
 
 -- The pixel is stale: the viewer may not show its colour.
 abbrev pub stale_at : View → ℕ → ℕ → Bool
@@ -258,12 +258,6 @@ pub record AreDueIn (v : View) (areas : List Area) : Type 0 where
   pub left : PixelSet
   pub left_is : IsWithout (copy_due v) v.stale left
   pub sent : AreSent left pending areas
-
--- the colours of an area of a screen, by rows, in a format
-pub record AreConverted (f : Format) (screen : Framebuffer) (area : Area) (colors : List Color) : Type 0 where
-  pub size : length colors ≡ area.h * area.w
-  pub within : All (IsWithin f) colors
-  pub value : (x y : ℕ) → x < area.w → y < area.h → rows_of colors area.w x y ≡ converted f (color_at screen (area.x + x) (area.y + y))
 
 -- one of the rectangles of an update covers the pixel
 abbrev pub is_covered : List Drawn → ℕ → ℕ → Bool

@@ -4,6 +4,7 @@
 
 mod copies;
 mod fault;
+mod giving;
 mod greeting;
 mod handshake;
 mod laws;
@@ -21,3 +22,4 @@ pub use laws::{
     a_refused_stream_is_not_followed, a_viewer_is_served, any_cut_gives_the_same, one_refusal,
 };
 pub use session::Session;
+pub use shared_updates;

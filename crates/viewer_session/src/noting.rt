@@ -4,15 +4,15 @@ ghost use Rattle.std.specs.Prelude.{◌≡◌, ◌<◌, All, length, MatchOption
 ghost use Rattle.pixel_format.specs.Format.{host_format};
 ghost use Rattle.rect_data.specs.Data.{AreData};
 ghost use Rattle.rfb_wire.specs.declared.message.Rectangle.{Rectangle};
-ghost use Rattle.viewer_session.specs.declared.copies.KeptCopy.{KeptCopy as Kept};
+ghost use Rattle.shared_updates.specs.declared.copy.KeptCopy.{KeptCopy as Kept};
 ghost use Rattle.viewer_session.specs.View.{IsSound, CanBeKept, IsKeptAfter};
 ghost use Rattle.viewer_session.specs.Noting.{IsNoted, AreNoted, AreAllNoted};
 
-use crate::copies::KeptCopy;
 use crate::view::View;
 use rect_data::Encoding;
 use replay::key_index::Stamped;
 use rfb_wire::{HostMessage, Rectangle};
+use shared_updates::KeptCopy;
 
 impl View {
     // The copy that a rectangle makes, if the viewer can be sent it.

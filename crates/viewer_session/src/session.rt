@@ -22,6 +22,7 @@ use crate::view::{View, take_all};
 use painter::Snapshot;
 use rect_data::Encoding;
 use replay::Slice;
+use shared_updates::Updates;
 use std::alloc::Global;
 use std::marker::Model;
 use terms::{NoMemory, ScreenSize};
@@ -220,9 +221,10 @@ impl Session {
     /// due, whose pixels are taken as clean: a rectangle that copies, if a copy is kept all of
     /// whose pixels are asked for; and one for each tile of 16 by 16 with other stale pixels that
     /// are asked for, or one for all if there would be more than 4,096, each in the encoding that
-    /// the viewer asked for or in Raw. Running out of memory changes nothing. After a fault it
-    /// still gives what was due.
-    pub fn answer(&mut self, out: &mut Vec<u8>) -> Result<(), NoMemory>
+    /// the viewer asked for or in Raw. One that was written for another viewer, and is found among
+    /// these, is given if it is such an update. Running out of memory changes nothing. After a fault
+    /// it still gives what was due.
+    pub fn answer<U: Updates>(&mut self, updates: &U, out: &mut Vec<u8>) -> Result<(), NoMemory>
         ensures due { OnOk result (IsDue self.old.view
             → Appends (Answers self.old.view self.new.view)
             (out.old.items ++ self.old.due) out.new.items) }
@@ -244,7 +246,7 @@ impl Session {
     {
         let start = out.len();
         let sent = self.listener.greeting.write_due(self.alloc, out)?;
-        if let Err(refusal) = self.view.answer(self.alloc, out) {
+        if let Err(refusal) = self.view.answer(self.alloc, updates, out) {
             out.truncate(start);
             return Err(refusal);
         }

@@ -68,6 +68,16 @@ impl Shown {
         }
     }
 
+    /// The snapshot that is shown, unless it is a screen of one's own.
+    pub fn given(&self) -> Option<&Snapshot>
+        ensures { IfSome result (λ snapshot. snapshot.now ≡ self.now) }
+    {
+        match &self.surface {
+            Surface::Given(snapshot) => Some(snapshot),
+            Surface::Own(_) => None,
+        }
+    }
+
     /// Shows a snapshot of this size from now on. It takes no memory, and paints nothing.
     pub fn give(&mut self, snapshot: Snapshot)
         requires { SameSize self.old snapshot }

@@ -3,14 +3,14 @@
 ghost use Rattle.std.specs.Prelude.{◌≡◌, ◌+◌, ◌<◌, ◌^◌, All, length, IfOk, OnOk, OnErr};
 ghost use Rattle.terms.specs.Appending.{Appends};
 ghost use Rattle.terms.specs.Area.{LiesWithin};
-ghost use Rattle.viewer_session.specs.Encoded.{IsUpdateOf};
+ghost use Rattle.shared_updates.specs.Updates.{IsUpdateOf};
 ghost use Rattle.viewer_session.specs.Parts.{screen_parts};
 
-use crate::copies::KeptCopy;
 use crate::shown::Shown;
 use painter::ScreenPart;
 use pixel_format::PixelFormat;
 use rect_data::Encoding;
+use shared_updates::KeptCopy;
 use std::alloc::Global;
 use terms::{Area, NoMemory};
 

@@ -16,9 +16,9 @@ ghost use Rattle.viewer_session.specs.Encoded.{IsEncodedFor};
 ghost use Rattle.viewer_session.specs.Sent.{IsNothing, IsSent};
 ghost use Rattle.viewer_session.specs.View.{IsRight, IsSound, IsNext, AreStale, stale_at, is_stale_after, is_there, is_pending, GoesOn, IsDue, IsAsked, IsTaken, AreTaken, Answers, HasAreasDue};
 
-use crate::copies::{KeptCopy, lies_in, put_back, take_out};
+use crate::copies::{lies_in, put_back, take_out};
+use crate::giving::give_update;
 use crate::shown::Shown;
-use crate::update::write_areas;
 use client_wire::ClientMessage;
 use painter::Snapshot;
 use pixel_format::PixelFormat;
@@ -26,6 +26,7 @@ use pixel_sets::Pixels;
 use rect_codec::{pick, written_parts_are_read};
 use rect_data::Encoding;
 use replay::Slice;
+use shared_updates::{KeptCopy, Updates, Wanted};
 use std::alloc::Global;
 use terms::{Area, NoMemory, ScreenSize};
 
@@ -184,9 +185,10 @@ impl View {
 
     // Appends an update of a copy, if there is one, and of the stale pixels of an area, and answers
     // by which areas; nothing if there is neither.
-    fn send(
+    fn send<U: Updates>(
         &self,
         alloc: Global,
+        updates: &U,
         pending: Area,
         copy: Option<KeptCopy>,
         out: &mut Vec<u8>,
@@ -203,24 +205,27 @@ impl View {
         if copy.is_none() && areas.is_empty() {
             return Ok(None);
         }
-        write_areas(
-            alloc,
-            &self.format,
-            self.encoding,
-            &self.screen,
+        let wanted = Wanted {
+            format: &self.format,
+            encoding: self.encoding,
             copy,
-            &areas,
-            out,
-        )?;
+            areas: &areas,
+        };
+        give_update(alloc, updates, wanted, &self.screen, out)?;
         Ok(Some(areas))
     }
 
     /// Appends the update that is due, and takes its pixels as clean; nothing if none is due. It
     /// begins with the kept copy, if all pixels that this goes to are asked for. It has a rectangle
     /// for each tile of 16 by 16 with stale pixels that are asked for, beside those of the copy,
-    /// the smallest that holds those; or one for all, if there would be more than 4,096. Running
-    /// out of memory changes nothing.
-    pub fn answer(&mut self, alloc: Global, out: &mut Vec<u8>) -> Result<(), NoMemory>
+    /// the smallest that holds those; or one for all, if there would be more than 4,096. One that was
+    /// written for others may serve. Running out of memory changes nothing.
+    pub fn answer<U: Updates>(
+        &mut self,
+        alloc: Global,
+        updates: &U,
+        out: &mut Vec<u8>,
+    ) -> Result<(), NoMemory>
         requires sound { IsSound self.old }
         ensures sound { IsSound self.new }
         ensures due { OnOk result (IsDue self.old
@@ -244,7 +249,7 @@ impl View {
         let copy = self.copy_due(pending);
         self.stale.known();
         take_out(&mut self.stale, copy);
-        match self.send(alloc, pending, copy, out) {
+        match self.send(alloc, updates, pending, copy, out) {
             Ok(Some(areas)) => {
                 written_parts_are_read();
                 self.stale.remove_all(&areas);

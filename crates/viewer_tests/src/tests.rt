@@ -10,9 +10,11 @@ use rfb_wire::HostMessage;
 use std::alloc::Global;
 use std::test::Fail;
 use terms::{PixelFormatFault, ScreenSize, WireFault};
+use viewer_session::shared_updates::Unshared;
 use viewer_session::{Session, SessionFault};
 
 mod painting;
+mod sharing;
 
 // A viewer's handshake: its version, the type None, and a shared-flag.
 const HANDSHAKE: [u8; 14] = *b"RFB 003.008\n\x01\x01";
@@ -72,7 +74,7 @@ fn started(alloc: Global, width: u16, update: &[u8]) -> Result<Box<Session>, Fai
         messages: Vec::new(alloc),
     })?;
     session.feed(&HANDSHAKE)?;
-    session.answer(&mut Vec::new(alloc))?;
+    session.answer(&Unshared, &mut Vec::new(alloc))?;
     Ok(session)
 }
 
@@ -96,7 +98,7 @@ fn put_out(alloc: Global, session: &mut Session) -> Result<Vec<u8>, Fail>
     ensures position { session.new.view.position ≡ session.old.view.position }
 {
     let mut out = Vec::new(alloc);
-    session.answer(&mut out)?;
+    session.answer(&Unshared, &mut out)?;
     Ok(out)
 }
 

@@ -14,6 +14,7 @@ use rfb_wire::HostMessage;
 use std::alloc::Global;
 use terms::{NoMemory, ScreenSize};
 use viewer_session::Session;
+use viewer_session::shared_updates::Unshared;
 
 // A session that begins with a screen. It is boxed, so that a function that ends early doesn't take
 // it apart.
@@ -92,7 +93,7 @@ fn tell_out(account: &mut Account, session: &mut Session, number: usize) -> Resu
     ensures height { session.new.view.screen.height ≡ session.old.view.screen.height }
 {
     let mut out = Vec::new(account.alloc);
-    session.answer(&mut out)?;
+    session.answer(&Unshared, &mut out)?;
     if out.is_empty() {
         return Ok(());
     }

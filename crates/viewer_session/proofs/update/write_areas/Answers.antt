@@ -5,7 +5,7 @@ use Rattle.rect_codec.specs.declared.parts.Part.{Part}
 use Rattle.rect_codec.specs.Parts.{AreParts}
 use Rattle.painter.specs.declared.update.ScreenPart.{ScreenPart}
 use Rattle.painter.specs.SentUpdate.{parts_of, CanBeSent}
-use Rattle.viewer_session.specs.Encoded.{IsUpdateOf}
+use Rattle.shared_updates.specs.Updates.{IsUpdateOf}
 use Rattle.viewer_session.specs.Parts.{pixels_of, screen_parts}
 use Rattle.viewer_session.proofs.Zipped.{parts_are, copy_in_front, parts_sent, parts_few, appended}
 use Rattle.viewer_session.proofs.update.write_areas.Goals as goal

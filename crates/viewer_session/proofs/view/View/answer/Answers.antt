@@ -6,7 +6,7 @@ use Rattle.viewer_session.proofs.Answered.{IsWritten, is_written, written_answer
 use Rattle.viewer_session.proofs.view.View.answer.Goals as goal
 
 pub returns-in-Ok-Some-clause-due : goal.returns-in-Ok-Some-clause-due
-returns-in-Ok-Some-clause-due c = λ _.
+returns-in-Ok-Some-clause-due g c = λ _.
     let v = c.args.self.now in
     let left = c.take_out.new.stale in
     let copy = c.copy_due-copy.result in
@@ -18,7 +18,7 @@ returns-in-Ok-Some-clause-due c = λ _.
     (rw (c.deref.ensures.value, c.in-Ok-Some.areas-is) at c.remove_all.ensures.just)
 
 pub returns-in-Ok-Some-clause-areas : goal.returns-in-Ok-Some-clause-areas
-returns-in-Ok-Some-clause-areas c = λ _.
+returns-in-Ok-Some-clause-areas g c = λ _.
     let v = c.args.self.now in
     let left = c.take_out.new.stale in
     let copy = c.copy_due-copy.result in
@@ -29,7 +29,7 @@ returns-in-Ok-Some-clause-areas c = λ _.
     written_areas v left areas c.args.out.now.items c.send.new.out.items c.written_parts_are_read.ensures c.requires.sound w
 
 pub returns-in-Ok-Some-clause-encoded : goal.returns-in-Ok-Some-clause-encoded
-returns-in-Ok-Some-clause-encoded c = λ _.
+returns-in-Ok-Some-clause-encoded g c = λ _.
     let v = c.args.self.now in
     let left = c.take_out.new.stale in
     let copy = c.copy_due-copy.result in
@@ -40,7 +40,7 @@ returns-in-Ok-Some-clause-encoded c = λ _.
     written_encoded v left areas c.args.out.now.items c.send.new.out.items w
 
 pub returns-in-Ok-Some-clause-none : goal.returns-in-Ok-Some-clause-none
-returns-in-Ok-Some-clause-none c = λ none.
+returns-in-Ok-Some-clause-none g c = λ none.
     let v = c.args.self.now in
     let left = c.take_out.new.stale in
     let copy = c.copy_due-copy.result in
@@ -51,7 +51,7 @@ returns-in-Ok-Some-clause-none c = λ none.
     absurd (none w.due.due)
 
 pub remove_all-requires : goal.remove_all-requires
-remove_all-requires c =
+remove_all-requires g c =
     let v = c.args.self.now in
     let part = pending_part v c.in-Some.pending c.requires.sound c.in-Some.is in
     let size = c.take_out.ensures.size in
@@ -60,7 +60,7 @@ remove_all-requires c =
     (sent_within c.take_out.new.stale v.screen.width v.screen.height c.in-Some.pending c.in-Ok-Some.areas.items part.within sent.sent)
 
 pub returns-in-Err-clause-err : goal.returns-in-Err-clause-err
-returns-in-Err-clause-err c =
+returns-in-Err-clause-err g c =
     let v = c.args.self.now in
     let left = c.take_out.new.stale in
     let copy = c.copy_due-copy.result in

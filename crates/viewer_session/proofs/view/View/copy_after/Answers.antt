@@ -1,6 +1,6 @@
 use Rattle.std.proofs.Common.{sym, ◌∙◌, inr, subst}
 use Rattle.std.specs.Prelude.{Option, IfSome}
-use Rattle.viewer_session.specs.declared.copies.KeptCopy.{KeptCopy}
+use Rattle.shared_updates.specs.declared.copy.KeptCopy.{KeptCopy}
 use Rattle.viewer_session.specs.View.{Meet}
 use Rattle.viewer_session.proofs.Meetings.{meets}
 use Rattle.viewer_session.proofs.view.View.copy_after.Goals as goal

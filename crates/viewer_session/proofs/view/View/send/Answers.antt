@@ -3,10 +3,10 @@ use Rattle.std.proofs.lemmas.Grind.{common_steps}
 use Rattle.viewer_session.proofs.Answered.{sent_within}
 use Rattle.viewer_session.proofs.view.View.send.Goals as goal
 
-pub write_areas-requires-clause-within : goal.write_areas-requires-clause-within
-write_areas-requires-clause-within c =
+pub give_update-requires-clause-within : goal.give_update-requires-clause-within
+give_update-requires-clause-within g c =
     let v = c.args.self.now in
     rw c.deref.ensures.value (sent_within v.stale v.screen.width v.screen.height c.args.pending c.in_ok-areas.areas.items c.requires.pending c.in_ok-areas.ensures)
 
 pub returns-then-is_empty-clause-ok : goal.returns-then-is_empty-clause-ok
-returns-then-is_empty-clause-ok c = grind (arith, common_steps)
+returns-then-is_empty-clause-ok g c = grind (arith, common_steps)

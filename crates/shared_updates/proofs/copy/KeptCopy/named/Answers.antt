@@ -1,7 +1,7 @@
 use Rattle.std.proofs.Common.{ap}
 use Rattle.terms.specs.declared.area.Area.{Area}
 use Rattle.rect_data.specs.Grammar.{source_of}
-use Rattle.viewer_session.proofs.copies.KeptCopy.named.Goals as goal
+use Rattle.shared_updates.proofs.copy.KeptCopy.named.Goals as goal
 
 pub returns-clause-source : goal.returns-clause-source
 unfolding source_of
