@@ -12,6 +12,7 @@ use book_workers::shared_book::{Delivery, Mark, Shared};
 use carriage::{Carriage, Ending, Status};
 use disk::Disk;
 use painter::Snapshot;
+use rect_data::Encoding;
 use rfb_wire::HostMessage;
 use sockets::{Bell, Connection, Woken};
 use std::alloc::{AllocError, Global};
@@ -77,13 +78,15 @@ struct Talk<M: Mark> {
 }
 
 // Whether the rectangles of a message have as many pixels as the screen, as those of an update of
-// the whole screen have.
+// the whole screen have. Those that copy don't count: the viewer copies, too.
 fn is_of_whole_screen(message: &HostMessage) -> bool {
     let size = message.size();
     let mut left = u64::from(size.width) * u64::from(size.height);
     for rectangle in message.rectangles() {
-        let area = rectangle.area;
-        left = left.saturating_sub(u64::from(area.w) * u64::from(area.h));
+        if rectangle.encoding != Encoding::CopyRect {
+            let area = rectangle.area;
+            left = left.saturating_sub(u64::from(area.w) * u64::from(area.h));
+        }
     }
     left == 0
 }

@@ -1,6 +1,5 @@
 -- An update of one screen is one of another that shows the same in its areas.
 use Rattle.std.proofs.Common.{ℕ, List, [], ◌∷◌, ap, ◌∙◌}
-use Rattle.std.specs.Prelude.{Option}
 use Rattle.std.specs.List.{AllZip, AllByRecursion}
 use Rattle.pixel_format.specs.Format.{Format}
 use Rattle.pixel_format.specs.Pixel.{converted}
@@ -36,13 +35,13 @@ parts_on f asked one other (area ∷ areas) [] agree each = each
 parts_on f asked one other (area ∷ areas) (part ∷ list) agree each =
     (part_on f asked one other area part agree.0 each.0, parts_on f asked one other areas list agree.1 each.1)
 
-pub update_on : (f : Format) (asked : Encoding) (one other : Framebuffer) (copy : Option KeptCopy) (areas : List Area) (update : List ℕ)
-    → AllByRecursion (λ area. AgreeIn area one other) areas → IsUpdateOf f asked one copy areas update → IsUpdateOf f asked other copy areas update
-update_on f asked one other copy areas update agree is = record { parts = is.parts; each = parts_on f asked one other areas is.parts agree is.each; are = is.are }
+pub update_on : (f : Format) (asked : Encoding) (one other : Framebuffer) (copies : List KeptCopy) (areas : List Area) (update : List ℕ)
+    → AllByRecursion (λ area. AgreeIn area one other) areas → IsUpdateOf f asked one copies areas update → IsUpdateOf f asked other copies areas update
+update_on f asked one other copies areas update agree is = record { parts = is.parts; each = parts_on f asked one other areas is.parts agree is.each; are = is.are }
 
 pub known_serves : (k : Known) (wanted : Wanted) (screen : Framebuffer) → IsKnown k → IsFor k wanted → ShowsSame k screen
-    → IsUpdateOf wanted.format.now wanted.encoding screen wanted.copy wanted.areas.now k.bytes
+    → IsUpdateOf wanted.format.now wanted.encoding screen wanted.copies.now wanted.areas.now k.bytes
 known_serves k wanted screen known asked same =
     let agree = recursion_from_All (λ area. AgreeIn area k.screen screen) k.areas same.agree in
-    let is = update_on k.format k.encoding k.screen screen k.copy k.areas k.bytes agree known.is in
-    rw (asked.format, asked.encoding, asked.copy, asked.areas) at is
+    let is = update_on k.format k.encoding k.screen screen k.copies k.areas k.bytes agree known.is in
+    rw (asked.format, asked.encoding, asked.copies, asked.areas) at is

@@ -1,7 +1,54 @@
--- A copy that a viewer can be sent instead of colours (RFC 6143, section 7.7.2).
+-- Copies that a viewer can be sent instead of colours (RFC 6143, section 7.7.2).
+use Rattle.std.specs.Prelude.{ℕ, ◌+◌, ◌-◌, ◌<◌, nat_le, Bool, true, false, ◌&&◌, ◌||◌, List, [], ◌∷◌, Option, Some, None, if◌then◌else◌}
 use Rattle.terms.specs.declared.area.Area.{Area}
+use Rattle.terms.specs.Area.{is_in, LiesWithin}
+use Rattle.pixel_format.specs.Canvas.{Picture}
 use Rattle.shared_updates.specs.declared.copy.KeptCopy.{KeptCopy}
 
 -- the area that is copied
 abbrev pub source : KeptCopy → Area
 source c = record { x = c.source_x; y = c.source_y; w = c.area.w; h = c.area.h }
+
+-- a part of a screen of this size, of some pixels
+pub record IsPart (width height : ℕ) (area : Area) : Type 0 where
+  pub within : LiesWithin width height area
+  pub across : 0 < area.w
+  pub down : 0 < area.h
+
+-- a copy of some pixels to others of a screen of this size
+pub record IsCopyWithin (width height : ℕ) (c : KeptCopy) : Type 0 where
+  pub area : IsPart width height c.area
+  pub source : LiesWithin width height (source c)
+
+-- the pixel is one of those that one of the copies goes to
+abbrev pub is_copied : List KeptCopy → ℕ → ℕ → Bool
+is_copied [] x y = false
+is_copied (c ∷ cs) x y = is_in c.area x y || is_copied cs x y
+
+-- a picture once a copy is carried out: each pixel that it goes to has the colour that its source had
+abbrev pub copied : KeptCopy → Picture → Picture
+copied c before x y = if is_in c.area x y then before (c.source_x + (x - c.area.x)) (c.source_y + (y - c.area.y)) else before x y
+
+-- once copies are carried out, one after another
+abbrev pub all_copied : List KeptCopy → Picture → Picture
+all_copied [] before = before
+all_copied (c ∷ cs) before = all_copied cs (copied c before)
+
+-- the area lies in another
+abbrev pub lies_in : Area → Area → Bool
+lies_in area outer =
+    (nat_le outer.x area.x && nat_le (area.x + area.w) (outer.x + outer.w)) && (nat_le outer.y area.y && nat_le (area.y + area.h) (outer.y + outer.h))
+
+-- all that the copies go to does
+abbrev pub all_in : List KeptCopy → Area → Bool
+all_in [] outer = true
+all_in (c ∷ cs) outer = lies_in c.area outer && all_in cs outer
+
+-- where a copy takes an area of what it copies
+abbrev pub moved_by : KeptCopy → Area → Area
+moved_by c a = record { x = c.area.x + (a.x - c.source_x); y = c.area.y + (a.y - c.source_y); w = a.w; h = a.h }
+
+-- the pixel is one of those that a copy takes an area to, if there is one
+abbrev pub is_moved : KeptCopy → Option Area → ℕ → ℕ → Bool
+is_moved c None x y = false
+is_moved c (Some a) x y = is_in (moved_by c a) x y

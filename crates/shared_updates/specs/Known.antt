@@ -1,5 +1,5 @@
 -- An update that is kept.
-use Rattle.std.specs.Prelude.{◌≡◌, ℕ, All, List, Option}
+use Rattle.std.specs.Prelude.{◌≡◌, ℕ, All, List}
 use Rattle.pixel_format.specs.Format.{Format}
 use Rattle.terms.specs.Area.{LiesWithin}
 use Rattle.terms.specs.declared.area.Area.{Area}
@@ -13,7 +13,7 @@ use Rattle.shared_updates.specs.Updates.{IsUpdateOf}
 pub record Known : Type 0 where
   pub format : Format
   pub encoding : Encoding
-  pub copy : Option KeptCopy
+  pub copies : List KeptCopy
   pub areas : List Area
   pub screen : Framebuffer
   pub bytes : List ℕ
@@ -21,13 +21,13 @@ pub record Known : Type 0 where
 -- it is an update of that, and its areas lie on the screen
 pub record IsKnown (k : Known) : Type 0 where
   pub within : All (LiesWithin k.screen.width k.screen.height) k.areas
-  pub is : IsUpdateOf k.format k.encoding k.screen k.copy k.areas k.bytes
+  pub is : IsUpdateOf k.format k.encoding k.screen k.copies k.areas k.bytes
 
 -- it was written for one who wanted this
 pub record IsFor (k : Known) (wanted : Wanted) : Type 0 where
   pub format : k.format ≡ wanted.format.now
   pub encoding : k.encoding ≡ wanted.encoding
-  pub copy : k.copy ≡ wanted.copy
+  pub copies : k.copies ≡ wanted.copies.now
   pub areas : k.areas ≡ wanted.areas.now
 
 -- a screen of the same size has the same colours in its areas

@@ -1,5 +1,5 @@
 -- With which colours, and in which encoding, a viewer is answered.
-use Rattle.std.specs.Prelude.{◌≡◌, ℕ, ◌+◌, ◌*◌, ◌<◌, All, List, [], ◌∷◌, ◌++◌, length, Option, Some, None}
+use Rattle.std.specs.Prelude.{◌≡◌, ℕ, ◌+◌, ◌*◌, ◌<◌, All, List, [], ◌∷◌, ◌++◌, length}
 use Rattle.std.specs.List.{AllZip}
 use Rattle.pixel_format.specs.Format.{Format}
 use Rattle.pixel_format.specs.Pixel.{converted, IsWithin}
@@ -24,15 +24,15 @@ abbrev pub IsScreenPart : Format → Encoding → Framebuffer → Area → Part 
 IsScreenPart f asked screen area (parts.Copy to x y) = ⊥
 IsScreenPart f asked screen area (parts.Colors of colors encoding) = (of ≡ area) × (encoding ≡ asked) × AreConverted f screen area colors.now
 
--- the part of a copy, if there is one
-abbrev pub copy_parts : Option KeptCopy → List Part
-copy_parts None = []
-copy_parts (Some c) = parts.Copy c.area c.source_x c.source_y ∷ []
+-- a part for each copy, in their order
+abbrev pub copy_parts : List KeptCopy → List Part
+copy_parts [] = []
+copy_parts (c ∷ cs) = parts.Copy c.area c.source_x c.source_y ∷ copy_parts cs
 
--- An update of a copy, if there is one, and of these areas of a screen after it, in their order,
--- for one who asked for an encoding: each other rectangle is in that, or in Raw if the encoding
+-- An update of these copies, and of these areas of a screen after them, in their order, for one
+-- who asked for an encoding: each other rectangle is in that, or in Raw if the encoding
 -- would be longer or can't be written; with 0 in padding and in the bits of no channel.
-pub record IsUpdateOf (f : Format) (asked : Encoding) (screen : Framebuffer) (copy : Option KeptCopy) (areas : List Area) (update : List ℕ) : Type 0 where
+pub record IsUpdateOf (f : Format) (asked : Encoding) (screen : Framebuffer) (copies : List KeptCopy) (areas : List Area) (update : List ℕ) : Type 0 where
   pub parts : List Part
   pub each : AllZip (IsScreenPart f asked screen) areas parts
-  pub are : AreParts f (copy_parts copy ++ parts) update
+  pub are : AreParts f (copy_parts copies ++ parts) update

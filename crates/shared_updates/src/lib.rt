@@ -1,12 +1,15 @@
-//! Updates of a picture (RFC 6143, section 7.6.1) that are written once for all who want the same.
+//! Updates of a picture (RFC 6143, section 7.6.1) that are written once for all who want the same,
+//! and the copies with which they begin.
 #![tactic(auto)]
 
+mod copies;
 mod copy;
 mod shared_update;
 mod shelf;
 mod updates;
 mod wanted;
 
+pub use copies::{Copies, lies_in};
 pub use copy::KeptCopy;
 pub use shared_update::SharedUpdate;
 pub use shelf::Shelf;

@@ -7,7 +7,7 @@ ghost use Rattle.shared_updates.specs.Updates.{IsUpdateOf};
 ghost use Rattle.shared_updates.specs.Known.{IsKnown, IsFor, ShowsSame};
 
 use crate::copy::KeptCopy;
-use crate::wanted::{Wanted, same_areas, same_copy, same_format};
+use crate::wanted::{Wanted, same_areas, same_copies, same_format};
 use painter::Snapshot;
 use pixel_format::PixelFormat;
 use rect_data::Encoding;
@@ -21,7 +21,7 @@ use terms::{Area, NoMemory};
 pub struct SharedUpdate {
     format: PixelFormat,
     encoding: Encoding,
-    copy: Option<KeptCopy>,
+    copies: Vec<KeptCopy>,
     areas: Vec<Area>,
     snapshot: Snapshot,
     bytes: Vec<u8>,
@@ -35,7 +35,7 @@ impl Model for SharedUpdate {
     ghost view = { λ u. record {
       format = u.format;
       encoding = u.encoding;
-      copy = u.copy;
+      copies = u.copies.items;
       areas = u.areas.items;
       screen = u.snapshot;
       bytes = u.bytes.items;
@@ -44,7 +44,7 @@ impl Model for SharedUpdate {
     ghost invariant = { λ u. IsKnown (record {
       format = u.format;
       encoding = u.encoding;
-      copy = u.copy;
+      copies = u.copies.items;
       areas = u.areas.items;
       screen = u.snapshot;
       bytes = u.bytes.items;
@@ -74,7 +74,7 @@ impl SharedUpdate {
         bytes: &[u8],
     ) -> Result<SharedUpdate, NoMemory>
         requires within { All (LiesWithin snapshot.now.width snapshot.now.height) wanted.areas.now }
-        requires is { IsUpdateOf wanted.format.now wanted.encoding snapshot.now wanted.copy wanted.areas.now bytes.now }
+        requires is { IsUpdateOf wanted.format.now wanted.encoding snapshot.now wanted.copies.now wanted.areas.now bytes.now }
         ensures wanted { IfOk result (λ u. IsFor u wanted.entry) }
         ensures screen { IfOk result (λ u. u.screen ≡ snapshot.now) }
         ensures bytes { IfOk result (λ u. u.bytes ≡ bytes.now) }
@@ -85,7 +85,7 @@ impl SharedUpdate {
         Ok(SharedUpdate {
             format,
             encoding: wanted.encoding,
-            copy: wanted.copy,
+            copies: Vec::from_slice(alloc, wanted.copies)?,
             areas: Vec::from_slice(alloc, wanted.areas)?,
             snapshot: snapshot.share()?,
             bytes: Vec::from_slice(alloc, bytes)?,
@@ -112,7 +112,7 @@ impl SharedUpdate {
     {
         self.encoding == wanted.encoding
             && same_format(&self.format, wanted.format)
-            && same_copy(self.copy, wanted.copy)
+            && same_copies(&self.copies, wanted.copies)
             && same_areas(&self.areas, wanted.areas)
     }
 
@@ -126,7 +126,7 @@ impl SharedUpdate {
     /// Whether it is also an update of what is wanted of another snapshot: the same is wanted, and
     /// that has the same colours in the areas. Only their pixels are read.
     pub fn serves(&self, wanted: Wanted<'_>, snapshot: &Snapshot) -> bool
-        ensures { IsTrue result → IsUpdateOf wanted.entry.format.now wanted.entry.encoding snapshot.now wanted.entry.copy wanted.entry.areas.now self.now.bytes }
+        ensures { IsTrue result → IsUpdateOf wanted.entry.format.now wanted.entry.encoding snapshot.now wanted.entry.copies.now wanted.entry.areas.now self.now.bytes }
     {
         self.known();
         self.is_for(wanted) && self.shows_same(snapshot)

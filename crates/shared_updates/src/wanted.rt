@@ -7,15 +7,15 @@ use pixel_format::PixelFormat;
 use rect_data::Encoding;
 use terms::Area;
 
-/// What an update is to have: a copy first, if there is one, and the pixels of some areas after it,
-/// in their order.
+/// What an update is to have: copies first, if there are any, and the pixels of some areas after
+/// them, in their order.
 #[derive(Clone, Copy)]
 pub struct Wanted<'a> {
     /// The pixel format in which the viewer takes it.
     pub format: &'a PixelFormat,
     /// The encoding that the viewer asked for.
     pub encoding: Encoding,
-    pub copy: Option<KeptCopy>,
+    pub copies: &'a [KeptCopy],
     pub areas: &'a [Area],
 }
 
@@ -33,15 +33,19 @@ pub(crate) fn same_format(one: &PixelFormat, other: &PixelFormat) -> bool
     one.write() == other.write()
 }
 
-/// Whether two copies are the same, or there is none.
-pub(crate) fn same_copy(one: Option<KeptCopy>, other: Option<KeptCopy>) -> bool
-    ensures { IsTrue result → one ≡ other }
+/// Whether two lists of copies are the same.
+pub(crate) fn same_copies(one: &[KeptCopy], other: &[KeptCopy]) -> bool
+    ensures { IsTrue result → one.now ≡ other.now }
 {
-    match (one, other) {
-        (Some(one), Some(other)) => one == other,
-        (None, None) => true,
-        _ => false,
+    if one.len() != other.len() {
+        return false;
     }
+    for k in 0..one.len() {
+        if one[k] != other[k] {
+            return false;
+        }
+    }
+    true
 }
 
 /// Whether two lists of areas are the same.

@@ -1,5 +1,5 @@
 -- An update of the areas that are due answers.
-use Rattle.std.proofs.Common.{◌≡◌, ℕ, ◌+◌, ◌<◌, ◌≤◌, ◌^◌, ◌*◌, ◌++◌, inl, inr, Bool, true, false, List, [], ◌∷◌, length, refl, sym, ap, ◌∙◌, subst, arith}
+use Rattle.std.proofs.Common.{◌≡◌, ℕ, ◌+◌, ◌<◌, ◌≤◌, ◌^◌, ◌++◌, inl, inr, Bool, true, false, List, [], ◌∷◌, length, refl, sym, ap, ◌∙◌, subst, arith}
 use Rattle.std.specs.Prelude.{not, ◌&&◌, ◌||◌, ◌==◌, nat_le, All, Option, Some, None, IfSome}
 use Rattle.std.specs.List.{AllZip, AllByRecursion}
 use Rattle.std.proofs.lemmas.Bool.{cases_Bool, false_from_ne_true, and_parts, leb-true}
@@ -16,21 +16,19 @@ use Rattle.rect_codec.specs.declared.parts.Part.{Part}
 use Rattle.rect_codec.specs.Parts.{AreParts, PartLiesWithin, DrawsParts}
 use Rattle.rect_codec.specs.Update.{Drawn, update_at, all_painted}
 use Rattle.painter.specs.Framebuffer.{Framebuffer, color_at}
-use Rattle.gated_journal.specs.Recording.{Head}
-use Rattle.keyed_entries.specs.declared.entry.Stamped.{Stamped}
 use Rattle.pixel_sets.specs.Pixels.{PixelSet, SameSize, AreJust, AreSent, holds, is_in_some}
-use Rattle.pixel_sets.proofs.Equal.{same_set}
 use Rattle.pixel_sets.proofs.Sent.{IsInside, sent_inside, sent_cover, sent_few, sent_pixel, none_sent}
 use Rattle.viewer_session.specs.declared.view.View.{View}
 use Rattle.shared_updates.specs.declared.copy.KeptCopy.{KeptCopy}
-use Rattle.viewer_session.specs.Copies.{IsPart, IsCopyWithin, ShowsSource, is_copied, lies_in, copy_in, copy_asked}
-use Rattle.viewer_session.specs.View.{IsRight, IsSound, IsKept, IsDue, IsWithout, AreDueIn, Answers, HasAreasDue, copy_due, is_pending, is_covered, stale_at}
+use Rattle.shared_updates.specs.Copies.{IsPart, IsCopyWithin, is_copied, lies_in}
+use Rattle.viewer_session.specs.View.{IsSound, IsKept, IsAskedFor, IsDue, AreDueIn, Answers, HasAreasDue, is_pending, is_covered, stale_at}
 use Rattle.shared_updates.specs.Updates.{IsScreenPart, IsUpdateOf, copy_parts}
 use Rattle.viewer_session.specs.Encoded.{IsEncodedFor}
 use Rattle.viewer_session.specs.Sent.{IsNothing, IsSent}
-use Rattle.viewer_session.proofs.Views.{neither}
+use Rattle.viewer_session.proofs.Views.{Sees}
+use Rattle.viewer_session.proofs.Carried.{converts_of, all_weaker}
 use Rattle.viewer_session.proofs.Zipped.{zip_length, appended}
-use Rattle.viewer_session.proofs.Sendings.{IsShown, AreShown, parts_shown, all_covered, all_drawn, all_elsewhere, all_here, all_copied, parts_inside}
+use Rattle.viewer_session.proofs.Sendings.{IsShown, AreShown, parts_shown, all_covered, all_drawn, all_here, all_carried, parts_inside}
 
 -- a pending pixel is on the screen
 on_screen : (width height : ℕ) (pending : Option Area) → IfSome pending (IsPart width height) → (x y : ℕ) → is_pending pending x y ≡ true → (x < width) × (y < height)
@@ -43,11 +41,11 @@ on_screen width height (Some outer) within x y e =
     let b = pixel.bottom in
     (omega arith, omega arith)
 
--- a pixel that is clean afterwards, and wasn't sent
-still_clean : (a b : Bool) → (a && not b) ≡ false → b ≡ false → a ≡ false
-still_clean true true e f = absurd (cc)
-still_clean true false e f = absurd (cc)
-still_clean false b e f = refl
+-- a pixel that is clean afterwards was clean before, or was sent
+still_sent : (a b : Bool) → (a && not b) ≡ false → a ≡ true → b ≡ true
+still_sent true true e held = refl
+still_sent true false e held = absurd (cc)
+still_sent false b e held = absurd (cc)
 
 areas_inside : (f : Format) (screen : Framebuffer) (width height : ℕ) (outer : Area) (pending : Option Area) (areas : List Area) (drawn : List Drawn) → pending ≡ Some outer
     → AllByRecursion (IsInside width height outer) areas → AllZip (IsShown f screen) areas drawn
@@ -60,16 +58,7 @@ areas_inside f screen width height outer pending (a ∷ areas) (d ∷ drawn) is 
   areas_inside f screen width height outer pending areas drawn is inside.1 are.1,
 )
 
--- ---- the copy with which an update begins
-
--- it is the kept one
-due_has : (P : KeptCopy → Type 0) (copy : Option KeptCopy) (pending : Option Area) → IfSome copy P → IfSome (copy_asked copy pending) P
-due_has P copy None has = tt
-due_has P None (Some outer) has = tt
-due_has P (Some c) (Some outer) has = elim (cases_Bool (lies_in c.area outer)) [
-  | inl here ↦ rw here has
-  | inr away ↦ rw away tt
-]
+-- ---- the copies with which an update begins
 
 -- a pixel of an area that lies in another is one of that
 wider : (area outer : Area) (x y : ℕ) → lies_in area outer ≡ true → is_in area x y ≡ true → is_in outer x y ≡ true
@@ -88,41 +77,25 @@ wider area outer x y lies here =
     let pb = pixel.bottom in
     is_in_true outer x y (record { left = omega arith; right = omega arith; top = omega arith; bottom = omega arith })
 
--- all pixels that it goes to are asked for
-due_asked : (copy : Option KeptCopy) (pending : Option Area) (x y : ℕ) → is_copied (copy_asked copy pending) x y ≡ true → is_pending pending x y ≡ true
-due_asked copy None x y e = absurd (cc)
-due_asked None (Some outer) x y e = absurd (cc)
-due_asked (Some c) (Some outer) x y e = elim (cases_Bool (lies_in c.area outer)) [
-  | inl here ↦ wider c.area outer x y here (rw here at e)
-  | inr away ↦ (let none : false ≡ true = rw away at e in absurd (cc))
+-- all pixels that they go to are asked for
+copied_asked : (v : View) (pending : Area) (copies : List KeptCopy) (x y : ℕ) → v.pending ≡ Some pending → AllByRecursion (IsKept v) copies → is_copied copies x y ≡ true → is_in pending x y ≡ true
+copied_asked v pending [] x y is kept e = absurd (cc)
+copied_asked v pending (c ∷ cs) x y is kept e = elim (or_parts (is_in c.area x y) (is_copied cs x y) e) [
+  | inl here ↦ wider c.area pending x y (subst (λ (p : Option Area). IsAskedFor p c.area) is kept.0.asked) here
+  | inr there ↦ copied_asked v pending cs x y is kept.1 there
 ]
 
--- and stale
-due_stale : (v : View) (copy : Option KeptCopy) (x y : ℕ) → IfSome copy (IsKept v) → is_copied copy x y ≡ true → stale_at v x y ≡ true
-due_stale v None x y kept e = absurd (cc)
-due_stale v (Some c) x y kept e = kept.stale x y e
-
-pub due_kept : (v : View) → IsSound v → IfSome (copy_due v) (IsKept v)
-due_kept v sound = due_has (IsKept v) v.copy v.pending sound.copy
-
-kept_within : (v : View) (copy : Option KeptCopy) → IfSome copy (IsKept v) → IfSome copy (IsCopyWithin v.screen.width v.screen.height)
-kept_within v None kept = tt
-kept_within v (Some c) kept = kept.within
-
-lies_of : (v : View) (copy : Option KeptCopy) → IsSound v → IfSome copy (IsKept v) → IfSome copy (λ c. LiesWithin v.stale.width v.stale.height c.area)
-lies_of v None sound kept = tt
-lies_of v (Some c) sound kept = rw (sound.width, sound.height) kept.within.area.within
-
-pub due_copy_within : (v : View) → IsSound v → IfSome (copy_due v) (IsCopyWithin v.screen.width v.screen.height)
-due_copy_within v sound = kept_within v (copy_due v) (due_kept v sound)
-
-all_inside : (f : Format) (screen : Framebuffer) (width height : ℕ) (outer : Area) (pending : Option Area) (copy : Option KeptCopy) (areas : List Area) (drawn : List Drawn) → pending ≡ Some outer
-    → ((x y : ℕ) → is_copied copy x y ≡ true → is_pending pending x y ≡ true) → AllByRecursion (IsInside width height outer) areas → AreShown f screen copy areas drawn
-    → AllByRecursion (λ d. (x y : ℕ) → is_in d.area x y ≡ true → is_pending pending x y ≡ true) drawn
-all_inside f screen width height outer pending None areas drawn is asked inside are = areas_inside f screen width height outer pending areas drawn is inside are
-all_inside f screen width height outer pending (Some c) areas [] is asked inside are = absurd are
-all_inside f screen width height outer pending (Some c) areas (d ∷ drawn) is asked inside are =
-    (λ x y e. asked x y (sym (ap (λ (b : Area). is_in b x y) are.0.area_is) ∙ e), areas_inside f screen width height outer pending areas drawn is inside are.1)
+all_inside : (v : View) (pending : Area) (copies : List KeptCopy) (areas : List Area) (drawn : List Drawn) → v.pending ≡ Some pending → AllByRecursion (IsKept v) copies
+    → AllByRecursion (IsInside v.screen.width v.screen.height pending) areas → AreShown v.format v.screen copies areas drawn
+    → AllByRecursion (λ d. (x y : ℕ) → is_in d.area x y ≡ true → is_pending v.pending x y ≡ true) drawn
+all_inside v pending [] areas drawn is kept inside are = areas_inside v.format v.screen v.screen.width v.screen.height pending v.pending areas drawn is inside are
+all_inside v pending (c ∷ cs) areas [] is kept inside are = absurd are
+all_inside v pending (c ∷ cs) areas (d ∷ drawn) is kept inside are = (
+  λ x y e.
+      let here : is_in c.area x y ≡ true = sym (ap (λ (b : Area). is_in b x y) are.0.area_is) ∙ e in
+      ap (λ (p : Option Area). is_pending p x y) is ∙ wider c.area pending x y (subst (λ (p : Option Area). IsAskedFor p c.area) is kept.0.asked) here,
+  all_inside v pending cs areas drawn is kept.1 inside are.1,
+)
 
 -- ---- an update that is due
 
@@ -131,141 +104,132 @@ pub pending_part : (v : View) (pending : Area) → IsSound v → v.pending ≡ S
 pending_part v pending sound is = subst (λ (p : Option Area). IfSome p (IsPart v.screen.width v.screen.height)) is sound.pending
 
 due_inside : (v : View) (areas : List Area) → IsSound v → (due : AreDueIn v areas) → AllByRecursion (IsInside v.screen.width v.screen.height due.pending) areas
-due_inside v areas sound due = sent_inside due.left v.screen.width v.screen.height due.pending areas (pending_part v due.pending sound due.pending_is).within due.sent
+due_inside v areas sound due = sent_inside v.stale v.screen.width v.screen.height due.pending areas (pending_part v due.pending sound due.pending_is).within due.sent
 
-and_true : (a : Bool) → (a && true) ≡ a
-and_true true = refl
-and_true false = refl
-
--- a pixel of the screen that is left is stale, and isn't copied
-left_is : (v : View) (copy : Option KeptCopy) (left : PixelSet) (x y : ℕ) → IsSound v → IsWithout copy v.stale left → x < v.screen.width → y < v.screen.height
-    → holds left x y ≡ (stale_at v x y && not (is_copied copy x y))
-left_is v copy left x y sound is across down =
-    is.just x y (subst (λ (n : ℕ). x < n) (sym (is.size.width ∙ sound.width)) across) (subst (λ (n : ℕ). y < n) (sym (is.size.height ∙ sound.height)) down)
+-- a pixel that is asked for and to be sent is in an area
+due_sent : (v : View) (areas : List Area) → (due : AreDueIn v areas) → (x y : ℕ) → is_in due.pending x y ≡ true → holds v.stale x y ≡ true → is_in_some areas x y ≡ true
+due_sent v areas due x y here held = sent_cover v.stale due.pending areas due.sent x y here held
 
 -- a stale pixel that is asked for is copied, or in an area
-due_covers : (v : View) (areas : List Area) → IsSound v → AreDueIn v areas → (x y : ℕ) → is_pending v.pending x y ≡ true → stale_at v x y ≡ true
-    → (is_copied (copy_due v) x y || is_in_some areas x y) ≡ true
-due_covers v areas sound due x y asked old =
-    let at = on_screen v.screen.width v.screen.height v.pending sound.pending x y asked in
+due_covers : (v : View) (areas : List Area) → AreDueIn v areas → (x y : ℕ) → is_pending v.pending x y ≡ true → stale_at v x y ≡ true
+    → (is_copied v.copies x y || is_in_some areas x y) ≡ true
+due_covers v areas due x y asked old =
     let here : is_in due.pending x y ≡ true = sym (ap (λ (p : Option Area). is_pending p x y) due.pending_is) ∙ asked in
-    elim (cases_Bool (is_copied (copy_due v) x y)) [
-      | inl copied ↦ or_left (is_copied (copy_due v) x y) (is_in_some areas x y) copied
-      | inr plain ↦
-          (let held : holds due.left x y ≡ true = left_is v (copy_due v) due.left x y sound due.left_is at.0 at.1 ∙ rw (old, plain) refl in
-          or_right (is_copied (copy_due v) x y) (is_in_some areas x y) (sent_cover due.left due.pending areas due.sent x y here held))
+    elim (or_parts (holds v.stale x y) (is_copied v.copies x y) old) [
+      | inl held ↦ or_right (is_copied v.copies x y) (is_in_some areas x y) (due_sent v areas due x y here held)
+      | inr copied ↦ or_left (is_copied v.copies x y) (is_in_some areas x y) copied
     ]
 
--- what a viewer shows at a pixel of an update
-shows_pixel : (v : View) (areas : List Area) (drawn : List Drawn) (head : Head) (seen : Picture) (messages : List Stamped) (x y : ℕ) → IsRight head v seen messages
-    → AreShown v.format v.screen (copy_due v) areas drawn → (is_copied (copy_due v) x y || is_in_some areas x y) ≡ true
-    → all_painted v.format drawn seen x y ≡ converted v.format (color_at v.screen x y)
-shows_pixel v areas drawn head seen messages x y right are on =
-    let source = due_has (ShowsSource v.format v.screen seen) v.copy v.pending right.copied in
-    elim (cases_Bool (is_in_some areas x y)) [
-      | inl here ↦ all_here v.format v.screen (copy_due v) areas drawn are seen x y here
-      | inr away ↦ all_copied v.format v.screen (copy_due v) areas drawn are seen x y source (elim (or_parts (is_copied (copy_due v) x y) (is_in_some areas x y) on) [
-        | inl copied ↦ copied
-        | inr here ↦ absurd (cc)
-      ]) away
-    ]
+-- what a viewer shows once it has painted an update, at a pixel that isn't to be sent or is in an area
+shows_pixel : (v : View) (areas : List Area) (drawn : List Drawn) (seen : Picture) (x y : ℕ) → Sees v seen → AreShown v.format v.screen v.copies areas drawn
+    → x < v.screen.width → y < v.screen.height → (holds v.stale x y ≡ true → is_in_some areas x y ≡ true) → all_painted v.format drawn seen x y ≡ converted v.format (color_at v.screen x y)
+shows_pixel v areas drawn seen x y sees are across down sent = elim (cases_Bool (is_in_some areas x y)) [
+  | inl here ↦ all_here v.format v.screen v.copies areas drawn are seen x y here
+  | inr away ↦ all_carried v.format v.screen v.copies areas drawn are seen x y away
+      ∙ sees x y across down (false_from_ne_true (holds v.stale x y) (λ held. let here = sent held in absurd (cc)))
+]
 
--- and at another
-keeps_pixel : (v : View) (areas : List Area) (drawn : List Drawn) (seen : Picture) (x y : ℕ) → AreShown v.format v.screen (copy_due v) areas drawn
-    → (is_copied (copy_due v) x y || is_in_some areas x y) ≡ false → all_painted v.format drawn seen x y ≡ seen x y
-keeps_pixel v areas drawn seen x y are off =
-    let parts = neither (is_copied (copy_due v) x y) (is_in_some areas x y) off in
-    all_elsewhere v.format v.screen (copy_due v) areas drawn are seen x y parts.0 parts.1
+-- what is stale afterwards
+one_clean : (held copied here : Bool) → (copied ≡ true → held ≡ true → here ≡ true) → ((held && not here) || false) ≡ ((held || copied) && not (copied || here))
+one_clean true true true sent = refl
+one_clean true true false sent = let e : false ≡ true = sent refl refl in absurd (cc)
+one_clean true false true sent = refl
+one_clean true false false sent = refl
+one_clean false true here sent = refl
+one_clean false false here sent = refl
 
 -- an update of the areas that are due answers
 pub answers_areas : (v : View) (areas : List Area) (stale : PixelSet) (update : List ℕ) (drawn : List Drawn) → IsSound v → AreDueIn v areas
-    → update_at v.format v.screen.width v.screen.height update ≡ Got drawn [] → AreShown v.format v.screen (copy_due v) areas drawn
-    → stale.width ≡ v.stale.width → stale.height ≡ v.stale.height → AreJust stale (λ x y. holds v.stale x y && not (is_copied (copy_due v) x y || is_in_some areas x y))
-    → Answers v (record v { stale = stale; pending = None; asked_whole = false; copy = None }) update
-answers_areas v areas stale update drawn sound due reads are wide high just =
-    let covered : (x y : ℕ) → is_covered drawn x y ≡ (is_copied (copy_due v) x y || is_in_some areas x y) = λ x y. all_covered v.format v.screen (copy_due v) areas drawn are x y in
-    let told : (x y : ℕ) → x < v.screen.width → y < v.screen.height → holds stale x y ≡ (holds v.stale x y && not (is_copied (copy_due v) x y || is_in_some areas x y)) =
-    λ x y across down. just x y (subst (λ (n : ℕ). x < n) (sym (wide ∙ sound.width)) across) (subst (λ (n : ℕ). y < n) (sym (high ∙ sound.height)) down) in
+    → update_at v.format v.screen.width v.screen.height update ≡ Got drawn [] → AreShown v.format v.screen v.copies areas drawn
+    → SameSize v.stale stale → AreJust stale (λ x y. holds v.stale x y && not (is_in_some areas x y))
+    → Answers v (record v { stale = stale; pending = None; asked_whole = false; copies = [] }) update
+answers_areas v areas stale update drawn sound due reads are size just =
+    let new : View = record v { stale = stale; pending = None; asked_whole = false; copies = [] } in
+    let covered : (x y : ℕ) → is_covered drawn x y ≡ (is_copied v.copies x y || is_in_some areas x y) = λ x y. all_covered v.format v.screen v.copies areas drawn are x y in
+    let left : (x y : ℕ) → x < v.screen.width → y < v.screen.height → holds stale x y ≡ (holds v.stale x y && not (is_in_some areas x y)) =
+    λ x y across down. just x y (subst (λ (n : ℕ). x < n) (sym (size.width ∙ sound.width)) across) (subst (λ (n : ℕ). y < n) (sym (size.height ∙ sound.height)) down) in
+    let sees : (seen : Picture) → Sees v seen → Sees new (all_painted v.format drawn seen) = λ seen before x y across down clean.
+    shows_pixel v areas drawn seen x y before are across down (still_sent (holds v.stale x y) (is_in_some areas x y) (sym (left x y across down) ∙ clean)) in
     record {
       drawn = drawn;
       reads = reads;
-      inside = all_inside v.format v.screen v.screen.width v.screen.height due.pending v.pending (copy_due v) areas drawn due.pending_is (due_asked v.copy v.pending) (due_inside v areas sound due) are;
-      covers = λ x y a old. covered x y ∙ due_covers v areas sound due x y a old;
-      clean = λ x y across down. told x y across down ∙ ap (λ (b : Bool). holds v.stale x y && not b) (sym (covered x y));
+      inside = all_inside v due.pending v.copies areas drawn due.pending_is sound.copies (due_inside v areas sound due) are;
+      covers = λ x y a old. covered x y ∙ due_covers v areas due x y a old;
+      clean = λ x y across down.
+          ap (λ (b : Bool). b || false) (left x y across down)
+          ∙ one_clean (holds v.stale x y) (is_copied v.copies x y) (is_in_some areas x y)
+          (λ copied held. due_sent v areas due x y (copied_asked v due.pending v.copies x y due.pending_is sound.copies copied) held)
+          ∙ ap (λ (b : Bool). stale_at v x y && not b) (sym (covered x y));
       right = λ head seen messages right. record {
         shows = right.shows;
-        converts = λ x y across down clean. elim (cases_Bool (is_copied (copy_due v) x y || is_in_some areas x y)) [
-          | inl here ↦ shows_pixel v areas drawn head seen messages x y right are here
-          | inr away ↦ keeps_pixel v areas drawn seen x y are away
-              ∙ right.converts x y across down (still_clean (holds v.stale x y) (is_copied (copy_due v) x y || is_in_some areas x y) (sym (told x y across down) ∙ clean) away)
-        ];
-        copied = tt;
+        converts = converts_of new (all_painted v.format drawn seen) (sees seen right.copied);
+        copied = sees seen right.copied;
       };
       shown = λ head seen messages right x y a.
           let at = on_screen v.screen.width v.screen.height v.pending sound.pending x y a in
-          elim (cases_Bool (is_copied (copy_due v) x y || is_in_some areas x y)) [
-            | inl here ↦ shows_pixel v areas drawn head seen messages x y right are here
-            | inr away ↦ keeps_pixel v areas drawn seen x y are away
-                ∙ right.converts x y at.0 at.1 (false_from_ne_true (stale_at v x y) (λ old. let here = due_covers v areas sound due x y a old in absurd (cc)))
-          ];
+          let here : is_in due.pending x y ≡ true = sym (ap (λ (p : Option Area). is_pending p x y) due.pending_is) ∙ a in
+          shows_pixel v areas drawn seen x y right.copied are at.0 at.1 (due_sent v areas due x y here);
       kept = refl;
     }
 
 pub has_areas : (v : View) (areas : List Area) (update : List ℕ) (drawn : List Drawn) → AreDueIn v areas
-    → update_at v.format v.screen.width v.screen.height update ≡ Got drawn [] → AreShown v.format v.screen (copy_due v) areas drawn → HasAreasDue v update
+    → update_at v.format v.screen.width v.screen.height update ≡ Got drawn [] → AreShown v.format v.screen v.copies areas drawn → HasAreasDue v update
 has_areas v areas update drawn due reads are = record {
   drawn = drawn;
   reads = reads;
   areas = areas;
   due = due;
-  are = all_drawn v.format v.screen (copy_due v) areas drawn are;
+  are = all_drawn v.format v.screen v.copies areas drawn are;
 }
 
 -- ---- what is due
 
 -- the pixels that a copy goes to make an update due
-copy_makes_due : (v : View) (copy : Option KeptCopy) → v.started ≡ true → IfSome copy (IsKept v) → ((x y : ℕ) → is_copied copy x y ≡ true → is_pending v.pending x y ≡ true) → (copy ≡ None → IsDue v) → IsDue v
-copy_makes_due v None started kept asked other = other refl
-copy_makes_due v (Some c) started kept asked other =
-    let a = kept.within.area.across in
-    let d = kept.within.area.down in
+copy_makes_due : (v : View) (pending : Area) (copies : List KeptCopy) → v.copies ≡ copies → v.started ≡ true → v.pending ≡ Some pending → AllByRecursion (IsKept v) copies → (copies ≡ [] → IsDue v) → IsDue v
+copy_makes_due v pending [] are started is kept other = other refl
+copy_makes_due v pending (c ∷ cs) are started is kept other =
+    let a = kept.0.within.area.across in
+    let d = kept.0.within.area.down in
     let corner : is_in c.area c.area.x c.area.y ≡ true = is_in_true c.area c.area.x c.area.y (record { left = omega arith; right = omega arith; top = omega arith; bottom = omega arith }) in
-    record { started = started; x = c.area.x; y = c.area.y; asked = asked c.area.x c.area.y corner; stale = kept.stale c.area.x c.area.y corner }
+    let copied : is_copied v.copies c.area.x c.area.y ≡ true = ap (λ (l : List KeptCopy). is_copied l c.area.x c.area.y) are ∙ or_left (is_in c.area c.area.x c.area.y) (is_copied cs c.area.x c.area.y) corner in
+    record {
+      started = started;
+      x = c.area.x;
+      y = c.area.y;
+      asked = ap (λ (p : Option Area). is_pending p c.area.x c.area.y) is ∙ wider c.area pending c.area.x c.area.y (subst (λ (p : Option Area). IsAskedFor p c.area) is kept.0.asked) corner;
+      stale = or_right (holds v.stale c.area.x c.area.y) (is_copied v.copies c.area.x c.area.y) copied;
+    }
 
 -- and so do those of the first area
-area_makes_due : (v : View) (pending : Area) (left : PixelSet) (areas : List Area) → v.started ≡ true → v.pending ≡ Some pending → IsSound v → IsWithout (copy_due v) v.stale left
-    → AreSent left pending areas → (areas ≡ [] → ⊥) → IsDue v
-area_makes_due v pending left [] started is sound without sent some = absurd (some refl)
-area_makes_due v pending left (a ∷ areas) started is sound without sent some =
-    let pixel = sent_pixel left pending a areas sent in
-    let asked : is_pending v.pending pixel.x pixel.y ≡ true = ap (λ (p : Option Area). is_pending p pixel.x pixel.y) is ∙ pixel.there in
-    let at = on_screen v.screen.width v.screen.height v.pending sound.pending pixel.x pixel.y asked in
+area_makes_due : (v : View) (pending : Area) (areas : List Area) → v.started ≡ true → v.pending ≡ Some pending → AreSent v.stale pending areas → (areas ≡ [] → ⊥) → IsDue v
+area_makes_due v pending [] started is sent some = absurd (some refl)
+area_makes_due v pending (a ∷ areas) started is sent some =
+    let pixel = sent_pixel v.stale pending a areas sent in
     record {
       started = started;
       x = pixel.x;
       y = pixel.y;
-      asked = asked;
-      stale = (and_parts (stale_at v pixel.x pixel.y) (not (is_copied (copy_due v) pixel.x pixel.y)) (sym (left_is v (copy_due v) left pixel.x pixel.y sound without at.0 at.1) ∙ pixel.held)).0;
+      asked = ap (λ (p : Option Area). is_pending p pixel.x pixel.y) is ∙ pixel.there;
+      stale = or_left (holds v.stale pixel.x pixel.y) (is_copied v.copies pixel.x pixel.y) pixel.held;
     }
 
 -- the areas in which an update is due
-pub due_in : (v : View) (pending : Area) (left : PixelSet) (areas : List Area) → v.started ≡ true → v.pending ≡ Some pending → IsSound v → IsWithout (copy_due v) v.stale left
-    → AreSent left pending areas → (copy_due v ≡ None → areas ≡ [] → ⊥) → AreDueIn v areas
-due_in v pending left areas started is sound without sent some = record {
-  due = copy_makes_due v (copy_due v) started (due_kept v sound) (due_asked v.copy v.pending) (λ none. area_makes_due v pending left areas started is sound without sent (some none));
+pub due_in : (v : View) (pending : Area) (areas : List Area) (before after : List ℕ) → v.started ≡ true → v.pending ≡ Some pending → IsSound v → IsSent v pending areas before after → AreDueIn v areas
+due_in v pending areas before after started is sound sent = record {
+  due = copy_makes_due v pending v.copies refl started is sound.copies (λ none. area_makes_due v pending areas started is sent.sent (sent.some none));
   pending = pending;
   pending_is = is;
-  left = left;
-  left_is = without;
-  sent = sent;
+  sent = sent.sent;
 }
 
-pub none_due : (v : View) (pending : Area) (left : PixelSet) → v.pending ≡ Some pending → IsSound v → IsWithout (copy_due v) v.stale left → copy_due v ≡ None → AreSent left pending [] → IsDue v → ⊥
-none_due v pending left is sound without none sent due =
-    let at = on_screen v.screen.width v.screen.height v.pending sound.pending due.x due.y due.asked in
-    let uncopied : is_copied (copy_due v) due.x due.y ≡ false = ap (λ (o : Option KeptCopy). is_copied o due.x due.y) none in
-    none_sent left pending sent due.x due.y (sym (ap (λ (p : Option Area). is_pending p due.x due.y) is) ∙ due.asked)
-    (left_is v (copy_due v) left due.x due.y sound without at.0 at.1 ∙ rw (due.stale, uncopied) refl)
+-- none is due if nothing was written
+pub nothing_due : (v : View) (pending : Area) (before after : List ℕ) → v.pending ≡ Some pending → IsNothing v pending before after → IsDue v → ⊥
+nothing_due v pending before after is nothing due =
+    let uncopied : is_copied v.copies due.x due.y ≡ false = ap (λ (l : List KeptCopy). is_copied l due.x due.y) nothing.copies_are in
+    elim (or_parts (holds v.stale due.x due.y) (is_copied v.copies due.x due.y) due.stale) [
+      | inl held ↦ none_sent v.stale pending nothing.sent due.x due.y (sym (ap (λ (p : Option Area). is_pending p due.x due.y) is) ∙ due.asked) held
+      | inr copied ↦ absurd (cc)
+    ]
 
 -- ---- what a viewer reads
 
@@ -274,24 +238,28 @@ abbrev pub AreRead : Type 0
 AreRead = (format : Format) → (width height : ℕ) → (parts : List Part) → (bytes : List ℕ)
     → AreParts format parts bytes → length parts < 2 ^ 16 → All (PartLiesWithin width height) parts → DrawsParts format width height parts bytes
 
--- an update of the areas that are due is read as a rectangle for each, after that of a copy
+-- an update of the areas that are due is read as a rectangle for each, after those of the copies
 pub record IsReadAs (v : View) (areas : List Area) (update : List ℕ) : Type 0 where
   pub drawn : List Drawn
   pub reads : update_at v.format v.screen.width v.screen.height update ≡ Got drawn []
-  pub are : AreShown v.format v.screen (copy_due v) areas drawn
+  pub are : AreShown v.format v.screen v.copies areas drawn
 
-copy_few : (copy : Option KeptCopy) (list : List Part) → length (copy_parts copy ++ list) ≤ length list + 1
-copy_few None list = omega arith
-copy_few (Some c) list = omega arith
+copies_few : (copies : List KeptCopy) (list : List Part) → length (copy_parts copies ++ list) ≡ length copies + length list
+copies_few [] list = omega arith
+copies_few (c ∷ cs) list = omega (arith, copies_few cs list)
 
-pub due_read : (v : View) (areas : List Area) (update : List ℕ) → AreRead → IsSound v → AreDueIn v areas → IsUpdateOf v.format v.encoding v.screen (copy_due v) areas update → IsReadAs v areas update
+copies_within : (v : View) (copies : List KeptCopy) → AllByRecursion (IsKept v) copies → AllByRecursion (IsCopyWithin v.screen.width v.screen.height) copies
+copies_within v copies kept = all_weaker (IsKept v) (IsCopyWithin v.screen.width v.screen.height) copies (λ c k. k.within) kept
+
+pub due_read : (v : View) (areas : List Area) (update : List ℕ) → AreRead → IsSound v → AreDueIn v areas → IsUpdateOf v.format v.encoding v.screen v.copies areas update → IsReadAs v areas update
 due_read v areas update law sound due is =
-    let many : length areas ≤ 4096 = sent_few due.left due.pending areas due.sent in
-    let all : length (copy_parts (copy_due v) ++ is.parts) ≤ length is.parts + 1 = copy_few (copy_due v) is.parts in
+    let many : length areas ≤ 4096 = sent_few v.stale due.pending areas due.sent in
+    let few = sound.few in
+    let all : length (copy_parts v.copies ++ is.parts) ≡ length v.copies + length is.parts = copies_few v.copies is.parts in
     let same : length areas ≡ length is.parts = zip_length (IsScreenPart v.format v.encoding v.screen) areas is.parts is.each in
-    let draws = law v.format v.screen.width v.screen.height (copy_parts (copy_due v) ++ is.parts) update is.are (omega arith)
-    (parts_inside v.screen.width v.screen.height v.format v.encoding v.screen (copy_due v) due.pending areas is.parts (due_copy_within v sound) (due_inside v areas sound due) is.each) in
-    record { drawn = draws.drawn; reads = draws.reads; are = parts_shown v.format v.encoding v.screen (copy_due v) areas is.parts draws.drawn is.each draws.each }
+    let draws = law v.format v.screen.width v.screen.height (copy_parts v.copies ++ is.parts) update is.are (omega arith)
+    (parts_inside v.screen.width v.screen.height v.format v.encoding v.screen v.copies due.pending areas is.parts (copies_within v v.copies sound.copies) (due_inside v areas sound due) is.each) in
+    record { drawn = draws.drawn; reads = draws.reads; are = parts_shown v.format v.encoding v.screen v.copies areas is.parts draws.drawn is.each draws.each }
 
 -- the areas can be sent
 all_within : (width height : ℕ) (outer : Area) (areas : List Area) → AllByRecursion (IsInside width height outer) areas → All (LiesWithin width height) areas
@@ -303,88 +271,25 @@ sent_within set width height pending areas within sent = all_within width height
 
 -- ---- an update that was written
 
-and_not : (h a b : Bool) → ((h && not a) && not b) ≡ (h && not (a || b))
-and_not true true b = refl
-and_not true false b = refl
-and_not false a b = refl
-
--- what is taken as clean
-pub all_cleaned : (copy : Option KeptCopy) (areas : List Area) (old left new : PixelSet) → IsWithout copy old left → SameSize left new → AreJust new (λ x y. holds left x y && not (is_in_some areas x y))
-    → AreJust new (λ x y. holds old x y && not (is_copied copy x y || is_in_some areas x y))
-all_cleaned copy areas old left new without size just x y across down =
-    just x y across down
-    ∙ ap (λ (b : Bool). b && not (is_in_some areas x y)) (without.just x y (subst (λ (n : ℕ). x < n) size.width across) (subst (λ (n : ℕ). y < n) size.height down))
-    ∙ and_not (holds old x y) (is_copied copy x y) (is_in_some areas x y)
-
--- the copy that was asked for is the one that is due
-pub copy_is_due : (v : View) (pending : Area) (copy : Option KeptCopy) → v.pending ≡ Some pending → copy ≡ copy_in v.copy pending → copy ≡ copy_due v
-copy_is_due v pending copy is asked = asked ∙ sym (ap (λ (p : Option Area). copy_asked v.copy p) is)
-
--- an update of a view was written, with these pixels left
-pub record IsWritten (v : View) (left : PixelSet) (areas : List Area) (before after : List ℕ) : Type 0 where
-  pub due : AreDueIn v areas
-  pub without : IsWithout (copy_due v) v.stale left
-  pub written : Appends (IsUpdateOf v.format v.encoding v.screen (copy_due v) areas) before after
-
-pub is_written : (v : View) (pending : Area) (left : PixelSet) (copy : Option KeptCopy) (areas : List Area) (before after : List ℕ) → v.started ≡ true → v.pending ≡ Some pending
-    → copy ≡ copy_in v.copy pending → IsSound v → IsWithout copy v.stale left → IsSent (record v { stale = left }) pending copy areas before after → IsWritten v left areas before after
-is_written v pending left copy areas before after started is asked sound without sent =
-    let same = copy_is_due v pending copy is asked in
-    let now : IsWithout (copy_due v) v.stale left = subst (λ (o : Option KeptCopy). IsWithout o v.stale left) same without in
-    record {
-      due = due_in v pending left areas started is sound now sent.sent (λ none. sent.some (same ∙ none));
-      without = now;
-      written = subst (λ (o : Option KeptCopy). Appends (IsUpdateOf v.format v.encoding v.screen o areas) before after) same sent.written;
-    }
-
-pub written_answers : (v : View) (left stale : PixelSet) (areas : List Area) (before after : List ℕ) → AreRead → IsSound v → IsWritten v left areas before after
-    → SameSize left stale → AreJust stale (λ x y. holds left x y && not (is_in_some areas x y))
-    → Appends (Answers v (record v { stale = stale; pending = None; asked_whole = false; copy = None })) before after
-written_answers v left stale areas before after law sound w size just =
-    appended (IsUpdateOf v.format v.encoding v.screen (copy_due v) areas) (Answers v (record v { stale = stale; pending = None; asked_whole = false; copy = None })) before after
+pub written_answers : (v : View) (pending : Area) (stale : PixelSet) (areas : List Area) (before after : List ℕ) → AreRead → IsSound v → AreDueIn v areas → IsSent v pending areas before after
+    → SameSize v.stale stale → AreJust stale (λ x y. holds v.stale x y && not (is_in_some areas x y))
+    → Appends (Answers v (record v { stale = stale; pending = None; asked_whole = false; copies = [] })) before after
+written_answers v pending stale areas before after law sound due sent size just =
+    appended (IsUpdateOf v.format v.encoding v.screen v.copies areas) (Answers v (record v { stale = stale; pending = None; asked_whole = false; copies = [] })) before after
     (λ update u.
-    let read = due_read v areas update law sound w.due u in
-    answers_areas v areas stale update read.drawn sound w.due read.reads read.are (size.width ∙ w.without.size.width) (size.height ∙ w.without.size.height)
-    (all_cleaned (copy_due v) areas v.stale left stale w.without size just))
-    w.written
+    let read = due_read v areas update law sound due u in
+    answers_areas v areas stale update read.drawn sound due read.reads read.are size just)
+    sent.written
 
-pub written_areas : (v : View) (left : PixelSet) (areas : List Area) (before after : List ℕ) → AreRead → IsSound v → IsWritten v left areas before after → Appends (HasAreasDue v) before after
-written_areas v left areas before after law sound w =
-    appended (IsUpdateOf v.format v.encoding v.screen (copy_due v) areas) (HasAreasDue v) before after
-    (λ update u. let read = due_read v areas update law sound w.due u in has_areas v areas update read.drawn w.due read.reads read.are)
-    w.written
+pub written_areas : (v : View) (pending : Area) (areas : List Area) (before after : List ℕ) → AreRead → IsSound v → AreDueIn v areas → IsSent v pending areas before after → Appends (HasAreasDue v) before after
+written_areas v pending areas before after law sound due sent =
+    appended (IsUpdateOf v.format v.encoding v.screen v.copies areas) (HasAreasDue v) before after
+    (λ update u. let read = due_read v areas update law sound due u in has_areas v areas update read.drawn due read.reads read.are)
+    sent.written
 
-pub written_encoded : (v : View) (left : PixelSet) (areas : List Area) (before after : List ℕ) → IsWritten v left areas before after → Appends (IsEncodedFor v) before after
-written_encoded v left areas before after w =
-    appended (IsUpdateOf v.format v.encoding v.screen (copy_due v) areas) (IsEncodedFor v) before after (λ update u. record { areas = areas; is = u }) w.written
-
--- nothing is due if nothing was written
-pub nothing_due : (v : View) (pending : Area) (left : PixelSet) (copy : Option KeptCopy) (before after : List ℕ) → v.pending ≡ Some pending → copy ≡ copy_in v.copy pending → IsSound v
-    → IsWithout copy v.stale left → IsNothing (record v { stale = left }) pending copy before after → IsDue v → ⊥
-nothing_due v pending left copy before after is asked sound without nothing =
-    let same = copy_is_due v pending copy is asked in
-    none_due v pending left is sound (subst (λ (o : Option KeptCopy). IsWithout o v.stale left) same without) (sym same ∙ nothing.copy_is) nothing.sent
-
--- the pixels that a copy goes to lie on the screen
-pub copy_lies : (v : View) (pending : Area) (copy : Option KeptCopy) → copy ≡ copy_in v.copy pending → IsSound v → IfSome copy (λ c. LiesWithin v.stale.width v.stale.height c.area)
-copy_lies v pending copy asked sound =
-    subst (λ (o : Option KeptCopy). IfSome o (λ c. LiesWithin v.stale.width v.stale.height c.area)) (sym asked)
-    (lies_of v (copy_in v.copy pending) sound (due_has (IsKept v) v.copy (Some pending) sound.copy))
-
--- they are all put back
-pub all_back : (v : View) (pending : Area) (copy : Option KeptCopy) (left back : PixelSet) → copy ≡ copy_in v.copy pending → IsSound v → IsWithout copy v.stale left → SameSize left back
-    → AreJust back (λ x y. is_copied copy x y || holds left x y) → length v.stale.pixels ≡ v.stale.height * v.stale.width → length back.pixels ≡ back.height * back.width → back ≡ v.stale
-all_back v pending copy left back asked sound without size just many many_back =
-    same_set v.stale back many many_back (record { width = size.width ∙ without.size.width; height = size.height ∙ without.size.height })
-    (λ x y across down.
-    let a : x < left.width = subst (λ (n : ℕ). x < n) (sym without.size.width) across in
-    let d : y < left.height = subst (λ (n : ℕ). y < n) (sym without.size.height) down in
-    just x y (subst (λ (n : ℕ). x < n) (sym size.width) a) (subst (λ (n : ℕ). y < n) (sym size.height) d)
-    ∙ ap (λ (b : Bool). is_copied copy x y || b) (without.just x y a d)
-    ∙ elim (cases_Bool (is_copied copy x y)) [
-      | inl here ↦ rw here (sym (due_stale v copy x y (subst (λ (o : Option KeptCopy). IfSome o (IsKept v)) (sym asked) (due_has (IsKept v) v.copy (Some pending) sound.copy)) here))
-      | inr away ↦ rw away (and_true (holds v.stale x y))
-    ])
+pub written_encoded : (v : View) (pending : Area) (areas : List Area) (before after : List ℕ) → IsSent v pending areas before after → Appends (IsEncodedFor v) before after
+written_encoded v pending areas before after sent =
+    appended (IsUpdateOf v.format v.encoding v.screen v.copies areas) (IsEncodedFor v) before after (λ update u. record { areas = areas; is = u }) sent.written
 
 -- there are areas
 pub some_areas : (areas : List Area) (n : ℕ) → n ≡ length areas → false ≡ (n == 0) → areas ≡ [] → ⊥

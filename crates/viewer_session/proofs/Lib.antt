@@ -1,5 +1,5 @@
 pub mod Views
-pub mod Meetings
+pub mod Carried
 pub mod Paintings
 pub mod Zipped
 pub mod Sendings

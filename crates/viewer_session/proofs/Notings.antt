@@ -1,7 +1,12 @@
 -- Views that go on unpainted, beside those that would be painted: whatever is said of the one
 -- follows from what is said of the other.
-use Rattle.std.proofs.Common.{◌≡◌, ℕ, ◌+◌, ◌*◌, ◌/◌, ◌%◌, ◌<◌, inl, inr, List, [], ◌∷◌, length, map, refl, sym, ap, ◌∙◌, subst, arith}
-use Rattle.std.specs.Prelude.{◌||◌, slice_range, Option, Some, None, IfSome, MatchOption}
+use Rattle.std.proofs.Common.{◌≡◌, ℕ, ◌+◌, ◌*◌, ◌/◌, ◌%◌, ◌<◌, inl, inr, Bool, true, false, List, [], ◌∷◌, length, map, refl, sym, ap, ◌∙◌, subst, arith}
+use Rattle.std.specs.Prelude.{not, ◌&&◌, ◌||◌, slice_range, Option, Some, None, IfSome}
+use Rattle.terms.specs.declared.area.Area.{Area}
+use Rattle.terms.specs.Area.{is_in}
+use Rattle.pixel_sets.specs.Pixels.{holds}
+use Rattle.pixel_sets.specs.Pixels as sets
+use Rattle.shared_updates.specs.Copies.{is_copied, is_moved}
 use Rattle.std.specs.List.{range_with_len}
 use Rattle.std.proofs.lemmas.List.FromFn.{get_or-map-range_with_len}
 use Rattle.std.proofs.lemmas.Nat.{div-mul-add, mod-mul-add, mul-add-lt}
@@ -20,10 +25,10 @@ use Rattle.replay.specs.Slices.{Stands}
 use Rattle.replay.specs.declared.slice.Slice.{Slice}
 use Rattle.shared_updates.specs.declared.copy.KeptCopy.{KeptCopy}
 use Rattle.viewer_session.specs.declared.view.View.{View}
-use Rattle.viewer_session.specs.Copies.{ShowsSource}
 use Rattle.viewer_session.specs.View.{IsRight, IsSound, IsNext, IsKept, CanBeKept, IsKeptAfter, IsPainted, ArePainted, AreAllPainted, Begins, GoesOn, AreStale, stale_at, is_there, is_stale_after}
 use Rattle.viewer_session.specs.Shown.{IsPaintedOver, ArePaintedOver, AreAllPaintedOver, start_or}
 use Rattle.viewer_session.specs.Noting.{IsNoted, AreNoted, AreAllNoted, BeginsUnpainted, NotesSlice}
+use Rattle.viewer_session.proofs.Carried.{all_weaker, is_copied_more, moved_inside}
 use Rattle.viewer_session.proofs.Paintings.{Step, sound_on, HasGone, has_gone}
 
 -- ---- a screen that would be painted
@@ -42,34 +47,76 @@ made_has s p x y across down =
 -- ---- what doesn't look at the screen
 
 can_with : (v : View) (s : Framebuffer) (r : Rectangle) (bytes : List ℕ) (c : KeptCopy) → CanBeKept v r bytes c → CanBeKept (record v { screen = s }) r bytes c
-can_with v s r bytes c can = record { is = can.is; takes = can.takes; asked = can.asked; clean = can.clean }
+can_with v s r bytes c can = record { is = can.is; takes = can.takes; whole = can.whole; room = can.room; asked = can.asked; clean = can.clean }
 
 can_without : (v : View) (s : Framebuffer) (r : Rectangle) (bytes : List ℕ) (c : KeptCopy) → CanBeKept (record v { screen = s }) r bytes c → CanBeKept v r bytes c
-can_without v s r bytes c can = record { is = can.is; takes = can.takes; asked = can.asked; clean = can.clean }
+can_without v s r bytes c can = record { is = can.is; takes = can.takes; whole = can.whole; room = can.room; asked = can.asked; clean = can.clean }
 
-own_with : (v : View) (s : Framebuffer) (r : Rectangle) (bytes : List ℕ) (o : Option KeptCopy)
-    → MatchOption o ((c : KeptCopy) → CanBeKept v r bytes c → ⊥) (CanBeKept v r bytes)
-    → MatchOption o ((c : KeptCopy) → CanBeKept (record v { screen = s }) r bytes c → ⊥) (CanBeKept (record v { screen = s }) r bytes)
-own_with v s r bytes None own = λ c can. own c (can_without v s r bytes c can)
-own_with v s r bytes (Some c) own = can_with v s r bytes c own
+kept_after_with : (old new : View) (s t : Framebuffer) (r : Rectangle) (bytes : List ℕ) → IsKeptAfter old new r bytes → IsKeptAfter (record old { screen = s }) (record new { screen = t }) r bytes
+kept_after_with old new s t r bytes (inl keeps) =
+    inl (record { copy = keeps.copy; can = can_with old s r bytes keeps.copy keeps.can; copies = keeps.copies; left = keeps.left })
+kept_after_with old new s t r bytes (inr keeps) =
+    inr (record { none = λ c can. keeps.none c (can_without old s r bytes c can); copies = keeps.copies; left = keeps.left })
 
-kept_after_with : (v : View) (s : Framebuffer) (r : Rectangle) (bytes : List ℕ) (o : Option KeptCopy) → IsKeptAfter v r bytes o → IsKeptAfter (record v { screen = s }) r bytes o
-kept_after_with v s r bytes o (inl on) = inl on
-kept_after_with v s r bytes o (inr own) = inr (record { dropped = own.dropped; own = own_with v s r bytes o own.own })
-
-kept_with : (v : View) (s : Framebuffer) (o : Option KeptCopy) → s.width ≡ v.screen.width → s.height ≡ v.screen.height → IfSome o (IsKept v) → IfSome o (IsKept (record v { screen = s }))
-kept_with v s None wide high kept = tt
-kept_with v s (Some c) wide high kept = record { within = rw (wide, high) kept.within; stale = kept.stale }
+kept_with : (v : View) (s : Framebuffer) → s.width ≡ v.screen.width → s.height ≡ v.screen.height → (c : KeptCopy) → IsKept v c → IsKept (record v { screen = s }) c
+kept_with v s wide high c kept = record { within = rw (wide, high) kept.within; asked = kept.asked }
 
 pub sound_with : (v : View) (s : Framebuffer) → s.width ≡ v.screen.width → s.height ≡ v.screen.height → IsSound v → IsSound (record v { screen = s })
 sound_with v s wide high sound = record {
   width = sound.width ∙ sym wide;
   height = sound.height ∙ sym high;
   pending = rw (wide, high) sound.pending;
-  copy = kept_with v s v.copy wide high sound.copy;
+  copies = all_weaker (IsKept v) (IsKept (record v { screen = s })) v.copies (kept_with v s wide high) sound.copies;
+  few = sound.few;
 }
 
 -- ---- a rectangle
+
+or_true : (a : Bool) → (a || true) ≡ true
+or_true true = refl
+or_true false = refl
+
+-- which pixels are stale then
+one_stale : (moved held here copied : Bool) → (moved ≡ true → here ≡ true) → ((moved || (held && not here)) || (copied || here)) ≡ (here || (held || copied))
+one_stale true held true copied inside = refl
+one_stale true held false copied inside = let e : false ≡ true = inside refl in absurd (cc)
+one_stale false true true copied inside = or_true copied
+one_stale false true false copied inside = refl
+one_stale false false true copied inside = or_true copied
+one_stale false false false true inside = refl
+one_stale false false false false inside = refl
+
+or_or : (a b c : Bool) → ((a || b) || c) ≡ (a || (b || c))
+or_or true b c = refl
+or_or false b c = refl
+
+stale_after : (old new : View) (r : Rectangle) (bytes : List ℕ) (x y : ℕ) → IsKeptAfter old new r bytes → x < new.stale.width → y < new.stale.height → stale_at new x y ≡ (is_in r.area x y || stale_at old x y)
+stale_after old new r bytes x y (inl keeps) across down =
+    let c = keeps.copy in
+    let left = keeps.left in
+    ap (λ (b : Bool). b || is_copied new.copies x y) (left.left x y across down)
+    ∙ ap (λ (l : List KeptCopy). (is_moved c left.stale x y || (holds old.stale x y && not (is_in c.area x y))) || is_copied l x y) keeps.copies
+    ∙ ap (λ (b : Bool). (is_moved c left.stale x y || (holds old.stale x y && not (is_in c.area x y))) || b) (is_copied_more old.copies c x y)
+    ∙ one_stale (is_moved c left.stale x y) (holds old.stale x y) (is_in c.area x y) (is_copied old.copies x y) (moved_inside c old.stale left.stale x y left.smallest)
+    ∙ ap (λ (a : Area). is_in a x y || stale_at old x y) keeps.can.is.area
+stale_after old new r bytes x y (inr keeps) across down =
+    ap (λ (b : Bool). b || is_copied new.copies x y) (keeps.left x y across down)
+    ∙ ap (λ (l : List KeptCopy). (is_in r.area x y || holds old.stale x y) || is_copied l x y) keeps.copies
+    ∙ or_or (is_in r.area x y) (holds old.stale x y) (is_copied old.copies x y)
+
+pub noted_of : (old new : View) (r : Rectangle) (bytes : List ℕ) → IsSound old → sets.SameSize old.stale new.stale → new ≡ record old { stale = new.stale; copies = new.copies }
+    → IsKeptAfter old new r (slice_range bytes r.start r.end) → IsNoted old new bytes r
+noted_of old new r bytes sound size kept keeps =
+    let screen : new.screen ≡ old.screen = ap (λ (v : View). v.screen) kept in
+    record {
+      stale_size = size;
+      stale = λ x y across down.
+          stale_after old new r (slice_range bytes r.start r.end) x y keeps
+          (subst (λ (k : ℕ). x < k) (ap (λ (f : Framebuffer). f.width) screen ∙ sym (size.width ∙ sound.width)) across)
+          (subst (λ (k : ℕ). y < k) (ap (λ (f : Framebuffer). f.height) screen ∙ sym (size.height ∙ sound.height)) down);
+      copies = keeps;
+      kept = kept;
+    }
 
 pub noted_step : (bytes : List ℕ) (r : Rectangle) (old new : View) (s : Framebuffer) → s.width ≡ old.screen.width → s.height ≡ old.screen.height → IsNoted old new bytes r
     → IsPainted (record old { screen = s }) (record new { screen = made s (painted_rectangle bytes r (color_at s)) }) bytes r
@@ -82,7 +129,7 @@ noted_step bytes r old new s wide high is =
       stale = λ x y across down.
           is.stale x y (subst (λ (n : ℕ). x < n) (wide ∙ sym (ap (λ (f : Framebuffer). f.width) screen)) across)
           (subst (λ (n : ℕ). y < n) (high ∙ sym (ap (λ (f : Framebuffer). f.height) screen)) down);
-      copy = kept_after_with old s r (slice_range bytes r.start r.end) new.copy is.copy;
+      copies = kept_after_with old new s (made s (painted_rectangle bytes r (color_at s))) r (slice_range bytes r.start r.end) is.copies;
       kept = ap (λ (v : View). record v { screen = made s (painted_rectangle bytes r (color_at s)) }) is.kept;
     }
 
@@ -147,15 +194,6 @@ pub start_sized : (start : Option Framebuffer) (s : Framebuffer) → IfSome star
 start_sized None s is = (refl, refl)
 start_sized (Some start) s is = (is.0, is.1)
 
-copied_with : (v : View) (t s : Framebuffer) (seen : Picture) (o : Option KeptCopy) → t.width ≡ s.width → t.height ≡ s.height
-    → ((x y : ℕ) → x < s.width → y < s.height → color_at t x y ≡ color_at s x y) → IfSome o (IsKept (record v { screen = t }))
-    → IfSome o (ShowsSource v.format t seen) → IfSome o (ShowsSource v.format s seen)
-copied_with v t s seen None wide high same kept shows = tt
-copied_with v t s seen (Some c) wide high same kept shows = λ x y across down.
-    let columns = kept.within.area.within.columns in
-    let rows = kept.within.area.within.rows in
-    shows x y across down ∙ ap (λ (k : Color). converted v.format k) (same (c.area.x + x) (c.area.y + y) (omega arith) (omega arith))
-
 -- what a view is that has gone on by a slice to a screen
 pub record HasNoted (old new : View) (slice : Slice) (screen : Framebuffer) : Type 0 where
   pub sound : IsSound new
@@ -201,7 +239,8 @@ has_noted old new slice screen next size n sound =
             shows = here;
             converts = λ x y a d clean.
                 r.converts x y (subst (λ (k : ℕ). x < k) (sym across) a) (subst (λ (k : ℕ). y < k) (sym down) d) clean ∙ ap (λ (k : Color). converted noted.format k) (same x y a d);
-            copied = copied_with noted t screen seen noted.copy across down same gone.sound.copy r.copied;
+            copied = λ x y a d clean.
+                r.copied x y (subst (λ (k : ℕ). x < k) (sym across) a) (subst (λ (k : ℕ). y < k) (sym down) d) clean ∙ ap (λ (k : Color). converted noted.format k) (same x y a d);
           };
     })
 
@@ -226,7 +265,7 @@ step_over bytes r old new s t wide high is on =
       stale = λ x y across down.
           is.stale x y (subst (λ (n : ℕ). x < n) (on.size.width ∙ wide ∙ sym (ap (λ (f : Framebuffer). f.width) screen)) across)
           (subst (λ (n : ℕ). y < n) (on.size.height ∙ high ∙ sym (ap (λ (f : Framebuffer). f.height) screen)) down);
-      copy = kept_after_with old s r (slice_range bytes r.start r.end) new.copy is.copy;
+      copies = kept_after_with old new s t r (slice_range bytes r.start r.end) is.copies;
       kept = ap (λ (v : View). record v { screen = t }) is.kept;
     }
 

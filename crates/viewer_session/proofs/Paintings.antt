@@ -1,8 +1,8 @@
 -- Views that go on by rectangles and messages.
-use Rattle.std.proofs.Common.{◌≡◌, ℕ, ◌+◌, ◌-◌, ◌<◌, ◌≤◌, inl, inr, Bool, true, false, List, [], ◌∷◌, ◌++◌, length, refl, sym, ap, ◌∙◌, subst, append-nil, arith}
-use Rattle.std.specs.Prelude.{◌||◌, All, slice_range, Option, Some, None, IfSome, MatchOption}
+use Rattle.std.proofs.Common.{◌≡◌, ℕ, ◌+◌, ◌-◌, ◌<◌, ◌≤◌, inl, inr, Bool, true, false, List, [], ◌∷◌, ◌++◌, length, refl, sym, ap, ◌∙◌, subst, append-nil, length-append, arith}
+use Rattle.std.specs.Prelude.{not, ◌&&◌, ◌||◌, All, slice_range, Option, Some, None, IfSome}
 use Rattle.std.specs.List.{AllByRecursion}
-use Rattle.std.proofs.lemmas.Bool.{false_from_ne_true}
+use Rattle.std.proofs.lemmas.Bool.{cases_Bool, false_from_ne_true}
 use Rattle.std.proofs.lemmas.List.{append_assoc}
 use Rattle.std.proofs.lemmas.List.Elements.{recursion_from_All, All-nil, All-cons}
 use Rattle.pixel_format.specs.declared.Color.{Color}
@@ -10,8 +10,9 @@ use Rattle.pixel_format.specs.Format.{Format, host_format}
 use Rattle.pixel_format.specs.Pixel.{converted}
 use Rattle.pixel_format.specs.Canvas.{Picture}
 use Rattle.terms.specs.declared.area.Area.{Area}
-use Rattle.terms.specs.Area.{is_in, LiesWithin}
-use Rattle.terms.proofs.Areas.{in_is, is_in_true, or_left, or_right}
+use Rattle.terms.specs.Area.{is_in, IsSmallestOf, LiesWithin}
+use Rattle.pixel_sets.specs.Pixels.{holds}
+use Rattle.terms.proofs.Areas.{in_is}
 use Rattle.rect_data.specs.declared.encoding.Encoding.{Encoding}
 use Rattle.rect_data.specs.Data.{AreData, IsSource}
 use Rattle.rfb_wire.specs.declared.message.Rectangle.{Rectangle}
@@ -31,32 +32,31 @@ use Rattle.replay.specs.Slices.{StartStands, Stands}
 use Rattle.replay.specs.declared.slice.Slice.{Slice}
 use Rattle.shared_updates.specs.declared.copy.KeptCopy.{KeptCopy}
 use Rattle.viewer_session.specs.declared.view.View.{View}
-use Rattle.shared_updates.specs.Copies.{source}
-use Rattle.viewer_session.specs.Copies.{IsPart, ShowsSource}
-use Rattle.viewer_session.specs.View.{IsRight, IsSound, IsNext, IsKept, IsCopyBy, CanBeKept, Meet, IsKeptAfter, IsPainted, ArePainted, AreAllPainted, Begins, GoesOn, AreStale, stale_at, is_there, is_touched, is_touched_by, is_stale_after}
-use Rattle.viewer_session.proofs.Views.{Converts, neither, screen_on}
-
--- what a viewer shows of a view
-pub record Sees (v : View) (seen : Picture) : Type 0 where
-  pub converts : Converts v seen
-  pub copied : IfSome v.copy (ShowsSource v.format v.screen seen)
+use Rattle.shared_updates.specs.Copies.{source, IsPart, IsCopyWithin, is_copied, copied, all_copied, is_moved}
+use Rattle.viewer_session.specs.View.{IsRight, IsSound, IsNext, IsKept, IsAskedFor, IsCopyBy, IsKeptAfter, IsPainted, ArePainted, AreAllPainted, Begins, GoesOn, AreStale, stale_at, is_there, is_touched, is_touched_by, is_stale_after}
+use Rattle.viewer_session.proofs.Views.{Sees, neither, screen_on}
+use Rattle.viewer_session.proofs.Carried.{copied_more, converts_of, stale_in, moved_here, all_more, all_weaker}
 
 -- ---- a rectangle
 
--- the source of a pixel of a rectangle that copies
-copied_from : (r : Rectangle) (bytes : List ℕ) (c : KeptCopy) (before : Picture) (x y : ℕ) → IsCopyBy r bytes c → x < c.area.w → y < c.area.h
-    → painted_data host_format r.encoding r.area bytes before (c.area.x + x) (c.area.y + y) ≡ before (c.source_x + x) (c.source_y + y)
+-- a rectangle that copies paints what its copy does
+painted_copy : (r : Rectangle) (bytes : List ℕ) (c : KeptCopy) (before : Picture) (x y : ℕ) → IsCopyBy r bytes c → painted_data host_format r.encoding r.area bytes before x y ≡ copied c before x y
 unfolding painted_data copied_picture
-copied_from r bytes c before x y is across down =
-    let here : is_in c.area (c.area.x + x) (c.area.y + y) ≡ true = is_in_true c.area (c.area.x + x) (c.area.y + y) (record { left = omega arith; right = omega arith; top = omega arith; bottom = omega arith }) in
-    let at : is_in r.area (c.area.x + x) (c.area.y + y) ≡ true = sym (ap (λ (a : Area). is_in a (c.area.x + x) (c.area.y + y)) is.area) ∙ here in
-    let column : (source c).x + (c.area.x + x - c.area.x) ≡ c.source_x + x = omega arith in
-    let row : (source c).y + (c.area.y + y - c.area.y) ≡ c.source_y + y = omega arith in
-    rw (at, is.encoding) (
-    ap (λ (s : Area). before (s.x + (c.area.x + x - r.area.x)) (s.y + (c.area.y + y - r.area.y))) (sym is.source_is)
-    ∙ ap (λ (a : Area). before (c.source_x + (c.area.x + x - a.x)) (c.source_y + (c.area.y + y - a.y))) (sym is.area)
-    ∙ ap (λ (n : ℕ). before n (c.source_y + (c.area.y + y - c.area.y))) column
-    ∙ ap (λ (n : ℕ). before (c.source_x + x) n) row)
+painted_copy r bytes c before x y is = elim (cases_Bool (is_in c.area x y)) [
+  | inl here ↦
+      (let at : is_in r.area x y ≡ true = sym (ap (λ (a : Area). is_in a x y) is.area) ∙ here in
+      rw (at, here, is.encoding) (
+      ap (λ (s : Area). before (s.x + (x - r.area.x)) (s.y + (y - r.area.y))) (sym is.source_is)
+      ∙ ap (λ (a : Area). before (c.source_x + (x - a.x)) (c.source_y + (y - a.y))) (sym is.area)))
+  | inr off ↦
+      (let at : is_in r.area x y ≡ false = sym (ap (λ (a : Area). is_in a x y) is.area) ∙ off in
+      rw (at, off) refl)
+]
+
+kept_clean : (a b : Bool) → b ≡ false → (a && not b) ≡ false → a ≡ false
+kept_clean true true off e = absurd (cc)
+kept_clean true false off e = absurd (cc)
+kept_clean false b off e = refl
 
 -- a pixel off the rectangle is as it was
 off_rectangle : (r : Rectangle) (bytes : List ℕ) (before : Picture) (x y : ℕ) → is_in r.area x y ≡ false → painted_data host_format r.encoding r.area bytes before x y ≡ before x y
@@ -78,53 +78,46 @@ pub record Step (m : Host) (r : Rectangle) (old new : View) : Type 0 where
   pub sound : IsSound old
   pub is : IsPainted old new m.bytes r
 
--- the rectangle's own copy lies on the screen, and is to stale pixels
-own_kept : (m : Host) (r : Rectangle) (old new : View) (copy : Option KeptCopy) → Step m r old new
-    → MatchOption copy ((c : KeptCopy) → CanBeKept old r (slice_range m.bytes r.start r.end) c → ⊥) (CanBeKept old r (slice_range m.bytes r.start r.end)) → IfSome copy (IsKept new)
-own_kept m r old new None s can = tt
-own_kept m r old new (Some c) s can =
+-- the rectangle's own copy lies on the screen
+own_within : (m : Host) (r : Rectangle) (old new : View) (c : KeptCopy) → Step m r old new → IsCopyBy r (slice_range m.bytes r.start r.end) c → IsCopyWithin new.screen.width new.screen.height c
+own_within m r old new c s is =
     let wide : m.width ≡ new.screen.width = s.wide ∙ sym s.is.size.width in
     let high : m.height ≡ new.screen.height = s.high ∙ sym s.is.size.height in
-    let from = source_within m r c s.placed can.is in
+    let from = source_within m r c s.placed is in
     let columns = s.placed.within.columns in
     let rows = s.placed.within.rows in
-    let a = can.is.across in
-    let d = can.is.down in
+    let a = is.across in
+    let d = is.down in
     record {
-      within = record {
-        area = subst (λ (t : Area). IsPart new.screen.width new.screen.height t) (sym can.is.area)
-            (record { within = record { columns = omega arith; rows = omega arith }; across = a; down = d });
-        source = rw (← wide, ← high) from;
-      };
-      stale = λ x y here.
-          let at : is_in r.area x y ≡ true = sym (ap (λ (t : Area). is_in t x y) can.is.area) ∙ here in
-          let pixel = in_is r.area x y at in
-          let right = pixel.right in
-          let bottom = pixel.bottom in
-          s.is.stale x y (omega arith) (omega arith) ∙ or_left (is_in r.area x y) (stale_at old x y) at;
+      area = subst (λ (t : Area). IsPart new.screen.width new.screen.height t) (sym is.area)
+          (record { within = record { columns = omega arith; rows = omega arith }; across = a; down = d });
+      source = rw (← wide, ← high) from;
     }
 
--- one that is kept on still does
-kept_on : (m : Host) (r : Rectangle) (old new : View) (c : KeptCopy) → Step m r old new → IsKept old c → IsKept new c
-kept_on m r old new c s kept =
-    let columns = kept.within.area.within.columns in
-    let rows = kept.within.area.within.rows in
-    let wide = s.is.size.width in
-    let high = s.is.size.height in
-    record {
-      within = rw (wide, high) kept.within;
-      stale = λ x y here.
-          let pixel = in_is c.area x y here in
-          let right = pixel.right in
-          let bottom = pixel.bottom in
-          s.is.stale x y (omega arith) (omega arith) ∙ or_right (is_in r.area x y) (stale_at old x y) (kept.stale x y here);
-    }
+-- one that was kept still lies there
+kept_on : (m : Host) (r : Rectangle) (old new : View) → Step m r old new → (c : KeptCopy) → IsKept old c → IsKept new c
+kept_on m r old new s c kept = record {
+  within = rw (s.is.size.width, s.is.size.height) kept.within;
+  asked = subst (λ (p : Option Area). IsAskedFor p c.area) (sym (ap (λ (v : View). v.pending) s.is.kept)) kept.asked;
+}
 
-copy_kept : (m : Host) (r : Rectangle) (old new : View) → Step m r old new → IsKeptAfter old r (slice_range m.bytes r.start r.end) new.copy → IfSome new.copy (IsKept new)
-copy_kept m r old new s (inl on) =
-    let was : IsKept old on.copy = subst (λ (o : Option KeptCopy). IfSome o (IsKept old)) on.old_is s.sound.copy in
-    subst (λ (o : Option KeptCopy). IfSome o (IsKept new)) (sym on.new_is) (kept_on m r old new on.copy s was)
-copy_kept m r old new s (inr own) = own_kept m r old new new.copy s own.own
+copies_kept : (m : Host) (r : Rectangle) (old new : View) → Step m r old new → IsKeptAfter old new r (slice_range m.bytes r.start r.end) → AllByRecursion (IsKept new) new.copies
+copies_kept m r old new s (inl keeps) =
+    let last : IsKept new keeps.copy = record {
+      within = own_within m r old new keeps.copy s keeps.can.is;
+      asked = subst (λ (p : Option Area). IsAskedFor p keeps.copy.area) (sym (ap (λ (v : View). v.pending) s.is.kept)) keeps.can.asked;
+    } in
+    subst (λ (l : List KeptCopy). AllByRecursion (IsKept new) l) (sym keeps.copies)
+    (all_more (IsKept new) old.copies keeps.copy (all_weaker (IsKept old) (IsKept new) old.copies (kept_on m r old new s) s.sound.copies) last)
+copies_kept m r old new s (inr keeps) =
+    subst (λ (l : List KeptCopy). AllByRecursion (IsKept new) l) (sym keeps.copies) (all_weaker (IsKept old) (IsKept new) old.copies (kept_on m r old new s) s.sound.copies)
+
+few_after : (m : Host) (r : Rectangle) (old new : View) → Step m r old new → IsKeptAfter old new r (slice_range m.bytes r.start r.end) → length new.copies ≤ 16
+few_after m r old new s (inl keeps) =
+    let many : length new.copies ≡ length old.copies + 1 = ap (λ (l : List KeptCopy). length l) keeps.copies ∙ length-append old.copies (keeps.copy ∷ []) in
+    let room = keeps.can.room in
+    omega arith
+few_after m r old new s (inr keeps) = subst (λ (l : List KeptCopy). length l ≤ 16) (sym keeps.copies) s.sound.few
 
 pub sound_on : (m : Host) (r : Rectangle) (old new : View) → Step m r old new → IsSound new
 sound_on m r old new s =
@@ -133,7 +126,8 @@ sound_on m r old new s =
       width = s.is.stale_size.width ∙ s.sound.width ∙ sym s.is.size.width;
       height = s.is.stale_size.height ∙ s.sound.height ∙ sym s.is.size.height;
       pending = rw (s.is.size.width, s.is.size.height) (subst (λ (p : Option Area). IfSome p (IsPart old.screen.width old.screen.height)) (sym pending) s.sound.pending);
-      copy = copy_kept m r old new s s.is.copy;
+      copies = copies_kept m r old new s s.is.copies;
+      few = few_after m r old new s s.is.copies;
     }
 
 -- a pixel of the screen off the rectangle shows what it showed
@@ -146,66 +140,64 @@ same_color m r old new x y s across down off =
     ap (λ (c : Color). converted old.format c) (sym (s.is.painted x y a d ∙ off_rectangle r (slice_range m.bytes r.start r.end) (color_at old.screen) x y off))
     ∙ ap (λ (f : Format). converted f (color_at new.screen x y)) (sym format)
 
--- the copy that is kept on
-on_sees : (m : Host) (r : Rectangle) (old new : View) (c : KeptCopy) (seen : Picture) → Step m r old new → IsKept old c → (Meet r.area c.area → ⊥) → ShowsSource old.format old.screen seen c
-    → ShowsSource new.format new.screen seen c
-on_sees m r old new c seen s kept apart shows x y across down =
-    let columns = kept.within.area.within.columns in
-    let rows = kept.within.area.within.rows in
-    let here : is_in c.area (c.area.x + x) (c.area.y + y) ≡ true = is_in_true c.area (c.area.x + x) (c.area.y + y) (record { left = omega arith; right = omega arith; top = omega arith; bottom = omega arith }) in
-    let off = false_from_ne_true (is_in r.area (c.area.x + x) (c.area.y + y)) (λ e. apart (record { x = c.area.x + x; y = c.area.y + y; in_one = e; in_other = here })) in
-    shows x y across down ∙ same_color m r old new (c.area.x + x) (c.area.y + y) s (omega arith) (omega arith) off
+-- the pixels that are to be sent lie on the screen
+on_stale : (m : Host) (r : Rectangle) (old new : View) (x y : ℕ) → Step m r old new → x < new.screen.width → y < new.screen.height → (x < new.stale.width) × (y < new.stale.height)
+on_stale m r old new x y s across down =
+    let wide : new.stale.width ≡ new.screen.width = s.is.stale_size.width ∙ s.sound.width ∙ sym s.is.size.width in
+    let high : new.stale.height ≡ new.screen.height = s.is.stale_size.height ∙ s.sound.height ∙ sym s.is.size.height in
+    (subst (λ (n : ℕ). x < n) (sym wide) across, subst (λ (n : ℕ). y < n) (sym high) down)
 
--- the rectangle's own: the viewer shows its source
-own_sees : (m : Host) (r : Rectangle) (old new : View) (copy : Option KeptCopy) (seen : Picture) → Step m r old new → Converts old seen
-    → MatchOption copy ((c : KeptCopy) → CanBeKept old r (slice_range m.bytes r.start r.end) c → ⊥) (CanBeKept old r (slice_range m.bytes r.start r.end))
-    → IfSome copy (ShowsSource new.format new.screen seen)
-own_sees m r old new None seen s converts can = tt
-own_sees m r old new (Some c) seen s converts can = λ x y across down.
+-- what the viewer shows of the copy's source, once it has carried out the copies before
+source_sees : (old : View) (c : KeptCopy) (stale : Option Area) (seen : Picture) (x y : ℕ) → Sees old seen → IsCopyWithin old.screen.width old.screen.height c
+    → IsSmallestOf (stale_in c old.stale) stale → x < old.screen.width → y < old.screen.height → is_moved c stale x y ≡ false → (holds old.stale x y && not (is_in c.area x y)) ≡ false
+    → copied c (all_copied old.copies seen) x y ≡ converted old.format (copied c (color_at old.screen) x y)
+source_sees old c stale seen x y sees within smallest across down unmoved clean = elim (cases_Bool (is_in c.area x y)) [
+  | inl here ↦
+      (let qx : ℕ = c.source_x + (x - c.area.x) in
+      let qy : ℕ = c.source_y + (y - c.area.y) in
+      let pixel = in_is c.area x y here in
+      let pl = pixel.left in
+      let pr = pixel.right in
+      let pt = pixel.top in
+      let pb = pixel.bottom in
+      let columns = within.source.columns in
+      let rows = within.source.rows in
+      let fresh : holds old.stale qx qy ≡ false = false_from_ne_true (holds old.stale qx qy) (λ held. let moved = moved_here c old.stale stale x y smallest here held in absurd (cc)) in
+      rw here (sees qx qy (omega arith) (omega arith) fresh))
+  | inr off ↦ rw off (sees x y across down (kept_clean (holds old.stale x y) (is_in c.area x y) off clean))
+]
+
+sees_after : (m : Host) (r : Rectangle) (old new : View) (seen : Picture) → Step m r old new → Sees old seen → IsKeptAfter old new r (slice_range m.bytes r.start r.end) → Sees new seen
+sees_after m r old new seen s sees (inl keeps) x y across down clean =
+    let c = keeps.copy in
     let format : new.format ≡ old.format = ap (λ (v : View). v.format) s.is.kept in
-    let wide = s.wide in
-    let high = s.high in
-    let new_wide = s.is.size.width in
-    let new_high = s.is.size.height in
-    let from = source_within m r c s.placed can.is in
-    let from_columns = from.columns in
-    let from_rows = from.rows in
-    let columns = s.placed.within.columns in
-    let rows = s.placed.within.rows in
-    let in_width : c.area.x + c.area.w ≤ m.width = subst (λ (t : Area). t.x + t.w ≤ m.width) (sym can.is.area) columns in
-    let in_height : c.area.y + c.area.h ≤ m.height = subst (λ (t : Area). t.y + t.h ≤ m.height) (sym can.is.area) rows in
-    let there : is_in (source c) (c.source_x + x) (c.source_y + y) ≡ true =
-    is_in_true (source c) (c.source_x + x) (c.source_y + y) (record { left = omega arith; right = omega arith; top = omega arith; bottom = omega arith }) in
-    converts (c.source_x + x) (c.source_y + y) (omega arith) (omega arith) (can.clean (c.source_x + x) (c.source_y + y) there)
-    ∙ ap (λ (t : Color). converted old.format t)
-    (sym (s.is.painted (c.area.x + x) (c.area.y + y) (omega arith) (omega arith) ∙ copied_from r (slice_range m.bytes r.start r.end) c (color_at old.screen) x y can.is across down))
-    ∙ ap (λ (f : Format). converted f (color_at new.screen (c.area.x + x) (c.area.y + y))) (sym format)
-
-copy_sees : (m : Host) (r : Rectangle) (old new : View) (seen : Picture) → Step m r old new → Sees old seen → IsKeptAfter old r (slice_range m.bytes r.start r.end) new.copy
-    → IfSome new.copy (ShowsSource new.format new.screen seen)
-copy_sees m r old new seen s sees (inl on) =
-    let was : IsKept old on.copy = subst (λ (o : Option KeptCopy). IfSome o (IsKept old)) on.old_is s.sound.copy in
-    let shows : ShowsSource old.format old.screen seen on.copy = subst (λ (o : Option KeptCopy). IfSome o (ShowsSource old.format old.screen seen)) on.old_is sees.copied in
-    subst (λ (o : Option KeptCopy). IfSome o (ShowsSource new.format new.screen seen)) (sym on.new_is) (on_sees m r old new on.copy seen s was on.apart shows)
-copy_sees m r old new seen s sees (inr own) = own_sees m r old new new.copy seen s sees.converts own.own
+    let a : x < old.screen.width = subst (λ (n : ℕ). x < n) s.is.size.width across in
+    let d : y < old.screen.height = subst (λ (n : ℕ). y < n) s.is.size.height down in
+    let on = on_stale m r old new x y s across down in
+    let within : IsCopyWithin old.screen.width old.screen.height c = rw (← s.is.size.width, ← s.is.size.height) (own_within m r old new c s keeps.can.is) in
+    let left = keeps.left in
+    let parts = neither (is_moved c left.stale x y) (holds old.stale x y && not (is_in c.area x y)) (sym (left.left x y on.0 on.1) ∙ clean) in
+    ap (λ (l : List KeptCopy). all_copied l seen x y) keeps.copies ∙ ap (λ (p : Picture). p x y) (copied_more old.copies c seen)
+    ∙ source_sees old c left.stale seen x y sees within left.smallest a d parts.0 parts.1
+    ∙ ap (λ (t : Color). converted old.format t) (sym (s.is.painted x y across down ∙ painted_copy r (slice_range m.bytes r.start r.end) c (color_at old.screen) x y keeps.can.is))
+    ∙ ap (λ (f : Format). converted f (color_at new.screen x y)) (sym format)
+sees_after m r old new seen s sees (inr keeps) x y across down clean =
+    let a : x < old.screen.width = subst (λ (n : ℕ). x < n) s.is.size.width across in
+    let d : y < old.screen.height = subst (λ (n : ℕ). y < n) s.is.size.height down in
+    let on = on_stale m r old new x y s across down in
+    let parts = neither (is_in r.area x y) (holds old.stale x y) (sym (keeps.left x y on.0 on.1) ∙ clean) in
+    ap (λ (l : List KeptCopy). all_copied l seen x y) keeps.copies ∙ sees x y a d parts.1 ∙ same_color m r old new x y s a d parts.0
 
 -- what a viewer shows of a view stays so
 pub sees_on : (m : Host) (r : Rectangle) (old new : View) (seen : Picture) → Step m r old new → Sees old seen → Sees new seen
-sees_on m r old new seen s sees = record {
-  converts = λ x y across down clean.
-      let a : x < old.screen.width = subst (λ (n : ℕ). x < n) s.is.size.width across in
-      let d : y < old.screen.height = subst (λ (n : ℕ). y < n) s.is.size.height down in
-      let parts = neither (is_in r.area x y) (stale_at old x y) (sym (s.is.stale x y across down) ∙ clean) in
-      sees.converts x y a d parts.1 ∙ same_color m r old new x y s a d parts.0;
-  copied = copy_sees m r old new seen s sees s.is.copy;
-}
+sees_on m r old new seen s sees = sees_after m r old new seen s sees s.is.copies
 
 -- ---- rectangles
 
 -- what painting rectangles of a message does
 pub record PaintsAll (m : Host) (rs : List Rectangle) (old new : View) : Type 0 where
   pub sound : IsSound new
-  pub kept : new ≡ record old { screen = new.screen; stale = new.stale; copy = new.copy }
+  pub kept : new ≡ record old { screen = new.screen; stale = new.stale; copies = new.copies }
   pub size : screens.SameSize old.screen new.screen
   pub has : Has new.screen (painted_rectangles m.bytes rs (color_at old.screen))
   pub stale : AreStale new (λ x y. is_touched rs x y || stale_at old x y)
@@ -234,7 +226,7 @@ one_more m r rs old mid new placed s all =
     let high : new.screen.height ≡ mid.screen.height = all.size.height in
     record {
       sound = all.sound;
-      kept = all.kept ∙ ap (λ (v : View). record v { screen = new.screen; stale = new.stale; copy = new.copy }) s.is.kept;
+      kept = all.kept ∙ ap (λ (v : View). record v { screen = new.screen; stale = new.stale; copies = new.copies }) s.is.kept;
       size = record { width = wide ∙ s.is.size.width; height = high ∙ s.is.size.height };
       has = λ x y across down.
           let a : x < m.width = subst (λ (n : ℕ). x < n) (wide ∙ s.is.size.width ∙ sym s.wide) across in
@@ -263,7 +255,7 @@ rectangles_painted m (r ∷ rs) old new placed wide high sound is =
 -- what painting messages does
 pub record PaintsMessages (items : List Stamped) (old new : View) : Type 0 where
   pub sound : IsSound new
-  pub kept : new ≡ record old { screen = new.screen; stale = new.stale; copy = new.copy }
+  pub kept : new ≡ record old { screen = new.screen; stale = new.stale; copies = new.copies }
   pub size : screens.SameSize old.screen new.screen
   pub shows : (before : List Host) → Shows old.screen before → Shows new.screen (before ++ hosts_of items)
   pub stale : AreStale new (λ x y. is_touched_by items x y || stale_at old x y)
@@ -285,7 +277,7 @@ one_message width height m ms old mid new for wide high first all =
     let placed : All (IsPlaced m.message) m.message.rectangles = recorded_placed m.message for.1.recorded in
     record {
       sound = all.sound;
-      kept = all.kept ∙ ap (λ (v : View). record v { screen = new.screen; stale = new.stale; copy = new.copy }) first.kept;
+      kept = all.kept ∙ ap (λ (v : View). record v { screen = new.screen; stale = new.stale; copies = new.copies }) first.kept;
       size = record { width = all.size.width ∙ first.size.width; height = all.size.height ∙ first.size.height };
       shows = λ before shown.
           let between : Shows mid.screen (before ++ m.message ∷ []) = λ x y across down.
@@ -336,7 +328,7 @@ begins old begun None end sized is = subst (λ (v : View). HasBegun old v None e
   format = refl;
   encoding = refl;
   pending = refl;
-  sees = λ seen given. let s : Sees old seen = given refl in record { converts = s.converts; copied = s.copied };
+  sees = λ seen given. given refl;
   shows = λ head list first given stands. given refl;
 })
 begins old begun (Some start) end sized is =
@@ -350,11 +342,12 @@ begins old begun (Some start) end sized is =
       encoding = ap (λ (v : View). v.encoding) is.kept;
       pending = ap (λ (v : View). v.pending) is.kept;
       sees = λ seen given.
-          let copy : begun.copy ≡ None = ap (λ (v : View). v.copy) is.kept in
-          record {
-            converts = λ x y across down clean. let stale = is.stale x y across down in absurd (cc);
-            copied = subst (λ (o : Option KeptCopy). IfSome o (ShowsSource begun.format begun.screen seen)) (sym copy) tt;
-          };
+          λ x y across down clean.
+          let none : begun.copies ≡ [] = ap (λ (v : View). v.copies) is.kept in
+          let stale : (holds begun.stale x y || is_copied begun.copies x y) ≡ true = is.stale x y across down in
+          let kept : is_copied begun.copies x y ≡ false = ap (λ (l : List KeptCopy). is_copied l x y) none in
+          let off : false ≡ true = rw (clean, kept) at stale in
+          absurd (cc);
       shows = λ head list first given stands. subst (λ (s : Framebuffer). IsScreenAt head list first s) (sym screen) stands;
     }
 
@@ -395,14 +388,14 @@ has_gone old new slice next goes sound =
       encoding = ap (λ (v : View). v.encoding) paints.kept ∙ begun.encoding;
       pending = ap (λ (v : View). v.pending) paints.kept ∙ begun.pending;
       right = λ head seen list right stands.
-          let sees : Sees new seen = paints.sees seen (begun.sees seen (λ none. record { converts = right.converts; copied = right.copied })) in
+          let sees : Sees new seen = paints.sees seen (begun.sees seen (λ none. right.copied)) in
           let at : IsScreenAt head list slice.first mid.screen =
           begun.shows head list slice.first (λ none. subst (λ (n : ℕ). IsScreenAt head list n old.screen) (sym (next.joined none)) right.shows) stands.start in
           let end : new.position ≡ slice.first + length items = ap (λ (v : View). v.position) paints.kept ∙ begun.position in
           record {
             shows = subst (λ (n : ℕ). IsScreenAt head list n new.screen) (sym end) (screen_on head list items slice.first mid.screen new.screen at stands.messages_are paints.size.width paints.size.height paints.shows);
-            converts = sees.converts;
-            copied = sees.copied;
+            converts = converts_of new seen sees;
+            copied = sees;
           };
     }
 

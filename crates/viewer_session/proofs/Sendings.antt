@@ -1,6 +1,6 @@
 -- What a viewer sees once it has painted an update of some areas.
 use Rattle.std.proofs.Common.{◌≡◌, ℕ, ◌+◌, ◌-◌, inl, inr, Bool, true, false, List, [], ◌∷◌, refl, sym, ap, ◌∙◌, subst, arith}
-use Rattle.std.specs.Prelude.{◌||◌, ◌++◌, All, map, Option, Some, None, IfSome}
+use Rattle.std.specs.Prelude.{◌||◌, ◌++◌, All, map}
 use Rattle.std.specs.List.{AllZip, AllByRecursion}
 use Rattle.std.proofs.lemmas.Bool.{cases_Bool}
 use Rattle.std.proofs.lemmas.List.Elements.{All-nil, All-cons}
@@ -20,11 +20,12 @@ use Rattle.painter.specs.Framebuffer.{Framebuffer, color_at}
 use Rattle.pixel_sets.specs.Pixels.{is_in_some}
 use Rattle.pixel_sets.proofs.Sent.{IsInside}
 use Rattle.shared_updates.specs.declared.copy.KeptCopy.{KeptCopy}
-use Rattle.viewer_session.specs.Copies.{IsCopyWithin, ShowsSource, is_copied}
+use Rattle.shared_updates.specs.Copies.{IsCopyWithin, is_copied, copied, all_copied}
 use Rattle.shared_updates.specs.Updates.{AreConverted}
 use Rattle.viewer_session.specs.View.{AreDrawn, is_covered}
 use Rattle.shared_updates.specs.Updates.{IsScreenPart, copy_parts}
 use Rattle.viewer_session.proofs.Views.{neither}
+use Rattle.viewer_session.proofs.Carried.{all_same}
 
 -- what is painted shows the screen in an area, and is elsewhere as it was
 pub record ShowsArea (f : Format) (screen : Framebuffer) (area : Area) (before after : Picture) : Type 0 where
@@ -113,63 +114,68 @@ shown f screen (a ∷ areas) (d ∷ drawn) are before x y on = elim (cases_Bool 
   | inr last ↦ elsewhere f screen areas drawn are.1 (painted f d before) x y last ∙ (are.0.shows before).here x y (here_alone (is_in a x y) (is_in_some areas x y) on last)
 ]
 
--- ---- after a copy
+-- ---- after copies
 
--- a rectangle that copies, if there is a copy, and one for each area
-abbrev pub AreShown : Format → Framebuffer → Option KeptCopy → List Area → List Drawn → Type 0
-AreShown f screen None areas drawn = AllZip (IsShown f screen) areas drawn
-AreShown f screen (Some c) areas [] = ⊥
-AreShown f screen (Some c) areas (d ∷ drawn) = DrawsCopy f c.area c.source_x c.source_y d × AllZip (IsShown f screen) areas drawn
+-- a rectangle for each copy, and one for each area
+abbrev pub AreShown : Format → Framebuffer → List KeptCopy → List Area → List Drawn → Type 0
+AreShown f screen [] areas drawn = AllZip (IsShown f screen) areas drawn
+AreShown f screen (c ∷ cs) areas [] = ⊥
+AreShown f screen (c ∷ cs) areas (d ∷ drawn) = DrawsCopy f c.area c.source_x c.source_y d × AreShown f screen cs areas drawn
 
-pub parts_shown : (f : Format) (asked : Encoding) (screen : Framebuffer) (copy : Option KeptCopy) (areas : List Area) (list : List Part) (drawn : List Drawn)
-    → AllZip (IsScreenPart f asked screen) areas list → AllZip (Draws f) (copy_parts copy ++ list) drawn → AreShown f screen copy areas drawn
-parts_shown f asked screen None areas list drawn are draw = all_shown f asked screen areas list drawn are draw
-parts_shown f asked screen (Some c) areas list [] are draw = absurd draw
-parts_shown f asked screen (Some c) areas list (d ∷ drawn) are draw = (draw.0, all_shown f asked screen areas list drawn are draw.1)
+pub parts_shown : (f : Format) (asked : Encoding) (screen : Framebuffer) (copies : List KeptCopy) (areas : List Area) (list : List Part) (drawn : List Drawn)
+    → AllZip (IsScreenPart f asked screen) areas list → AllZip (Draws f) (copy_parts copies ++ list) drawn → AreShown f screen copies areas drawn
+parts_shown f asked screen [] areas list drawn are draw = all_shown f asked screen areas list drawn are draw
+parts_shown f asked screen (c ∷ cs) areas list [] are draw = absurd draw
+parts_shown f asked screen (c ∷ cs) areas list (d ∷ drawn) are draw = (draw.0, parts_shown f asked screen cs areas list drawn are draw.1)
 
-pub all_covered : (f : Format) (screen : Framebuffer) (copy : Option KeptCopy) (areas : List Area) (drawn : List Drawn) → AreShown f screen copy areas drawn
-    → (x y : ℕ) → is_covered drawn x y ≡ (is_copied copy x y || is_in_some areas x y)
-all_covered f screen None areas drawn are x y = covered_is f screen areas drawn are x y
-all_covered f screen (Some c) areas [] are x y = absurd are
-all_covered f screen (Some c) areas (d ∷ drawn) are x y =
-    ap (λ (a : Area). is_in a x y || is_covered drawn x y) are.0.area_is ∙ ap (λ (b : Bool). is_in c.area x y || b) (covered_is f screen areas drawn are.1 x y)
+or_assoc : (a b c : Bool) → (a || (b || c)) ≡ ((a || b) || c)
+or_assoc true b c = refl
+or_assoc false b c = refl
 
-pub all_drawn : (f : Format) (screen : Framebuffer) (copy : Option KeptCopy) (areas : List Area) (drawn : List Drawn) → AreShown f screen copy areas drawn → AreDrawn f copy areas drawn
-all_drawn f screen None areas drawn are = areas_are f screen areas drawn are
-all_drawn f screen (Some c) areas [] are = absurd are
-all_drawn f screen (Some c) areas (d ∷ drawn) are = (are.0, areas_are f screen areas drawn are.1)
+pub all_covered : (f : Format) (screen : Framebuffer) (copies : List KeptCopy) (areas : List Area) (drawn : List Drawn) → AreShown f screen copies areas drawn
+    → (x y : ℕ) → is_covered drawn x y ≡ (is_copied copies x y || is_in_some areas x y)
+all_covered f screen [] areas drawn are x y = covered_is f screen areas drawn are x y
+all_covered f screen (c ∷ cs) areas [] are x y = absurd are
+all_covered f screen (c ∷ cs) areas (d ∷ drawn) are x y =
+    ap (λ (a : Area). is_in a x y || is_covered drawn x y) are.0.area_is ∙ ap (λ (b : Bool). is_in c.area x y || b) (all_covered f screen cs areas drawn are.1 x y)
+    ∙ or_assoc (is_in c.area x y) (is_copied cs x y) (is_in_some areas x y)
 
-pub all_elsewhere : (f : Format) (screen : Framebuffer) (copy : Option KeptCopy) (areas : List Area) (drawn : List Drawn) → AreShown f screen copy areas drawn → (before : Picture) (x y : ℕ)
-    → is_copied copy x y ≡ false → is_in_some areas x y ≡ false → all_painted f drawn before x y ≡ before x y
-all_elsewhere f screen None areas drawn are before x y uncopied off = elsewhere f screen areas drawn are before x y off
-all_elsewhere f screen (Some c) areas [] are before x y uncopied off = absurd are
-all_elsewhere f screen (Some c) areas (d ∷ drawn) are before x y uncopied off =
-    elsewhere f screen areas drawn are.1 (painted f d before) x y off ∙ (are.0.paints before).elsewhere x y uncopied
+pub all_drawn : (f : Format) (screen : Framebuffer) (copies : List KeptCopy) (areas : List Area) (drawn : List Drawn) → AreShown f screen copies areas drawn → AreDrawn f copies areas drawn
+all_drawn f screen [] areas drawn are = areas_are f screen areas drawn are
+all_drawn f screen (c ∷ cs) areas [] are = absurd are
+all_drawn f screen (c ∷ cs) areas (d ∷ drawn) are = (are.0, all_drawn f screen cs areas drawn are.1)
 
-pub all_here : (f : Format) (screen : Framebuffer) (copy : Option KeptCopy) (areas : List Area) (drawn : List Drawn) → AreShown f screen copy areas drawn → (before : Picture) (x y : ℕ)
+pub all_here : (f : Format) (screen : Framebuffer) (copies : List KeptCopy) (areas : List Area) (drawn : List Drawn) → AreShown f screen copies areas drawn → (before : Picture) (x y : ℕ)
     → is_in_some areas x y ≡ true → all_painted f drawn before x y ≡ converted f (color_at screen x y)
-all_here f screen None areas drawn are before x y on = shown f screen areas drawn are before x y on
-all_here f screen (Some c) areas [] are before x y on = absurd are
-all_here f screen (Some c) areas (d ∷ drawn) are before x y on = shown f screen areas drawn are.1 (painted f d before) x y on
+all_here f screen [] areas drawn are before x y on = shown f screen areas drawn are before x y on
+all_here f screen (c ∷ cs) areas [] are before x y on = absurd are
+all_here f screen (c ∷ cs) areas (d ∷ drawn) are before x y on = all_here f screen cs areas drawn are.1 (painted f d before) x y on
 
--- a pixel that is copied, and isn't sent again
-pub all_copied : (f : Format) (screen : Framebuffer) (copy : Option KeptCopy) (areas : List Area) (drawn : List Drawn) → AreShown f screen copy areas drawn → (before : Picture) (x y : ℕ)
-    → IfSome copy (ShowsSource f screen before) → is_copied copy x y ≡ true → is_in_some areas x y ≡ false → all_painted f drawn before x y ≡ converted f (color_at screen x y)
-all_copied f screen None areas drawn are before x y shows on off = absurd (cc)
-all_copied f screen (Some c) areas [] are before x y shows on off = absurd are
-all_copied f screen (Some c) areas (d ∷ drawn) are before x y shows on off =
-    let pixel = in_is c.area x y on in
-    let l = pixel.left in
-    let r = pixel.right in
-    let t = pixel.top in
-    let u = pixel.bottom in
-    let column : c.area.x + (x - c.area.x) ≡ x = omega arith in
-    let row : c.area.y + (y - c.area.y) ≡ y = omega arith in
-    elsewhere f screen areas drawn are.1 (painted f d before) x y off
-    ∙ ap (λ (n : ℕ). painted f d before n y) (sym column) ∙ ap (λ (n : ℕ). painted f d before (c.area.x + (x - c.area.x)) n) (sym row)
-    ∙ (are.0.paints before).here (x - c.area.x) (y - c.area.y) (omega arith) (omega arith)
-    ∙ shows (x - c.area.x) (y - c.area.y) (omega arith) (omega arith)
-    ∙ ap (λ (n : ℕ). converted f (color_at screen n (c.area.y + (y - c.area.y)))) column ∙ ap (λ (n : ℕ). converted f (color_at screen x n)) row
+-- a rectangle that copies paints what its copy does
+paints_copy : (f : Format) (c : KeptCopy) (d : Drawn) (before : Picture) → DrawsCopy f c.area c.source_x c.source_y d → (x y : ℕ) → painted f d before x y ≡ copied c before x y
+paints_copy f c d before draws x y = elim (cases_Bool (is_in c.area x y)) [
+  | inl here ↦
+      (let pixel = in_is c.area x y here in
+      let l = pixel.left in
+      let r = pixel.right in
+      let t = pixel.top in
+      let u = pixel.bottom in
+      let column : c.area.x + (x - c.area.x) ≡ x = omega arith in
+      let row : c.area.y + (y - c.area.y) ≡ y = omega arith in
+      rw here (
+      ap (λ (n : ℕ). painted f d before n y) (sym column) ∙ ap (λ (n : ℕ). painted f d before (c.area.x + (x - c.area.x)) n) (sym row)
+      ∙ (draws.paints before).here (x - c.area.x) (y - c.area.y) (omega arith) (omega arith)))
+  | inr off ↦ rw off ((draws.paints before).elsewhere x y off)
+]
+
+-- a pixel of no area shows what it does once the copies are carried out
+pub all_carried : (f : Format) (screen : Framebuffer) (copies : List KeptCopy) (areas : List Area) (drawn : List Drawn) → AreShown f screen copies areas drawn → (before : Picture) (x y : ℕ)
+    → is_in_some areas x y ≡ false → all_painted f drawn before x y ≡ all_copied copies before x y
+all_carried f screen [] areas drawn are before x y off = elsewhere f screen areas drawn are before x y off
+all_carried f screen (c ∷ cs) areas [] are before x y off = absurd are
+all_carried f screen (c ∷ cs) areas (d ∷ drawn) are before x y off =
+    all_carried f screen cs areas drawn are.1 (painted f d before) x y off
+    ∙ all_same cs (painted f d before) (copied c before) (paints_copy f c d before are.0) x y
 
 -- ---- on a screen
 
@@ -186,8 +192,9 @@ parts_within width height f asked screen outer (a ∷ areas) [] within are = abs
 parts_within width height f asked screen outer (a ∷ areas) (p ∷ list) within are =
     All-cons (PartLiesWithin width height) p list (part_within width height f asked screen a p within.0.within are.0) (parts_within width height f asked screen outer areas list within.1 are.1)
 
-pub parts_inside : (width height : ℕ) (f : Format) (asked : Encoding) (screen : Framebuffer) (copy : Option KeptCopy) (outer : Area) (areas : List Area) (list : List Part)
-    → IfSome copy (IsCopyWithin width height) → AllByRecursion (IsInside width height outer) areas → AllZip (IsScreenPart f asked screen) areas list → All (PartLiesWithin width height) (copy_parts copy ++ list)
-parts_inside width height f asked screen None outer areas list copied within are = parts_within width height f asked screen outer areas list within are
-parts_inside width height f asked screen (Some c) outer areas list copied within are =
-    All-cons (PartLiesWithin width height) (parts.Copy c.area c.source_x c.source_y) list (copied.area.within, copied.source) (parts_within width height f asked screen outer areas list within are)
+pub parts_inside : (width height : ℕ) (f : Format) (asked : Encoding) (screen : Framebuffer) (copies : List KeptCopy) (outer : Area) (areas : List Area) (list : List Part)
+    → AllByRecursion (IsCopyWithin width height) copies → AllByRecursion (IsInside width height outer) areas → AllZip (IsScreenPart f asked screen) areas list → All (PartLiesWithin width height) (copy_parts copies ++ list)
+parts_inside width height f asked screen [] outer areas list copied within are = parts_within width height f asked screen outer areas list within are
+parts_inside width height f asked screen (c ∷ cs) outer areas list copied within are =
+    All-cons (PartLiesWithin width height) (parts.Copy c.area c.source_x c.source_y) (copy_parts cs ++ list) (copied.0.area.within, copied.0.source)
+    (parts_inside width height f asked screen cs outer areas list copied.1 within are)

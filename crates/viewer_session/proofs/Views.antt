@@ -10,6 +10,8 @@ use Rattle.keyed_entries.specs.Entry.{hosts_of}
 use Rattle.gated_journal.specs.Recording.{Head}
 use Rattle.replay.specs.Screens.{IsScreenAt}
 use Rattle.viewer_session.specs.declared.view.View.{View}
+use Rattle.pixel_sets.specs.Pixels.{holds}
+use Rattle.shared_updates.specs.Copies.{all_copied}
 use Rattle.viewer_session.specs.View.{stale_at}
 
 -- an or that is false
@@ -37,3 +39,7 @@ screen_on head messages items first old new at same wide high shows =
 -- the viewer has what isn't stale
 abbrev pub Converts : View → Picture → Type 0
 Converts v seen = (x y : ℕ) → x < v.screen.width → y < v.screen.height → stale_at v x y ≡ false → seen x y ≡ converted v.format (color_at v.screen x y)
+
+-- once it has carried out the copies, it has what isn't to be sent
+abbrev pub Sees : View → Picture → Type 0
+Sees v seen = (x y : ℕ) → x < v.screen.width → y < v.screen.height → holds v.stale x y ≡ false → all_copied v.copies seen x y ≡ converted v.format (color_at v.screen x y)

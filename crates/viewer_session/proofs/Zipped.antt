@@ -1,6 +1,6 @@
 -- Areas and parts, one for another.
 use Rattle.std.proofs.Common.{◌≡◌, ℕ, suc, ◌+◌, ◌*◌, ◌<◌, ◌≤◌, List, [], ◌∷◌, length, take, get_or, map, refl, sym, ap, ◌∙◌, subst, arith}
-use Rattle.std.specs.Prelude.{◌++◌, All, Option, Some, None}
+use Rattle.std.specs.Prelude.{◌++◌, All}
 use Rattle.std.specs.List.{AllZip}
 use Rattle.std.proofs.Math.Nat.{mul-le-mul_left}
 use Rattle.std.proofs.lemmas.List.{get_or-map, length-map, append_assoc, take_more}
@@ -17,11 +17,13 @@ use Rattle.painter.specs.Framebuffer.{Framebuffer, AreColorsOf}
 use Rattle.painter.specs.Sent.{area_colors, sent_colors}
 use Rattle.painter.specs.SentUpdate.{parts_of, CanBeSent}
 use Rattle.shared_updates.specs.Updates.{AreConverted}
+use Rattle.rect_codec.specs.declared.parts.Part.{Part}
+use Rattle.rect_codec.specs.declared.parts.Part.TheVariants as parts
 use Rattle.painter.specs.declared.update.ScreenPart.{ScreenPart}
 use Rattle.painter.specs.declared.update.ScreenPart.TheVariants.{Copy}
 use Rattle.shared_updates.specs.declared.copy.KeptCopy.{KeptCopy}
 use Rattle.shared_updates.specs.Updates.{IsScreenPart, copy_parts}
-use Rattle.viewer_session.specs.Parts.{pixels_of, screen_copy, screen_parts}
+use Rattle.viewer_session.specs.Parts.{pixels_of, screen_copies, screen_parts}
 
 pub zip_length : {A B : Type 0} (R : A → B → Type 0) (xs : List A) (ys : List B) → AllZip R xs ys → length xs ≡ length ys
 zip_length R [] [] are = refl
@@ -67,11 +69,11 @@ parts_are f asked screen (a ∷ areas) known within =
       parts_are f asked screen areas known (All-tail (LiesWithin screen.width screen.height) a areas within),
     )
 
--- after the part of a copy
-pub copy_in_front : (f : Format) (asked : Encoding) (screen : Framebuffer) (copy : Option KeptCopy) (areas : List Area)
-    → parts_of f screen (screen_parts copy asked areas) ≡ copy_parts copy ++ parts_of f screen (map (pixels_of asked) areas)
-copy_in_front f asked screen None areas = refl
-copy_in_front f asked screen (Some c) areas = refl
+-- after the parts of copies
+pub copies_in_front : (f : Format) (asked : Encoding) (screen : Framebuffer) (copies : List KeptCopy) (areas : List Area)
+    → parts_of f screen (screen_parts copies asked areas) ≡ copy_parts copies ++ parts_of f screen (map (pixels_of asked) areas)
+copies_in_front f asked screen [] areas = refl
+copies_in_front f asked screen (c ∷ cs) areas = ap (λ (l : List Part). parts.Copy c.area c.source_x c.source_y ∷ l) (copies_in_front f asked screen cs areas)
 
 areas_sent : (asked : Encoding) (screen : Framebuffer) (areas : List Area) → All (LiesWithin screen.width screen.height) areas → All (CanBeSent screen) (map (pixels_of asked) areas)
 areas_sent asked screen [] within = All-nil (CanBeSent screen)
@@ -80,26 +82,26 @@ areas_sent asked screen (a ∷ areas) within =
     (areas_sent asked screen areas (All-tail (LiesWithin screen.width screen.height) a areas within))
 
 -- and can be sent
-pub parts_sent : (copy : Option KeptCopy) (asked : Encoding) (screen : Framebuffer) (areas : List Area) → All (LiesWithin screen.width screen.height) areas → All (CanBeSent screen) (screen_parts copy asked areas)
-parts_sent None asked screen areas within = areas_sent asked screen areas within
-parts_sent (Some c) asked screen areas within =
-    All-cons (CanBeSent screen) (Copy c.area c.source_x c.source_y) (map (pixels_of asked) areas) tt (areas_sent asked screen areas within)
+pub parts_sent : (copies : List KeptCopy) (asked : Encoding) (screen : Framebuffer) (areas : List Area) → All (LiesWithin screen.width screen.height) areas → All (CanBeSent screen) (screen_parts copies asked areas)
+parts_sent [] asked screen areas within = areas_sent asked screen areas within
+parts_sent (c ∷ cs) asked screen areas within =
+    All-cons (CanBeSent screen) (Copy c.area c.source_x c.source_y) (screen_parts cs asked areas) tt (parts_sent cs asked screen areas within)
 
-pub parts_few : (copy : Option KeptCopy) (asked : Encoding) (areas : List Area) → length (screen_parts copy asked areas) ≤ length areas + 1
-parts_few None asked areas = omega (arith, length-map areas (pixels_of asked))
-parts_few (Some c) asked areas = omega (arith, length-map areas (pixels_of asked))
+pub parts_few : (copies : List KeptCopy) (asked : Encoding) (areas : List Area) → length (screen_parts copies asked areas) ≡ length copies + length areas
+parts_few [] asked areas = omega (arith, length-map areas (pixels_of asked))
+parts_few (c ∷ cs) asked areas = omega (arith, parts_few cs asked areas)
 
 map_more : (asked : Encoding) (xs ys : List Area) → map (pixels_of asked) (xs ++ ys) ≡ map (pixels_of asked) xs ++ map (pixels_of asked) ys
 map_more asked [] ys = refl
 map_more asked (x ∷ xs) ys = ap (λ (l : List ScreenPart). pixels_of asked x ∷ l) (map_more asked xs ys)
 
 -- one area more
-pub parts_more : (copy : Option KeptCopy) (asked : Encoding) (areas : List Area) (i : ℕ) (d : Area) → i < length areas
-    → screen_parts copy asked (take i areas) ++ pixels_of asked (get_or areas i d) ∷ [] ≡ screen_parts copy asked (take (i + 1) areas)
-parts_more copy asked areas i d lt =
-    append_assoc (screen_copy copy) (map (pixels_of asked) (take i areas)) (pixels_of asked (get_or areas i d) ∷ [])
-    ∙ ap (λ (l : List ScreenPart). screen_copy copy ++ l) (sym (map_more asked (take i areas) (get_or areas i d ∷ [])))
-    ∙ ap (λ (z : List Area). screen_parts copy asked z) (sym (take_more areas i d lt))
+pub parts_more : (copies : List KeptCopy) (asked : Encoding) (areas : List Area) (i : ℕ) (d : Area) → i < length areas
+    → screen_parts copies asked (take i areas) ++ pixels_of asked (get_or areas i d) ∷ [] ≡ screen_parts copies asked (take (i + 1) areas)
+parts_more copies asked areas i d lt =
+    append_assoc (screen_copies copies) (map (pixels_of asked) (take i areas)) (pixels_of asked (get_or areas i d) ∷ [])
+    ∙ ap (λ (l : List ScreenPart). screen_copies copies ++ l) (sym (map_more asked (take i areas) (get_or areas i d ∷ [])))
+    ∙ ap (λ (z : List Area). screen_parts copies asked z) (sym (take_more areas i d lt))
 
 pub appended : (P Q : List ℕ → Type 0) (old new : List ℕ) → ((bytes : List ℕ) → P bytes → Q bytes) → Appends P old new → Appends Q old new
 appended P Q old new then a = record { bytes = a.bytes; is = a.is; are = then a.bytes a.are }

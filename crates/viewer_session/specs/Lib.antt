@@ -1,6 +1,5 @@
 pub use Rattle.terms.specs.Reading
 pub use Rattle.terms.specs.Talk
-pub mod Copies
 pub mod View
 pub mod Noting
 pub mod Shown

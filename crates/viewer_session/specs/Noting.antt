@@ -13,8 +13,8 @@ use Rattle.viewer_session.specs.View.{AreStale, stale_at, IsKeptAfter}
 pub record IsNoted (old new : View) (bytes : List ℕ) (r : Rectangle) : Type 0 where
   pub stale_size : sets.SameSize old.stale new.stale
   pub stale : AreStale new (λ x y. is_in r.area x y || stale_at old x y)
-  pub copy : IsKeptAfter old r (slice_range bytes r.start r.end) new.copy
-  pub kept : new ≡ record old { stale = new.stale; copy = new.copy }
+  pub copies : IsKeptAfter old new r (slice_range bytes r.start r.end)
+  pub kept : new ≡ record old { stale = new.stale; copies = new.copies }
 
 -- rectangles, one after another
 abbrev pub AreNoted : List ℕ → View → View → List Rectangle → Type 0
@@ -26,11 +26,11 @@ abbrev pub AreAllNoted : View → View → List Stamped → Type 0
 AreAllNoted old new [] = new ≡ old
 AreAllNoted old new (m ∷ ms) = (v : View) × AreNoted m.message.bytes old v m.message.rectangles × AreAllNoted v new ms
 
--- A view begins at a slice's start with no copy and all pixels stale, or goes on. It is then to stand
+-- A view begins at a slice's start with no copies and all pixels stale, or goes on. It is then to stand
 -- at this position, and its screen is to come.
 pub record StartsUnpainted (old new : View) (end : ℕ) : Type 0 where
   pub stale : AreStale new (λ x y. true)
-  pub kept : new ≡ record old { stale = new.stale; started = true; copy = None; position = end }
+  pub kept : new ≡ record old { stale = new.stale; started = true; copies = []; position = end }
 
 abbrev pub BeginsUnpainted : View → View → Option Framebuffer → ℕ → Type 0
 BeginsUnpainted old new None end = new ≡ record old { position = end }

@@ -1,5 +1,5 @@
 -- The parts of an update of some areas of a screen.
-use Rattle.std.specs.Prelude.{List, [], ◌∷◌, ◌++◌, map, Option, Some, None}
+use Rattle.std.specs.Prelude.{List, ◌++◌, map}
 use Rattle.terms.specs.declared.area.Area.{Area}
 use Rattle.rect_data.specs.declared.encoding.Encoding.{Encoding}
 use Rattle.painter.specs.declared.update.ScreenPart.{ScreenPart}
@@ -10,11 +10,14 @@ use Rattle.shared_updates.specs.declared.copy.KeptCopy.{KeptCopy}
 abbrev pub pixels_of : Encoding → Area → ScreenPart
 pixels_of asked area = Region area asked
 
--- the part of a copy, if there is one
-abbrev pub screen_copy : Option KeptCopy → List ScreenPart
-screen_copy None = []
-screen_copy (Some c) = Copy c.area c.source_x c.source_y ∷ []
+-- the part of a copy
+abbrev pub copy_of : KeptCopy → ScreenPart
+copy_of c = Copy c.area c.source_x c.source_y
 
--- and those of areas after it
-abbrev pub screen_parts : Option KeptCopy → Encoding → List Area → List ScreenPart
-screen_parts copy asked areas = screen_copy copy ++ map (pixels_of asked) areas
+-- the parts of copies
+abbrev pub screen_copies : List KeptCopy → List ScreenPart
+screen_copies copies = map copy_of copies
+
+-- and those of areas after them
+abbrev pub screen_parts : List KeptCopy → Encoding → List Area → List ScreenPart
+screen_parts copies asked areas = screen_copies copies ++ map (pixels_of asked) areas

@@ -1,5 +1,5 @@
 -- What a viewer has of a recording's screen, and what it lacks.
-use Rattle.std.specs.Prelude.{◌≡◌, ℕ, ℤ, pos, ◌⊎◌, nat_lt, ◌+◌, ◌<◌, ◌^◌, All, Bool, true, false, not, ◌&&◌, ◌||◌, List, [], ◌∷◌, length, map, slice_range, Option, Some, None, IfSome, MatchOption}
+use Rattle.std.specs.Prelude.{◌≡◌, ℕ, ℤ, pos, ◌⊎◌, nat_lt, ◌+◌, ◌<◌, ◌≤◌, ◌^◌, All, Bool, true, false, not, ◌&&◌, ◌||◌, List, [], ◌∷◌, ◌++◌, length, map, slice_range, Option, Some, None, IfSome}
 use Rattle.std.specs.List.{AllByRecursion, list_any}
 use Rattle.std.specs.Ordering.{int_eq}
 use Rattle.pixel_format.specs.Format.{Format}
@@ -11,7 +11,7 @@ use Rattle.client_wire.specs.declared.message.ClientMessage.{ClientMessage}
 use Rattle.client_wire.specs.declared.message.ClientMessage.TheVariants as messages
 use Rattle.rect_data.specs.declared.encoding.Encoding.TheVariants as encodings
 use Rattle.rect_codec.specs.Encoding.{StandsFirst, IsOther}
-use Rattle.terms.specs.Area.{is_in, IsSmallestOf}
+use Rattle.terms.specs.Area.{is_in, IsSmallest, IsSmallestOf}
 use Rattle.rect_data.specs.Grammar.{source_of}
 use Rattle.rect_codec.specs.Parts.{DrawsCopy}
 use Rattle.rect_codec.specs.Update.{Drawn, update_at, all_painted}
@@ -23,16 +23,15 @@ use Rattle.keyed_entries.specs.declared.entry.Stamped.{Stamped}
 use Rattle.keyed_entries.specs.Entry.{IsStampedOf}
 use Rattle.replay.specs.Screens.{IsScreenAt}
 use Rattle.replay.specs.declared.slice.Slice.{Slice}
-use Rattle.pixel_sets.specs.Pixels.{PixelSet, holds, AreJust, HasNone, AreSent}
+use Rattle.pixel_sets.specs.Pixels.{PixelSet, holds, AreJust, AreSent}
 use Rattle.pixel_sets.specs.Pixels as sets
 use Rattle.shared_updates.specs.declared.copy.KeptCopy.{KeptCopy}
 use Rattle.viewer_session.specs.declared.view.View.{View}
-use Rattle.shared_updates.specs.Copies.{source}
-use Rattle.viewer_session.specs.Copies.{IsPart, IsCopyWithin, ShowsSource, is_copied, copy_asked}
+use Rattle.shared_updates.specs.Copies.{source, IsPart, IsCopyWithin, is_copied, all_copied, is_moved, lies_in, all_in}
 
--- The pixel is stale: the viewer may not show its colour.
+-- The pixel is stale: the viewer may not show its colour. It is to be sent it, or can copy it.
 abbrev pub stale_at : View → ℕ → ℕ → Bool
-stale_at v x y = holds v.stale x y
+stale_at v x y = holds v.stale x y || is_copied v.copies x y
 
 -- just the pixels that pass this test are stale
 abbrev pub AreStale : View → (ℕ → ℕ → Bool) → Type 0
@@ -40,26 +39,32 @@ AreStale v p = (x y : ℕ) → x < v.screen.width → y < v.screen.height → st
 
 -- The right view, of a viewer's picture and a list of messages: the session's screen is what the
 -- messages before its position paint, and the viewer has the screen's colour, in its own format, at
--- each pixel that isn't stale. If a copy is kept, the viewer has at the pixels that are copied what
--- the screen has, in that format, at those that they are copied to.
+-- each pixel that isn't stale. Once the viewer has carried out the copies that are kept, it has that
+-- at each pixel that isn't to be sent.
 pub record IsRight (head : Head) (v : View) (seen : Picture) (messages : List Stamped) : Type 0 where
   pub shows : IsScreenAt head messages v.position v.screen
   pub converts : (x y : ℕ) → x < v.screen.width → y < v.screen.height → stale_at v x y ≡ false
       → seen x y ≡ converted v.format (color_at v.screen x y)
-  pub copied : IfSome v.copy (ShowsSource v.format v.screen seen)
+  pub copied : (x y : ℕ) → x < v.screen.width → y < v.screen.height → holds v.stale x y ≡ false
+      → all_copied v.copies seen x y ≡ converted v.format (color_at v.screen x y)
 
--- a copy that is kept lies on the screen, and is to stale pixels
+-- all pixels that a copy goes to are asked for, if any are
+abbrev pub IsAskedFor : Option Area → Area → Type 0
+IsAskedFor pending area = IfSome pending (λ p. lies_in area p ≡ true)
+
+-- a copy that is kept lies on the screen, and in what is asked for
 pub record IsKept (v : View) (c : KeptCopy) : Type 0 where
   pub within : IsCopyWithin v.screen.width v.screen.height c
-  pub stale : (x y : ℕ) → is_in c.area x y ≡ true → stale_at v x y ≡ true
+  pub asked : IsAskedFor v.pending c.area
 
--- what always holds of a view: its sizes agree, and the pending area and a kept copy are parts of the
--- screen
+-- what always holds of a view: its sizes agree, and the pending area and the kept copies are parts of
+-- the screen
 pub record IsSound (v : View) : Type 0 where
   pub width : v.stale.width ≡ v.screen.width
   pub height : v.stale.height ≡ v.screen.height
   pub pending : IfSome v.pending (IsPart v.screen.width v.screen.height)
-  pub copy : IfSome v.copy (IsKept v)
+  pub copies : AllByRecursion (IsKept v) v.copies
+  pub few : length v.copies ≤ 16
 
 -- ---- what comes of the recording
 
@@ -97,35 +102,39 @@ pub record IsCopyBy (r : Rectangle) (bytes : List ℕ) (c : KeptCopy) : Type 0 w
   pub down : 0 < r.area.h
 
 -- A viewer that takes copies, and hasn't asked for what it may have already, may be sent it instead
--- of what the rectangle paints: no pixel that is copied is stale before.
+-- of what the rectangle paints: no more than 16 are kept, all its pixels are asked for if any are, and
+-- the stale ones among those that are copied don't reach all of their edges.
 pub record CanBeKept (v : View) (r : Rectangle) (bytes : List ℕ) (c : KeptCopy) : Type 0 where
   pub is : IsCopyBy r bytes c
   pub takes : v.takes_copies ≡ true
-  pub asked : v.asked_whole ≡ false
-  pub clean : HasNone v.stale (source c)
+  pub whole : v.asked_whole ≡ false
+  pub room : length v.copies < 16
+  pub asked : IsAskedFor v.pending c.area
+  pub clean : IsSmallest (λ x y. is_in (source c) x y && holds v.stale x y) (source c) → ⊥
 
--- the areas have a pixel in common
-pub record Meet (one other : Area) : Type 0 where
-  pub x : ℕ
-  pub y : ℕ
-  pub in_one : is_in one x y ≡ true
-  pub in_other : is_in other x y ≡ true
+-- The pixels to be sent, once a copy is kept. Where it takes the smallest area that holds those among
+-- the ones that are copied, pixels are to be sent; its others needn't be.
+pub record AreLeft (copy : KeptCopy) (old new : PixelSet) : Type 0 where
+  pub stale : Option Area
+  pub smallest : IsSmallestOf (λ x y. is_in (source copy) x y && holds old x y) stale
+  pub left : AreJust new (λ x y. is_moved copy stale x y || (holds old x y && not (is_in copy.area x y)))
 
--- The copy that was kept is kept on: the rectangle meets none of the pixels that it goes to.
-pub record KeepsOn (old : Option KeptCopy) (area : Area) (new : Option KeptCopy) : Type 0 where
+-- The rectangle's copy is kept after the others.
+pub record KeepsCopy (old new : View) (r : Rectangle) (bytes : List ℕ) : Type 0 where
   pub copy : KeptCopy
-  pub old_is : old ≡ Some copy
-  pub apart : Meet area copy.area → ⊥
-  pub new_is : new ≡ Some copy
+  pub can : CanBeKept old r bytes copy
+  pub copies : new.copies ≡ old.copies ++ copy ∷ []
+  pub left : AreLeft copy old.stale new.stale
 
--- None was, or it is dropped. The rectangle's own is kept, if it can be.
-pub record KeepsOwn (v : View) (r : Rectangle) (bytes : List ℕ) (new : Option KeptCopy) : Type 0 where
-  pub dropped : IfSome v.copy (λ c. Meet r.area c.area)
-  pub own : MatchOption new ((c : KeptCopy) → CanBeKept v r bytes c → ⊥) (CanBeKept v r bytes)
+-- It makes none that can be kept, and its pixels are to be sent.
+pub record KeepsNone (old new : View) (r : Rectangle) (bytes : List ℕ) : Type 0 where
+  pub none : (c : KeptCopy) → CanBeKept old r bytes c → ⊥
+  pub copies : new.copies ≡ old.copies
+  pub left : AreJust new.stale (λ x y. is_in r.area x y || holds old.stale x y)
 
--- which copy a view keeps once it paints a rectangle, whose data these are
-abbrev pub IsKeptAfter : View → Rectangle → List ℕ → Option KeptCopy → Type 0
-IsKeptAfter v r bytes new = KeepsOn v.copy r.area new ⊎ KeepsOwn v r bytes new
+-- what a view keeps and lacks once it notes a rectangle, whose data these are
+abbrev pub IsKeptAfter : View → View → Rectangle → List ℕ → Type 0
+IsKeptAfter old new r bytes = KeepsCopy old new r bytes ⊎ KeepsNone old new r bytes
 
 -- A view paints a rectangle of a message's bytes, and its pixels are stale.
 pub record IsPainted (old new : View) (bytes : List ℕ) (r : Rectangle) : Type 0 where
@@ -133,8 +142,8 @@ pub record IsPainted (old new : View) (bytes : List ℕ) (r : Rectangle) : Type 
   pub painted : Has new.screen (painted_rectangle bytes r (color_at old.screen))
   pub stale_size : sets.SameSize old.stale new.stale
   pub stale : AreStale new (λ x y. is_in r.area x y || stale_at old x y)
-  pub copy : IsKeptAfter old r (slice_range bytes r.start r.end) new.copy
-  pub kept : new ≡ record old { screen = new.screen; stale = new.stale; copy = new.copy }
+  pub copies : IsKeptAfter old new r (slice_range bytes r.start r.end)
+  pub kept : new ≡ record old { screen = new.screen; stale = new.stale; copies = new.copies }
 
 -- rectangles, one after another
 abbrev pub ArePainted : List ℕ → View → View → List Rectangle → Type 0
@@ -146,11 +155,11 @@ abbrev pub AreAllPainted : View → View → List Stamped → Type 0
 AreAllPainted old new [] = new ≡ old
 AreAllPainted old new (m ∷ ms) = (v : View) × ArePainted m.message.bytes old v m.message.rectangles × AreAllPainted v new ms
 
--- A view begins at a slice's start, with no copy and all pixels stale; or goes on from its own
+-- A view begins at a slice's start, with no copies and all pixels stale; or goes on from its own
 -- screen. It is then to stand at this position.
 pub record Starts (old new : View) (start : Framebuffer) (end : ℕ) : Type 0 where
   pub stale : AreStale new (λ x y. true)
-  pub kept : new ≡ record old { screen = start; stale = new.stale; started = true; copy = None; position = end }
+  pub kept : new ≡ record old { screen = start; stale = new.stale; started = true; copies = []; position = end }
 
 abbrev pub Begins : View → View → Option Framebuffer → ℕ → Type 0
 Begins old new None end = new ≡ record old { position = end }
@@ -179,18 +188,29 @@ pub record IsWidened (left : ℕ → ℕ → Bool) (old new : Option Area) : Typ
   pub some : (x y : ℕ) → left x y ≡ true → IsSmallestOf (λ a b. is_pending old a b || left a b) new
   pub none : ((x y : ℕ) → left x y ≡ true → ⊥) → new ≡ old
 
--- Some pixel passes the test of what the viewer asks for whole: the kept copy is dropped.
+-- Some pixel passes the test of what the viewer asks for whole: no copy is kept.
 pub record AsksWhole (whole : ℕ → ℕ → Bool) (new : View) : Type 0 where
   pub x : ℕ
   pub y : ℕ
   pub passes : whole x y ≡ true
-  pub copy : new.copy ≡ None
+  pub copies : new.copies ≡ []
   pub asked_whole : new.asked_whole ≡ true
+
+-- All that the copies go to is asked for, and they are kept on.
+pub record KeepsOn (old new : View) : Type 0 where
+  pub asked : IfSome new.pending (λ p. all_in old.copies p ≡ true)
+  pub copies : new.copies ≡ old.copies
+  pub stale : new.stale ≡ old.stale
+
+-- Some of it isn't, and no copy is kept.
+pub record GivesUp (old new : View) : Type 0 where
+  pub asked : IfSome new.pending (λ p. all_in old.copies p ≡ false)
+  pub copies : new.copies ≡ []
 
 -- or none does
 pub record AsksChanges (whole : ℕ → ℕ → Bool) (old new : View) : Type 0 where
   pub none : (x y : ℕ) → whole x y ≡ true → ⊥
-  pub copy : new.copy ≡ old.copy
+  pub copies : KeepsOn old new ⊎ GivesUp old new
   pub asked_whole : new.asked_whole ≡ old.asked_whole
 
 abbrev pub Asks : (ℕ → ℕ → Bool) → View → View → Type 0
@@ -202,22 +222,23 @@ pub record IsAsked (old new : View) (incremental : Bool) (area : Area) : Type 0 
   pub stale : AreStale new (λ x y. (not incremental && is_left old.screen.width old.screen.height area x y) || stale_at old x y)
   pub pending : IsWidened (is_left old.screen.width old.screen.height area) old.pending new.pending
   pub whole : Asks (λ x y. not incremental && is_left old.screen.width old.screen.height area x y) old new
-  pub kept : new ≡ record old { stale = new.stale; pending = new.pending; asked_whole = new.asked_whole; copy = new.copy }
+  pub kept : new ≡ record old { stale = new.stale; pending = new.pending; asked_whole = new.asked_whole; copies = new.copies }
 
 -- A format is taken: all pixels are stale, and no copy is kept.
 pub record IsReformatted (old new : View) (f : Format) : Type 0 where
   pub stale : AreStale new (λ x y. true)
-  pub kept : new ≡ record old { format = f; stale = new.stale; copy = None }
+  pub kept : new ≡ record old { format = f; stale = new.stale; copies = [] }
 
 -- the list has CopyRect's number
 abbrev pub takes_copies : List ℤ → Bool
 takes_copies numbers = list_any (λ n. int_eq n (pos 1)) numbers
 
 -- Encodings are taken: updates are in the first that is known, and in Raw if none is; copies are
--- sent if CopyRect is among them. No copy is kept.
+-- sent if CopyRect is among them. No copy is kept, and the same pixels are stale.
 pub record IsReencoded (old new : View) (numbers : List ℤ) : Type 0 where
   pub given : StandsFirst numbers new.encoding ⊎ (All IsOther numbers × (new.encoding ≡ encodings.Raw))
-  pub kept : new ≡ record old { encoding = new.encoding; takes_copies = takes_copies numbers; copy = None }
+  pub stale : AreStale new (stale_at old)
+  pub kept : new ≡ record old { encoding = new.encoding; takes_copies = takes_copies numbers; stale = new.stale; copies = [] }
 
 -- what a message of the viewer changes
 abbrev pub IsTaken : View → View → ClientMessage → Type 0
@@ -239,25 +260,14 @@ pub record IsDue (v : View) : Type 0 where
   pub asked : is_pending v.pending x y ≡ true
   pub stale : stale_at v x y ≡ true
 
--- the copy with which an update begins: the kept one, if all pixels that it goes to are asked for
-abbrev pub copy_due : View → Option KeptCopy
-copy_due v = copy_asked v.copy v.pending
-
--- a set without the pixels that a copy goes to
-pub record IsWithout (copy : Option KeptCopy) (old new : PixelSet) : Type 0 where
-  pub size : sets.SameSize old new
-  pub just : AreJust new (λ x y. holds old x y && not (is_copied copy x y))
-
--- An update is due, and these are the areas by which the stale pixels are sent that are asked for,
--- but for those of a copy that is sent before: of each tile that has some the smallest that holds
--- those, or one for all if there would be too many.
+-- An update is due, and these are the areas by which the pixels are sent that are asked for, and that
+-- the copies don't bring: of each tile that has some the smallest that holds those, or one for all if
+-- there would be too many.
 pub record AreDueIn (v : View) (areas : List Area) : Type 0 where
   pub due : IsDue v
   pub pending : Area
   pub pending_is : v.pending ≡ Some pending
-  pub left : PixelSet
-  pub left_is : IsWithout (copy_due v) v.stale left
-  pub sent : AreSent left pending areas
+  pub sent : AreSent v.stale pending areas
 
 -- one of the rectangles of an update covers the pixel
 abbrev pub is_covered : List Drawn → ℕ → ℕ → Bool
@@ -280,18 +290,18 @@ pub record Answers (old new : View) (update : List ℕ) : Type 0 where
       → (x y : ℕ) → is_pending old.pending x y ≡ true
       → all_painted old.format drawn seen x y ≡ converted old.format (color_at old.screen x y)
   -- nothing is asked for any more, and all else is as it was
-  pub kept : new ≡ record old { stale = new.stale; pending = None; asked_whole = false; copy = None }
+  pub kept : new ≡ record old { stale = new.stale; pending = None; asked_whole = false; copies = [] }
 
--- a rectangle that copies, if there is a copy, and one for each area, in their order
-abbrev pub AreDrawn : Format → Option KeptCopy → List Area → List Drawn → Type 0
-AreDrawn f None areas drawn = map (λ d. d.area) drawn ≡ areas
-AreDrawn f (Some c) areas [] = ⊥
-AreDrawn f (Some c) areas (d ∷ drawn) = DrawsCopy f c.area c.source_x c.source_y d × (map (λ d. d.area) drawn ≡ areas)
+-- a rectangle for each copy, and one for each area, in their order
+abbrev pub AreDrawn : Format → List KeptCopy → List Area → List Drawn → Type 0
+AreDrawn f [] areas drawn = map (λ d. d.area) drawn ≡ areas
+AreDrawn f (c ∷ cs) areas [] = ⊥
+AreDrawn f (c ∷ cs) areas (d ∷ drawn) = DrawsCopy f c.area c.source_x c.source_y d × AreDrawn f cs areas drawn
 
--- the update begins with the copy that is due, and has a rectangle for each area that is
+-- the update begins with the copies that are kept, and has a rectangle for each area that is due
 pub record HasAreasDue (old : View) (update : List ℕ) : Type 0 where
   pub drawn : List Drawn
   pub reads : update_at old.format old.screen.width old.screen.height update ≡ Got drawn []
   pub areas : List Area
   pub due : AreDueIn old areas
-  pub are : AreDrawn old.format (copy_due old) areas drawn
+  pub are : AreDrawn old.format old.copies areas drawn

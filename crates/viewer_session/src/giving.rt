@@ -19,7 +19,7 @@ fn append_found<U: Updates>(
     snapshot: &Snapshot,
     out: &mut Vec<u8>,
 ) -> Result<bool, NoMemory>
-    ensures found { IfOk result (λ found. found ≡ true → Appends (IsUpdateOf wanted.entry.format.now wanted.entry.encoding snapshot.now wanted.entry.copy wanted.entry.areas.now)
+    ensures found { IfOk result (λ found. found ≡ true → Appends (IsUpdateOf wanted.entry.format.now wanted.entry.encoding snapshot.now wanted.entry.copies.now wanted.entry.areas.now)
         out.old.items out.new.items) }
     ensures none { IfOk result (λ found. found ≡ false → out.new.items ≡ out.old.items) }
     ensures err { OnErr result (out.new.items ≡ out.old.items) }
@@ -43,7 +43,7 @@ fn leave<U: Updates>(
     bytes: &[u8],
 )
     requires within { All (LiesWithin snapshot.now.width snapshot.now.height) wanted.areas.now }
-    requires is { IsUpdateOf wanted.format.now wanted.encoding snapshot.now wanted.copy wanted.areas.now bytes.now }
+    requires is { IsUpdateOf wanted.format.now wanted.encoding snapshot.now wanted.copies.now wanted.areas.now bytes.now }
 {
     if let Ok(update) = SharedUpdate::new(alloc, wanted, snapshot, bytes) {
         updates.leave(update);
@@ -57,19 +57,19 @@ fn write(
     screen: &Shown,
     out: &mut Vec<u8>,
 ) -> Result<(), NoMemory>
-    requires few { length wanted.areas.now + 1 < 2 ^ 16 }
+    requires few { length wanted.copies.now + length wanted.areas.now < 2 ^ 16 }
     requires within { All (LiesWithin screen.now.width screen.now.height) wanted.areas.now }
-    ensures ok { OnOk result (Appends (IsUpdateOf wanted.entry.format.now wanted.entry.encoding screen.now wanted.entry.copy wanted.entry.areas.now)
+    ensures ok { OnOk result (Appends (IsUpdateOf wanted.entry.format.now wanted.entry.encoding screen.now wanted.entry.copies.now wanted.entry.areas.now)
         out.old.items out.new.items) }
     ensures err { OnErr result (out.new.items ≡ out.old.items) }
 {
     let Wanted {
         format,
         encoding,
-        copy,
+        copies,
         areas,
     } = wanted;
-    write_areas(alloc, format, encoding, screen, copy, areas, out)
+    write_areas(alloc, format, encoding, screen, copies, areas, out)
 }
 
 // The same of a screen that is this snapshot: one that serves, or one that is then left for others.
@@ -82,9 +82,9 @@ fn share<U: Updates>(
     out: &mut Vec<u8>,
 ) -> Result<(), NoMemory>
     requires shown { snapshot.now ≡ screen.now }
-    requires few { length wanted.areas.now + 1 < 2 ^ 16 }
+    requires few { length wanted.copies.now + length wanted.areas.now < 2 ^ 16 }
     requires within { All (LiesWithin screen.now.width screen.now.height) wanted.areas.now }
-    ensures ok { OnOk result (Appends (IsUpdateOf wanted.entry.format.now wanted.entry.encoding screen.now wanted.entry.copy wanted.entry.areas.now)
+    ensures ok { OnOk result (Appends (IsUpdateOf wanted.entry.format.now wanted.entry.encoding screen.now wanted.entry.copies.now wanted.entry.areas.now)
         out.old.items out.new.items) }
     ensures err { OnErr result (out.new.items ≡ out.old.items) }
 {
@@ -107,9 +107,9 @@ pub fn give_update<U: Updates>(
     screen: &Shown,
     out: &mut Vec<u8>,
 ) -> Result<(), NoMemory>
-    requires few { length wanted.areas.now + 1 < 2 ^ 16 }
+    requires few { length wanted.copies.now + length wanted.areas.now < 2 ^ 16 }
     requires within { All (LiesWithin screen.now.width screen.now.height) wanted.areas.now }
-    ensures ok { OnOk result (Appends (IsUpdateOf wanted.entry.format.now wanted.entry.encoding screen.now wanted.entry.copy wanted.entry.areas.now)
+    ensures ok { OnOk result (Appends (IsUpdateOf wanted.entry.format.now wanted.entry.encoding screen.now wanted.entry.copies.now wanted.entry.areas.now)
         out.old.items out.new.items) }
     ensures err { OnErr result (out.new.items ≡ out.old.items) }
 {

@@ -2,7 +2,6 @@
 //! updates that answer what it asks for (RFC 6143).
 #![tactic(auto)]
 
-mod copies;
 mod fault;
 mod giving;
 mod greeting;

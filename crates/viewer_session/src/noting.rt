@@ -1,20 +1,45 @@
 //! What a view has of messages, rectangle by rectangle, whoever paints them.
 
-ghost use Rattle.std.specs.Prelude.{◌≡◌, ◌<◌, All, length, MatchOption, slice_index_or};
+ghost use Rattle.std.specs.Prelude.{◌≡◌, ◌↔◌, ◌<◌, ◌&&◌, ◌++◌, ◌∷◌, [], All, length, IsTrue, MatchOption, slice_index_or};
 ghost use Rattle.pixel_format.specs.Format.{host_format};
 ghost use Rattle.rect_data.specs.Data.{AreData};
 ghost use Rattle.rfb_wire.specs.declared.message.Rectangle.{Rectangle};
 ghost use Rattle.shared_updates.specs.declared.copy.KeptCopy.{KeptCopy as Kept};
-ghost use Rattle.viewer_session.specs.View.{IsSound, CanBeKept, IsKeptAfter};
+ghost use Rattle.terms.specs.Area.{is_in, IsSmallest, LiesWithin};
+ghost use Rattle.pixel_sets.specs.Pixels.{holds, SameSize};
+ghost use Rattle.shared_updates.specs.Copies.{IsCopyWithin};
+ghost use Rattle.viewer_session.specs.View.{IsSound, IsAskedFor, AreLeft, CanBeKept};
 ghost use Rattle.viewer_session.specs.Noting.{IsNoted, AreNoted, AreAllNoted};
 
 use crate::view::View;
 use rect_data::Encoding;
 use replay::key_index::Stamped;
 use rfb_wire::{HostMessage, Rectangle};
-use shared_updates::KeptCopy;
+use shared_updates::{KeptCopy, lies_in};
+use terms::Area;
 
 impl View {
+    // Whether all pixels of an area are asked for, if any are.
+    fn is_asked_for(&self, area: Area) -> bool
+        ensures { IsTrue result ↔ IsAskedFor self.now.pending area }
+    {
+        match self.pending {
+            Some(pending) => lies_in(area, pending),
+            None => true,
+        }
+    }
+
+    // Whether the pixels of an area that are to be sent reach all its edges.
+    fn are_lost(&self, area: Area) -> bool
+        requires { LiesWithin self.now.stale.width self.now.stale.height area }
+        ensures { IsTrue result ↔ IsSmallest (λ x y. is_in area x y && holds self.now.stale x y) area }
+    {
+        match self.stale.smallest(area) {
+            Some(stale) => stale.w == area.w && stale.h == area.h,
+            None => false,
+        }
+    }
+
     // The copy that a rectangle makes, if the viewer can be sent it.
     fn own_copy(&self, rectangle: Rectangle, bytes: &[u8]) -> Option<KeptCopy>
         requires sound { IsSound self.now }
@@ -24,37 +49,41 @@ impl View {
             ((c : Kept) → CanBeKept self.now rectangle bytes.now c → ⊥)
             (CanBeKept self.now rectangle bytes.now) }
     {
+        let area = rectangle.area;
         if !self.takes_copies || self.asked_whole || rectangle.encoding != Encoding::CopyRect {
             return None;
         }
-        if rectangle.area.w == 0 || rectangle.area.h == 0 {
+        if area.w == 0 || area.h == 0 || !self.copies.have_room() || !self.is_asked_for(area) {
             return None;
         }
-        let copy = KeptCopy::named(rectangle.area, bytes);
-        if !self.stale.has_none(copy.source()) {
+        let copy = KeptCopy::named(area, bytes);
+        if self.are_lost(copy.source()) {
             return None;
         }
         Some(copy)
     }
 
-    // The copy that is kept once a rectangle is noted.
-    fn copy_after(&self, rectangle: Rectangle, bytes: &[u8]) -> Option<KeptCopy>
-        requires sound { IsSound self.now }
-        requires content { AreData host_format self.now.screen.width self.now.screen.height
-            rectangle.encoding rectangle.area bytes.now }
-        ensures { IsKeptAfter self.now rectangle bytes.now result }
+    // Keeps a copy after the others: the pixels to be sent among those that it copies move with it.
+    fn keep(&mut self, copy: KeptCopy)
+        requires sound { IsSound self.old }
+        requires within { IsCopyWithin self.old.screen.width self.old.screen.height copy }
+        requires room { length self.old.copies < 16 }
+        ensures copies { self.new.copies ≡ self.old.copies ++ copy ∷ [] }
+        ensures size { SameSize self.old.stale self.new.stale }
+        ensures left { AreLeft copy self.old.stale self.new.stale }
+        ensures kept { self.new ≡ record self.old { stale = self.new.stale; copies = self.new.copies } }
     {
-        let Some(copy) = self.copy else {
-            return self.own_copy(rectangle, bytes);
-        };
-        if rectangle.area.common(copy.area).is_some() {
-            return self.own_copy(rectangle, bytes);
+        let _sides = self.screen.size(); // have 16 bits, and so do those of what moves
+        let stale = self.stale.smallest(copy.source());
+        self.stale.remove(copy.area);
+        if let Some(stale) = stale {
+            self.stale.insert(copy.moved(stale));
         }
-        Some(copy)
+        self.copies.add(copy);
     }
 
-    /// Makes the pixels of the rectangle of this number of a message stale. Whether it makes a copy
-    /// is asked before.
+    /// Makes the pixels of the rectangle of this number of a message stale. If it copies pixels of
+    /// which the viewer has some, the viewer is to copy them, too.
     pub fn note_rectangle(&mut self, message: &HostMessage, number: usize)
         requires sound { IsSound self.old }
         requires width { message.now.width ≡ self.old.screen.width }
@@ -65,9 +94,10 @@ impl View {
     {
         let rectangle = message.rectangles()[number];
         let data = &message.bytes()[rectangle.start..rectangle.end];
-        let copy = self.copy_after(rectangle, data);
-        self.stale.insert(rectangle.area);
-        self.copy = copy;
+        match self.own_copy(rectangle, data) {
+            Some(copy) => self.keep(copy),
+            None => self.stale.insert(rectangle.area),
+        }
     }
 
     // Notes a message's rectangles.

@@ -79,7 +79,7 @@ impl Session {
         ensures position { IfOk result (λ s. s.view.position ≡ 0) }
         ensures started { IfOk result (λ s. s.view.started ≡ false) }
         ensures pending { IfOk result (λ s. s.view.pending ≡ None) }
-        ensures copies { IfOk result (λ s. (s.view.copy ≡ None) × (s.view.takes_copies ≡ false)
+        ensures copies { IfOk result (λ s. (s.view.copies ≡ []) × (s.view.takes_copies ≡ false)
             × (s.view.asked_whole ≡ false)) }
         ensures right { IfOk result (λ s. (head : Head) → head.width ≡ size.width
             → head.height ≡ size.height → (seen : Picture) → (messages : List Stamped)
@@ -218,10 +218,10 @@ impl Session {
     }
 
     /// Appends the handshake's answers that are due, each byte once, and then the update that is
-    /// due, whose pixels are taken as clean: a rectangle that copies, if a copy is kept all of
-    /// whose pixels are asked for; and one for each tile of 16 by 16 with other stale pixels that
-    /// are asked for, or one for all if there would be more than 4,096, each in the encoding that
-    /// the viewer asked for or in Raw. One that was written for another viewer, and is found among
+    /// due, whose pixels are taken as clean: the rectangles that copy which the host sent meanwhile
+    /// and the viewer can follow, 16 at most; and one for each tile of 16 by 16 with pixels that are
+    /// asked for and that those don't bring, or one for all if there would be more than 4,096, each
+    /// in the encoding that the viewer asked for or in Raw. One that was written for another viewer, and is found among
     /// these, is given if it is such an update. Running out of memory changes nothing. After a fault
     /// it still gives what was due.
     pub fn answer<U: Updates>(&mut self, updates: &U, out: &mut Vec<u8>) -> Result<(), NoMemory>

@@ -1,4 +1,4 @@
-//! An update of a copy and of some areas of a screen.
+//! An update of copies and of some areas of a screen.
 
 ghost use Rattle.std.specs.Prelude.{◌≡◌, ◌+◌, ◌<◌, ◌^◌, All, length, IfOk, OnOk, OnErr};
 ghost use Rattle.terms.specs.Appending.{Appends};
@@ -14,17 +14,17 @@ use shared_updates::KeptCopy;
 use std::alloc::Global;
 use terms::{Area, NoMemory};
 
-// The parts of an update of a copy, if there is one, and of these areas after it.
+// The parts of an update of these copies, and of these areas after them.
 fn parts_of(
     alloc: Global,
-    copy: Option<KeptCopy>,
+    copies: &[KeptCopy],
     encoding: Encoding,
     areas: &[Area],
 ) -> Result<Vec<ScreenPart>, NoMemory>
-    ensures { IfOk result (λ parts. parts.items ≡ screen_parts copy encoding areas.now) }
+    ensures { IfOk result (λ parts. parts.items ≡ screen_parts copies.now encoding areas.now) }
 {
     let mut parts = Vec::new(alloc);
-    if let Some(copy) = copy {
+    for copy in copies {
         parts.push(ScreenPart::Copy {
             area: copy.area,
             source_x: copy.source_x,
@@ -40,25 +40,25 @@ fn parts_of(
     Ok(parts)
 }
 
-/// Appends an update of a copy, if there is one, and of these areas of a screen after it, in their
-/// order, for one who takes this format and asked for this encoding. Running out of memory leaves
+/// Appends an update of these copies, and of these areas of a screen after them, in their order, for
+/// one who takes this format and asked for this encoding. Running out of memory leaves
 /// `out` as it was.
 pub fn write_areas(
     alloc: Global,
     format: &PixelFormat,
     encoding: Encoding,
     screen: &Shown,
-    copy: Option<KeptCopy>,
+    copies: &[KeptCopy],
     areas: &[Area],
     out: &mut Vec<u8>,
 ) -> Result<(), NoMemory>
-    requires few { length areas.now + 1 < 2 ^ 16 }
+    requires few { length copies.now + length areas.now < 2 ^ 16 }
     requires within { All (LiesWithin screen.now.width screen.now.height) areas.now }
-    ensures ok { OnOk result (Appends (IsUpdateOf format.now encoding screen.now copy areas.now)
+    ensures ok { OnOk result (Appends (IsUpdateOf format.now encoding screen.now copies.now areas.now)
         out.old.items out.new.items) }
     ensures err { OnErr result (out.new.items ≡ out.old.items) }
 {
     screen.known_colors();
-    let parts = parts_of(alloc, copy, encoding, areas)?;
+    let parts = parts_of(alloc, copies, encoding, areas)?;
     screen.append_update(alloc, format, &parts, out)
 }

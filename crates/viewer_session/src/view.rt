@@ -1,6 +1,6 @@
 //! What a viewer has of a recording's screen, and what it lacks.
 
-ghost use Rattle.std.specs.Prelude.{◌≡◌, ◌+◌, ◌<◌, ◌||◌, true, false, List, length, Option, None, IfOk, IfSome, MatchOption, OnOk, OnErr};
+ghost use Rattle.std.specs.Prelude.{◌≡◌, ◌+◌, ◌<◌, ◌||◌, true, false, List, [], length, None, IfOk, IfSome, MatchOption, OnOk, OnErr};
 ghost use Rattle.pixel_format.specs.Canvas.{Picture};
 ghost use Rattle.pixel_format.specs.Format.{host_format};
 ghost use Rattle.terms.specs.Appending.{Appends};
@@ -11,12 +11,12 @@ ghost use Rattle.keyed_entries.specs.declared.entry.Stamped.{Stamped};
 ghost use Rattle.replay.specs.Screens.{IsScreenAt};
 ghost use Rattle.replay.specs.Slices.{Stands};
 ghost use Rattle.viewer_session.specs.Noting.{BeginsUnpainted, NotesSlice};
-ghost use Rattle.viewer_session.specs.Copies.{copy_in, IsPart};
+ghost use Rattle.pixel_sets.specs.Pixels.{SameSize};
+ghost use Rattle.shared_updates.specs.Copies.{IsPart, all_in};
 ghost use Rattle.viewer_session.specs.Encoded.{IsEncodedFor};
 ghost use Rattle.viewer_session.specs.Sent.{IsNothing, IsSent};
 ghost use Rattle.viewer_session.specs.View.{IsRight, IsSound, IsNext, AreStale, stale_at, is_stale_after, is_there, is_pending, GoesOn, IsDue, IsAsked, IsTaken, AreTaken, Answers, HasAreasDue};
 
-use crate::copies::{lies_in, put_back, take_out};
 use crate::giving::give_update;
 use crate::shown::Shown;
 use client_wire::ClientMessage;
@@ -26,7 +26,7 @@ use pixel_sets::Pixels;
 use rect_codec::{pick, written_parts_are_read};
 use rect_data::Encoding;
 use replay::Slice;
-use shared_updates::{KeptCopy, Updates, Wanted};
+use shared_updates::{Copies, Updates, Wanted};
 use std::alloc::Global;
 use terms::{Area, NoMemory, ScreenSize};
 
@@ -45,7 +45,7 @@ pub struct View {
     pub position: u64,
     /// Whether a start has come.
     pub started: bool,
-    /// The pixels whose colours the viewer may not show.
+    /// The pixels that the viewer is to be sent: it may not show their colours, nor copy them.
     pub stale: Pixels,
     /// The area that it asks for, if any.
     pub pending: Option<Area>,
@@ -53,8 +53,8 @@ pub struct View {
     pub asked_whole: bool,
     /// Whether the viewer takes rectangles that copy.
     pub takes_copies: bool,
-    /// The pixels that it can copy from others, if any.
-    pub copy: Option<KeptCopy>,
+    /// The copies by which it is to begin its next update.
+    pub copies: Copies,
 }
 
 // What is pending once a part of the screen was asked for, beside what was.
@@ -80,7 +80,7 @@ impl View {
         ensures position { IfOk result (λ v. v.position ≡ 0) }
         ensures started { IfOk result (λ v. v.started ≡ false) }
         ensures pending { IfOk result (λ v. v.pending ≡ None) }
-        ensures copies { IfOk result (λ v. (v.copy ≡ None) × (v.takes_copies ≡ false)
+        ensures copies { IfOk result (λ v. (v.copies ≡ []) × (v.takes_copies ≡ false)
             × (v.asked_whole ≡ false)) }
         ensures size { IfOk result (λ v. (v.screen.width ≡ size.width) × (v.screen.height ≡ size.height)) }
         ensures right { IfOk result (λ v. (head : Head) → head.width ≡ size.width → head.height ≡ size.height
@@ -96,7 +96,7 @@ impl View {
             pending: None,
             asked_whole: false,
             takes_copies: false,
-            copy: None,
+            copies: Copies::new(),
         })
     }
 
@@ -113,7 +113,7 @@ impl View {
         if slice.start.is_some() {
             self.stale.insert_all(); // whatever the viewer shows is from another position
             self.started = true;
-            self.copy = None; // nor can it be copied from there
+            self.copies = Copies::new(); // nor can it be copied from there
         }
         self.position = slice.end();
     }
@@ -172,43 +172,32 @@ impl View {
         self.screen.give(snapshot);
     }
 
-    // The copy with which an update begins, if any: all pixels that it goes to are asked for.
-    fn copy_due(&self, pending: Area) -> Option<KeptCopy>
-        ensures { result ≡ copy_in self.now.copy pending }
-    {
-        let copy = self.copy?;
-        if !lies_in(copy.area, pending) {
-            return None;
-        }
-        Some(copy)
-    }
-
-    // Appends an update of a copy, if there is one, and of the stale pixels of an area, and answers
-    // by which areas; nothing if there is neither.
+    // Appends an update of the copies and of the stale pixels of an area, and answers by which areas;
+    // nothing if there are neither.
     fn send<U: Updates>(
         &self,
         alloc: Global,
         updates: &U,
         pending: Area,
-        copy: Option<KeptCopy>,
         out: &mut Vec<u8>,
     ) -> Result<Option<Vec<Area>>, NoMemory>
         requires width { self.now.stale.width ≡ self.now.screen.width }
         requires height { self.now.stale.height ≡ self.now.screen.height }
         requires pending { LiesWithin self.now.screen.width self.now.screen.height pending }
         ensures ok { IfOk result (λ sent. MatchOption sent
-            (IsNothing self.now pending copy out.old.items out.new.items)
-            (λ areas. IsSent self.now pending copy areas.items out.old.items out.new.items)) }
+            (IsNothing self.now pending out.old.items out.new.items)
+            (λ areas. IsSent self.now pending areas.items out.old.items out.new.items)) }
         ensures err { OnErr result (out.new.items ≡ out.old.items) }
     {
+        let copies = self.copies.as_slice();
         let areas = self.stale.areas(alloc, pending)?;
-        if copy.is_none() && areas.is_empty() {
+        if copies.is_empty() && areas.is_empty() {
             return Ok(None);
         }
         let wanted = Wanted {
             format: &self.format,
             encoding: self.encoding,
-            copy,
+            copies,
             areas: &areas,
         };
         give_update(alloc, updates, wanted, &self.screen, out)?;
@@ -216,10 +205,10 @@ impl View {
     }
 
     /// Appends the update that is due, and takes its pixels as clean; nothing if none is due. It
-    /// begins with the kept copy, if all pixels that this goes to are asked for. It has a rectangle
-    /// for each tile of 16 by 16 with stale pixels that are asked for, beside those of the copy,
-    /// the smallest that holds those; or one for all, if there would be more than 4,096. One that was
-    /// written for others may serve. Running out of memory changes nothing.
+    /// begins with the kept copies, in the order in which the host made them. It has a rectangle for
+    /// each tile of 16 by 16 with pixels that are asked for and that those don't bring, the smallest
+    /// that holds those; or one for all, if there would be more than 4,096. One that was written for
+    /// others may serve. Running out of memory changes nothing.
     pub fn answer<U: Updates>(
         &mut self,
         alloc: Global,
@@ -246,25 +235,55 @@ impl View {
         if !self.started {
             return Ok(());
         }
-        let copy = self.copy_due(pending);
-        self.stale.known();
-        take_out(&mut self.stale, copy);
-        match self.send(alloc, updates, pending, copy, out) {
-            Ok(Some(areas)) => {
-                written_parts_are_read();
-                self.stale.remove_all(&areas);
-                self.pending = None;
-                self.asked_whole = false;
-                self.copy = None; // what is copied may be among the pixels that were sent
-                Ok(())
-            }
-            Ok(None) => Ok(()),
-            Err(refusal) => {
-                put_back(&mut self.stale, copy);
-                self.stale.known();
-                Err(refusal)
-            }
+        let Some(areas) = self.send(alloc, updates, pending, out)? else {
+            return Ok(());
+        };
+        written_parts_are_read();
+        self.stale.remove_all(&areas);
+        self.pending = None;
+        self.asked_whole = false;
+        self.copies = Copies::new(); // they are carried out
+        Ok(())
+    }
+
+    // Keeps no copies any more: what they go to is to be sent.
+    fn give_up_copies(&mut self)
+        requires { IsSound self.old }
+        ensures sound { IsSound self.new }
+        ensures size { SameSize self.old.stale self.new.stale }
+        ensures stale { AreStale self.new (stale_at self.old) }
+        ensures kept { self.new ≡ record self.old { stale = self.new.stale; copies = [] } }
+    {
+        self.copies.give_up(&mut self.stale);
+    }
+
+    // Gives the copies up if the viewer may have lost what it shows, or doesn't ask for all that they
+    // go to.
+    fn keep_asked(&mut self, incremental: bool, pending: Area)
+        requires { IsSound self.old }
+        ensures size { SameSize self.old.stale self.new.stale }
+        ensures stale { AreStale self.new (stale_at self.old) }
+        ensures kept { self.new ≡ record self.old { stale = self.new.stale; copies = self.new.copies } }
+        ensures lost { incremental ≡ false → self.new.copies ≡ [] }
+        ensures outside { all_in self.old.copies pending ≡ false → self.new.copies ≡ [] }
+        ensures on { incremental ≡ true → all_in self.old.copies pending ≡ true → self.new ≡ self.old }
+    {
+        if !incremental || !self.copies.are_in(pending) {
+            self.give_up_copies();
         }
+    }
+
+    // Makes the pixels of a part of the screen stale that is asked for whole.
+    fn ask_whole(&mut self, area: Area)
+        requires sound { IsSound self.old }
+        requires part { IsPart self.old.screen.width self.old.screen.height area }
+        requires copies { self.old.copies ≡ [] }
+        ensures size { SameSize self.old.stale self.new.stale }
+        ensures stale { AreStale self.new (λ x y. is_in area x y || stale_at self.old x y) }
+        ensures kept { self.new ≡ record self.old { stale = self.new.stale; asked_whole = true } }
+    {
+        self.stale.insert(area);
+        self.asked_whole = true;
     }
 
     // Takes a request for an area.
@@ -277,12 +296,12 @@ impl View {
         let Some(area) = area.cut(size) else {
             return;
         };
+        let pending = widened(self.pending, area, size);
+        self.keep_asked(incremental, pending);
+        self.pending = Some(pending);
         if !incremental {
-            self.stale.insert(area);
-            self.asked_whole = true;
-            self.copy = None; // the viewer may have lost what it shows
+            self.ask_whole(area);
         }
-        self.pending = Some(widened(self.pending, area, size));
     }
 
     /// Takes a message of the viewer. A request is cut to the screen, and dropped if nothing of it
@@ -300,12 +319,12 @@ impl View {
             ClientMessage::SetPixelFormat(format) => {
                 self.format = format;
                 self.stale.insert_all();
-                self.copy = None; // what the viewer shows is in the old format
+                self.copies = Copies::new(); // what the viewer shows is in the old format
             }
             ClientMessage::SetEncodings(encodings) => {
                 self.encoding = pick(encodings.as_slice());
                 self.takes_copies = encodings.as_slice().contains(&COPY_RECT);
-                self.copy = None;
+                self.give_up_copies();
             }
             ClientMessage::Request { incremental, area } => self.ask(incremental, area),
             ClientMessage::Input(_) => {}

@@ -212,6 +212,8 @@ fn go_on(
     requires width { session.old.view.screen.width ≡ width }
     requires height { session.old.view.screen.height ≡ 1 }
     requires position { session.old.view.position ≡ first }
+    ensures width { session.new.view.screen.width ≡ session.old.view.screen.width }
+    ensures height { session.new.view.screen.height ≡ session.old.view.screen.height }
 {
     let message = HostMessage::from_bytes(alloc, row(width), update)?;
     let messages = Vec::from_array(alloc, [Stamped { time: 0, message }])?;
@@ -242,6 +244,114 @@ fn copies(rt: HostRuntime) -> Result<(), Fail> {
         let answer = answered(alloc, &mut session, b"\x03\x01\0\0\0\0\0\x03\0\x01")?;
         assert!(rt; answer.as_slice() == told);
     }
+    Ok(())
+}
+
+// A row of four pixels; and an update that moves the last three to the left, and paints the last red.
+const FOUR: [u8; 32] =
+    *b"\0\0\0\x01\0\0\0\0\0\x04\0\x01\0\0\0\0\0\0\xff\0\0\xff\0\0\xff\0\0\0\xff\xff\xff\0";
+
+const MOVED: [u8; 36] =
+    *b"\0\0\0\x02\0\0\0\0\0\x03\0\x01\0\0\0\x01\0\x01\0\0\0\x03\0\0\0\x01\0\x01\0\0\0\0\0\0\xff\0";
+
+// A viewer of that row, who takes copies, and was sent all of it.
+fn started_four(alloc: Global) -> Result<Box<Session>, Fail>
+    ensures width { IfOk result (λ s. s.value.view.screen.width ≡ 4) }
+    ensures height { IfOk result (λ s. s.value.view.screen.height ≡ 1) }
+    ensures position { IfOk result (λ s. s.value.view.position ≡ 1) }
+{
+    let mut session = started(alloc, 4, &FOUR)?;
+    answered(
+        alloc,
+        &mut session,
+        b"\x02\0\0\x02\0\0\0\x01\0\0\0\0\x03\0\0\0\0\0\0\x04\0\x01",
+    )?;
+    Ok(session)
+}
+
+// Goes on by the same update so many times.
+fn go_on_by(
+    alloc: Global,
+    session: &mut Session,
+    width: u16,
+    update: &[u8],
+    times: usize,
+) -> Result<(), Fail>
+    requires width { session.old.view.screen.width ≡ width }
+    requires height { session.old.view.screen.height ≡ 1 }
+{
+    for _ in 0..times {
+        let first = session.position();
+        if first < 1000 {
+            go_on(alloc, session, first, width, update)?;
+        }
+    }
+    Ok(())
+}
+
+// Who is behind by some moves is sent each, and then the pixels that were painted between them and
+// moved on; nothing is moved that isn't there any more. If not all of the row is asked for, it is sent
+// colours alone.
+#[test]
+fn moves(rt: HostRuntime) -> Result<(), Fail> {
+    let alloc = rt.alloc();
+    let copy = b"\0\0\0\0\0\x03\0\x01\0\0\0\x01\0\x01\0\0";
+    let all: &[u8] = b"\x03\x01\0\0\0\0\0\x04\0\x01";
+    let first: &[u8] = b"\x03\x01\0\0\0\0\0\x01\0\x01";
+    let rows: [(usize, &[u8], u8, &[u8]); 5] = [
+        (1, all, 1, b"\0\x03\0\0\0\x01\0\x01\0\0\0\0\0\0\xff\0"),
+        (
+            2,
+            all,
+            2,
+            b"\0\x02\0\0\0\x02\0\x01\0\0\0\0\0\0\xff\0\0\0\xff\0",
+        ),
+        (
+            3,
+            all,
+            3,
+            b"\0\x01\0\0\0\x03\0\x01\0\0\0\0\0\0\xff\0\0\0\xff\0\0\0\xff\0",
+        ),
+        (
+            4,
+            all,
+            3,
+            b"\0\0\0\0\0\x04\0\x01\0\0\0\0\0\0\xff\0\0\0\xff\0\0\0\xff\0\0\0\xff\0",
+        ),
+        (2, first, 0, b"\0\0\0\0\0\x01\0\x01\0\0\0\0\xff\0\0\0"),
+    ];
+    for (times, request, copies, told) in rows {
+        let mut session = started_four(alloc)?;
+        go_on_by(alloc, &mut session, 4, &MOVED, times)?;
+        let answer = answered(alloc, &mut session, request)?;
+        let mut expected = Vec::from_slice(alloc, &[0, 0, 0, copies + 1])?;
+        for _ in 0..copies {
+            expected.extend_from_slice(copy)?;
+        }
+        expected.extend_from_slice(told)?;
+        assert!(rt;
+            answer.as_slice() == expected.as_slice(),
+            "{times} {copies}"
+        );
+    }
+    Ok(())
+}
+
+// Sixteen moves are kept; the pixels of the next are sent, a rectangle for each of three tiles.
+#[test]
+fn many_moves(rt: HostRuntime) -> Result<(), Fail> {
+    let alloc = rt.alloc();
+    let copy = b"\0\0\0\x01\0\0\0\0\0\x27\0\x01\0\0\0\x01\0\x01\0\0";
+    let mut session = started(alloc, 40, &RED)?;
+    answered(
+        alloc,
+        &mut session,
+        b"\x02\0\0\x02\0\0\0\x01\0\0\0\0\x03\0\0\0\0\0\0\x28\0\x01",
+    )?;
+    go_on_by(alloc, &mut session, 40, copy, 17)?;
+    let answer = answered(alloc, &mut session, b"\x03\x01\0\0\0\0\0\x28\0\x01")?;
+    assert!(rt; answer.starts_with(&[0, 0, 0, 19]));
+    assert!(rt; answer.len() == 4 + 16 * 16 + 3 * 12 + 39 * 4);
     Ok(())
 }
 

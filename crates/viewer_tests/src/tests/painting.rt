@@ -397,7 +397,7 @@ fn begun(alloc: Global) -> Result<Box<Session>, Fail>
     Ok(session)
 }
 
-// Goes on and looks so many times: whether the viewer, once it is answered, then shows the converted
+// Goes on by some updates and looks so many times: whether the viewer, once it is answered, then shows the converted
 // screen in the area that it asked for.
 fn look_on(
     alloc: Global,
@@ -413,7 +413,9 @@ fn look_on(
 {
     let mut seed = 1;
     for _ in 0..times {
-        go_on(alloc, &mut seed, session, screen)?;
+        for _ in 0..=below(&mut seed, 3) {
+            go_on(alloc, &mut seed, session, screen)?;
+        }
         let Some(asked) = look(alloc, &mut seed, session, viewer)? else {
             return Ok(false);
         };

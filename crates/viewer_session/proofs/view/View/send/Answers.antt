@@ -8,5 +8,5 @@ give_update-requires-clause-within g c =
     let v = c.args.self.now in
     rw c.deref.ensures.value (sent_within v.stale v.screen.width v.screen.height c.args.pending c.in_ok-areas.areas.items c.requires.pending c.in_ok-areas.ensures)
 
-pub returns-then-is_empty-clause-ok : goal.returns-then-is_empty-clause-ok
-returns-then-is_empty-clause-ok g c = grind (arith, common_steps)
+pub returns-then-is_empty-2-clause-ok : goal.returns-then-is_empty-2-clause-ok
+returns-then-is_empty-2-clause-ok g c = grind (arith, common_steps)

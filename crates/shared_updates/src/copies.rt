@@ -1,0 +1,99 @@
+//! Copies that a viewer can be sent instead of colours.
+
+ghost use Rattle.std.specs.Prelude.{◌≡◌, ◌↔◌, ◌≤◌, ◌<◌, ◌||◌, ◌++◌, ◌∷◌, [], All, IsTrue, length};
+ghost use Rattle.terms.specs.Area.{LiesWithin};
+ghost use Rattle.pixel_sets.specs.Pixels.{holds, AreJust, SameSize};
+ghost use Rattle.shared_updates.specs.Copies.{is_copied, lies_in, all_in};
+
+use crate::copy::KeptCopy;
+use arrayvec::ArrayVec;
+use pixel_sets::Pixels;
+use std::marker::Model;
+use terms::Area;
+
+/// How many are kept at most: a viewer carries each out.
+const MOST: usize = 16;
+
+/// Whether the area lies in another.
+pub fn lies_in(area: Area, outer: Area) -> bool
+    ensures { result ≡ lies_in area outer }
+{
+    let right = u32::from(area.x) + u32::from(area.w) <= u32::from(outer.x) + u32::from(outer.w);
+    let bottom = u32::from(area.y) + u32::from(area.h) <= u32::from(outer.y) + u32::from(outer.h);
+    (outer.x <= area.x && right) && (outer.y <= area.y && bottom)
+}
+
+/// The copies with which an update begins, in the order in which they are carried out, 16 at most.
+/// Contracts see their list.
+#[derive(Drop)]
+pub struct Copies {
+    list: ArrayVec<KeptCopy, MOST>,
+}
+
+impl Model for Copies {
+    ghost use Rattle.std.specs.Prelude.{List};
+    ghost use Rattle.shared_updates.specs.declared.copy.KeptCopy.{KeptCopy};
+
+    ghost Value = { List KeptCopy };
+
+    ghost view = { λ c. c.list.items };
+}
+
+impl Copies {
+    /// None.
+    pub fn new() -> Copies
+        ensures { result ≡ [] }
+    {
+        Copies {
+            list: ArrayVec::new(),
+        }
+    }
+
+    /// All of them.
+    pub fn as_slice(&self) -> &[KeptCopy]
+        ensures value { result.now ≡ self.now }
+        ensures few { length result.now ≤ 16 }
+    {
+        self.list.as_slice()
+    }
+
+    /// Whether another can be kept.
+    pub fn have_room(&self) -> bool
+        ensures { IsTrue result ↔ (length self.now < 16) }
+    {
+        !self.list.is_full()
+    }
+
+    /// Keeps another.
+    pub fn add(&mut self, copy: KeptCopy)
+        requires { length self.old < 16 }
+        ensures { self.new ≡ self.old ++ copy ∷ [] }
+    {
+        self.list.push(copy);
+    }
+
+    /// Whether all pixels that they go to lie in an area.
+    pub fn are_in(&self, outer: Area) -> bool
+        ensures { result ≡ all_in self.now outer }
+    {
+        for copy in self.list.as_slice() {
+            if !lies_in(copy.area, outer) {
+                return false;
+            }
+        }
+        true
+    }
+
+    /// Keeps none of them any more, and puts the pixels that they go to into a set.
+    pub fn give_up(&mut self, stale: &mut Pixels)
+        requires { All (λ c. LiesWithin stale.old.width stale.old.height c.area) self.old }
+        ensures none { self.new ≡ [] }
+        ensures size { SameSize stale.old stale.new }
+        ensures just { AreJust stale.new (λ x y. is_copied self.old x y || holds stale.old x y) }
+    {
+        for copy in self.list.as_slice() {
+            stale.insert(copy.area);
+        }
+        self.list.clear();
+    }
+}
