@@ -146,19 +146,12 @@ impl<M: Mark> ReceiptSink<Receipt<M>> for Pile<M> {
     }
 }
 
-/// What a viewer was handed last: how many messages, and whether the screen after them came with it.
-#[derive(Clone, Copy, Debug, PartialEq, Eq)]
-struct Seen {
-    messages: u64,
-    has_screen: bool,
-}
-
-/// Takes what there is from its seat on, and says what it was, until it is told the end.
+/// Takes what there is from its seat on, and counts it, until it is told the end.
 #[derive(Drop)]
 struct Onlooker<'a> {
     position: u64,
     is_fresh: bool,
-    seen: &'a mut Seen,
+    seen: &'a mut u64,
     has_all: bool,
 }
 
@@ -193,12 +186,8 @@ impl<'a, M: Mark> ViewerSink<Delivery<M>, Ending<M>> for Onlooker<'a> {
     }
 
     fn slice(&mut self, delivery: Delivery<M>) {
-        let (receipt, snapshot) = delivery.split();
-        let slice = receipt.slice();
-        *self.seen = Seen {
-            messages: slice.messages.len() as u64,
-            has_screen: snapshot.is_some(),
-        };
+        let slice = delivery.slice();
+        *self.seen = slice.messages.len() as u64;
         self.position = slice.end();
         self.is_fresh = false;
     }
@@ -241,15 +230,12 @@ fn take<D: Disk, M: Mark, R: Wait + Clock>(
     run_flusher(rt, shared, pen, sink, &Open)
 }
 
-// A viewer's worker, from the first message on: what its sink was handed last.
-fn look<D: Disk, M: Mark, R: Wait + Clock>(rt: &R, shared: &Shared<D, M>) -> Option<Seen>
+// A viewer's worker, from the first message on: how many its sink was handed last.
+fn look<D: Disk, M: Mark, R: Wait + Clock>(rt: &R, shared: &Shared<D, M>) -> Option<u64>
     requires sized { IsOfOnePixel M.head }
     requires modelled { D.is_modelled }
 {
-    let mut seen = Seen {
-        messages: 0,
-        has_screen: false,
-    };
+    let mut seen = 0;
     let onlooker = Onlooker {
         position: 0,
         is_fresh: true,
@@ -292,11 +278,7 @@ fn keep_accounts<D: Disk + Drop, M: Mark, R: Wait + Clock + Abort>(
         assert!(rt; ticket.number() == number as u64);
     }
     assert!(rt; sink.first == 0 && sink.count == 3 && sink.receipts.len() == 1);
-    let all = Seen {
-        messages: 3,
-        has_screen: true,
-    };
-    assert!(rt; look(rt, &shared) == Some(all));
+    assert!(rt; look(rt, &shared) == Some(3));
     Ok(())
 }
 
