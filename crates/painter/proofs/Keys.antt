@@ -56,10 +56,10 @@ key_of format screen colors e bytes one m are kind is rectangle short only =
     } in
     subst (λ (k : Host). IsKey w h (color_at screen) k) (sym same) key
 
--- if Hextile is asked for, it is Raw or Hextile
-kind_of : (e : Encoding) → (e ≡ encodings.Hextile) ⊎ (e ≡ encodings.Raw) → (e ≡ encodings.Raw) ⊎ (e ≡ encodings.Hextile)
-kind_of e (inl is) = inr is
-kind_of e (inr is) = inl is
+-- if Raw or Hextile is asked for, it is one of them
+kind_of : (asked e : Encoding) → (asked ≡ encodings.Raw) ⊎ (asked ≡ encodings.Hextile) → (e ≡ asked) ⊎ (e ≡ encodings.Raw) → (e ≡ encodings.Raw) ⊎ (e ≡ encodings.Hextile)
+kind_of asked e one (inl is) = subst (λ k. (k ≡ encodings.Raw) ⊎ (k ≡ encodings.Hextile)) (sym is) one
+kind_of asked e one (inr is) = inl is
 
 -- the host's format has a screen's colours as they are
 same_colors : (colors : List Color) → map (converted host_format) colors ≡ colors
@@ -79,43 +79,43 @@ no_longer f area colors asked bytes u =
     omega (arith, whole, u.is.short)
 
 -- a screen's colours of an area as one message
-abbrev update_of : Format → Framebuffer → Area → List ℕ → Type 0
-update_of f screen area bytes = AreParts f (parts_of f screen (screen_parts.Region area encodings.Hextile ∷ [])) bytes
+abbrev update_of : Format → Framebuffer → Area → Encoding → List ℕ → Type 0
+update_of f screen area asked bytes = AreParts f (parts_of f screen (screen_parts.Region area asked ∷ [])) bytes
 
 -- what is appended to nothing stands alone
 alone : (P : List ℕ → Type 0) (empty bytes : List ℕ) → empty ≡ [] → Appends P empty bytes → P bytes
 alone P empty bytes first a = subst P (sym (a.is ∙ ap (λ l. l ++ a.bytes) first)) a.are
 
 -- the whole screen as one message, in the words of the calls that make it
-sent_whole : (screen : Framebuffer) (size : ScreenSize) (f : Format) (area : Area) → size ≡ record { width = screen.width; height = screen.height } → f ≡ host_format → area ≡ whole_area size.width size.height
-    → (empty bytes : List ℕ) → empty ≡ [] → Appends (update_of f screen area) empty bytes
-    → IsUpdateFor host_format (whole_area screen.width screen.height) (sent_colors host_format screen (whole_area screen.width screen.height)) encodings.Hextile bytes
-sent_whole screen size f area is host all empty bytes first updated =
+sent_whole : (screen : Framebuffer) (size : ScreenSize) (f : Format) (area : Area) (asked : Encoding) → size ≡ record { width = screen.width; height = screen.height } → f ≡ host_format → area ≡ whole_area size.width size.height
+    → (empty bytes : List ℕ) → empty ≡ [] → Appends (update_of f screen area asked) empty bytes
+    → IsUpdateFor host_format (whole_area screen.width screen.height) (sent_colors host_format screen (whole_area screen.width screen.height)) asked bytes
+sent_whole screen size f area asked is host all empty bytes first updated =
     let whole : area ≡ whole_area screen.width screen.height = all ∙ ap (λ (s : ScreenSize). whole_area s.width s.height) is in
-    let P : Format → Type 0 = λ g. update_of g screen area bytes in
-    let Q : Area → Type 0 = λ a. update_of host_format screen a bytes in
-    single host_format screen (whole_area screen.width screen.height) encodings.Hextile bytes (subst Q whole (subst P host (alone (update_of f screen area) empty bytes first updated)))
+    let P : Format → Type 0 = λ g. update_of g screen area asked bytes in
+    let Q : Area → Type 0 = λ a. update_of host_format screen a asked bytes in
+    single host_format screen (whole_area screen.width screen.height) asked bytes (subst Q whole (subst P host (alone (update_of f screen area asked) empty bytes first updated)))
 
 -- it is never longer than in Raw
-pub key_short : (screen : Framebuffer) (size : ScreenSize) (f : Format) (area : Area) → size ≡ record { width = screen.width; height = screen.height } → f ≡ host_format → area ≡ whole_area size.width size.height
-    → (empty bytes told : List ℕ) → empty ≡ [] → Appends (update_of f screen area) empty bytes → told ≡ bytes → length told ≤ 16 + 4 * (screen.width * screen.height)
-key_short screen size f area is host all empty bytes told first updated are_told =
+pub key_short : (screen : Framebuffer) (size : ScreenSize) (f : Format) (area : Area) (asked : Encoding) → size ≡ record { width = screen.width; height = screen.height } → f ≡ host_format → area ≡ whole_area size.width size.height
+    → (empty bytes told : List ℕ) → empty ≡ [] → Appends (update_of f screen area asked) empty bytes → told ≡ bytes → length told ≤ 16 + 4 * (screen.width * screen.height)
+key_short screen size f area asked is host all empty bytes told first updated are_told =
     let whole = whole_area screen.width screen.height in
-    let short = no_longer host_format whole (sent_colors host_format screen whole) encodings.Hextile bytes (sent_whole screen size f area is host all empty bytes first updated) in
+    let short = no_longer host_format whole (sent_colors host_format screen whole) asked bytes (sent_whole screen size f area asked is host all empty bytes first updated) in
     omega (arith, short, ap length are_told)
 
 -- it is the screen's key
-pub key_made : (format : RecordingFormat) (screen : Framebuffer) (size : ScreenSize) (f : Format) (area : Area) → size ≡ record { width = screen.width; height = screen.height } → f ≡ host_format → area ≡ whole_area size.width size.height
-    → screen.width * screen.height ≤ (limits format).area
+pub key_made : (format : RecordingFormat) (screen : Framebuffer) (size : ScreenSize) (f : Format) (area : Area) (asked : Encoding) → size ≡ record { width = screen.width; height = screen.height } → f ≡ host_format → area ≡ whole_area size.width size.height
+    → (asked ≡ encodings.Raw) ⊎ (asked ≡ encodings.Hextile) → screen.width * screen.height ≤ (limits format).area
     → AreColorsOf screen (whole_area screen.width screen.height) (area_colors screen (whole_area screen.width screen.height))
-    → (empty bytes told : List ℕ) → empty ≡ [] → Appends (update_of f screen area) empty bytes → told ≡ bytes
+    → (empty bytes told : List ℕ) → empty ≡ [] → Appends (update_of f screen area asked) empty bytes → told ≡ bytes
     → (m : Host) → ((n : Host) → IsFor format size.width size.height n → n.bytes ≡ told → m ≡ n) → IsKey screen.width screen.height (color_at screen) m
-key_made format screen size f area is host all few are empty bytes told first updated are_told m one =
+key_made format screen size f area asked is host all one_of few are empty bytes told first updated are_told m one =
     let whole = whole_area screen.width screen.height in
-    let sent = sent_whole screen size f area is host all empty bytes first updated in
-    let update : IsUpdateFor host_format whole (area_colors screen whole) encodings.Hextile bytes =
-    subst (λ l. IsUpdateFor host_format whole l encodings.Hextile bytes) (same_colors (area_colors screen whole)) sent in
-    let short : length bytes ≤ message_limit format = omega (arith, (are_limits format).key, no_longer host_format whole (area_colors screen whole) encodings.Hextile bytes update, few) in
+    let sent = sent_whole screen size f area asked is host all empty bytes first updated in
+    let update : IsUpdateFor host_format whole (area_colors screen whole) asked bytes =
+    subst (λ l. IsUpdateFor host_format whole l asked bytes) (same_colors (area_colors screen whole)) sent in
+    let short : length bytes ≤ message_limit format = omega (arith, (are_limits format).key, no_longer host_format whole (area_colors screen whole) asked bytes update, few) in
     let S : ScreenSize → Type 0 = λ s. (n : Host) → IsFor format s.width s.height n → n.bytes ≡ told → m ≡ n in
     let only = subst S is one in
-    key_of format screen (area_colors screen whole) update.is.encoding bytes update.rectangle m are (kind_of update.is.encoding update.is.encoding_is) update.bytes_are update.is.is short (λ n for equal. only n for (equal ∙ sym are_told))
+    key_of format screen (area_colors screen whole) update.is.encoding bytes update.rectangle m are (kind_of asked update.is.encoding one_of update.is.encoding_is) update.bytes_are update.is.is short (λ n for equal. only n for (equal ∙ sym are_told))

@@ -13,5 +13,6 @@ pub mod SentRows
 pub mod SentColors
 pub mod SentParts
 pub mod SentNumbers
-pub mod Banded
-pub mod BlackBands
+pub mod WholeRows
+pub mod Kept
+pub mod BlackRows

@@ -13,7 +13,7 @@ use Rattle.terms.specs.declared.area.Area.{Area}
 use Rattle.painter.specs.declared.pixel.Pixel.{Pixel}
 use Rattle.painter.specs.Framebuffer.{Framebuffer, color_at, AreColorsOf}
 use Rattle.painter.specs.Pixels.{black_pixel, color_of}
-use Rattle.painter.specs.Bands.{IsFilled}
+use Rattle.painter.specs.WholeRows.{IsFilled}
 use Rattle.painter.specs.Sent.{row_colors, area_colors}
 use Rattle.painter.proofs.Screens.{screen_of}
 

@@ -3,7 +3,7 @@ pub mod Picture
 pub mod Pixels
 pub mod Areas
 pub mod Framebuffer
-pub mod Bands
+pub mod WholeRows
 pub mod Update
 pub mod Key
 pub mod Sent

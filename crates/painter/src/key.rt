@@ -1,6 +1,6 @@
 //! Key screens: a screen as one message.
 
-ghost use Rattle.std.specs.Prelude.{◌≡◌, ◌↔◌, ◌+◌, ◌*◌, ◌≤◌, length, IfOk, IsTrue};
+ghost use Rattle.std.specs.Prelude.{◌≡◌, ◌↔◌, ◌⊎◌, ◌+◌, ◌*◌, ◌≤◌, length, IfOk, IsTrue};
 ghost use Rattle.terms.specs.Limits.{limits};
 ghost use Rattle.painter.specs.Framebuffer.{SameSize, color_at};
 ghost use Rattle.painter.specs.Key.{IsKey, IsWhole};
@@ -11,6 +11,12 @@ use pixel_format::PixelFormat;
 use rfb_wire::{Encoding, HostMessage, Rectangle};
 use std::alloc::{AllocError, Global};
 use terms::{Area, Format, NoMemory, RecordedScreen, ScreenSize};
+
+// Of so many rows of pixels, one row of Hextile's tiles is tried.
+const ROWS_A_TRY: u16 = 128;
+
+// How high a tile is.
+const TILE: u16 = 16;
 
 // Whether the rectangle is one of all pixels of a screen of this size, in an encoding that doesn't
 // look at what stood there.
@@ -23,11 +29,40 @@ fn is_whole(size: ScreenSize, rectangle: Rectangle) -> bool
 }
 
 impl Screen {
+    // The encoding to try for its key: Hextile, unless a sample says that it wouldn't save a quarter
+    // of Raw's bytes. A host waits for its key, and to encode a photo takes far longer than to copy
+    // it. The sample is one row of tiles in eight, none of a screen of fewer rows than that.
+    fn key_encoding(&self, alloc: Global) -> Result<Encoding, NoMemory>
+        ensures { IfOk result (λ e. (e ≡ Encoding.Raw) ⊎ (e ≡ Encoding.Hextile)) }
+    {
+        let size = self.size();
+        let host = PixelFormat::host();
+        let mut tried = Vec::new(alloc);
+        let tries = size.height / ROWS_A_TRY;
+        for k in 0..tries {
+            let row = ScreenPart::Region {
+                area: Area {
+                    x: 0,
+                    y: k * ROWS_A_TRY + ROWS_A_TRY / 2,
+                    w: size.width,
+                    h: TILE,
+                },
+                encoding: Encoding::Hextile,
+            };
+            self.append_update(alloc, &host, &[row], &mut tried)?;
+        }
+        let pixels = usize::from(tries) * usize::from(TILE) * usize::from(size.width);
+        if tried.len() / 3 > pixels {
+            return Ok(Encoding::Raw);
+        }
+        Ok(Encoding::Hextile)
+    }
+
     /// An update that paints the screen over whatever stood there (RFC 6143, section 7.6.1), for a
-    /// recording of this format: one rectangle over the whole screen, in Hextile if the encoder
-    /// comes out shorter than Raw, and else in Raw. It has at most 16 bytes and 4 more for each
-    /// pixel, as in Raw; that no shorter one is passed over is in no clause. It is for a screen
-    /// within the limits of the format.
+    /// recording of this format: one rectangle over the whole screen, in Hextile if that saves bytes
+    /// enough, by a sample of a screen of 128 rows or more, and comes out shorter than Raw; else in
+    /// Raw. It has at most 16 bytes and 4 more for each pixel, as in Raw; that no shorter one is
+    /// passed over is in no clause. It is for a screen within the limits of the format.
     pub fn key(&self, alloc: Global, format: Format) -> Result<HostMessage, NoMemory>
         requires { self.now.width * self.now.height ≤ (limits format).area }
         ensures format { IfOk result (λ m. m.format ≡ format) }
@@ -36,9 +71,10 @@ impl Screen {
     {
         let size = self.size();
         self.known_colors();
+        let encoding = self.key_encoding(alloc)?;
         let slots = ScreenPart::Region {
             area: Area::whole(size),
-            encoding: Encoding::Hextile,
+            encoding,
         };
         let host = PixelFormat::host();
         let mut bytes = Vec::new(alloc);

@@ -1,7 +1,6 @@
 //! Screens that are painted by the messages of a host (RFC 6143, section 7.7).
 #![tactic(auto)]
 
-mod bands;
 mod colors;
 mod key;
 mod laws;
@@ -12,6 +11,7 @@ mod rectangle;
 mod row;
 mod screen;
 mod sending;
+mod shared_rows;
 mod sheet;
 mod snapshot;
 mod update;

@@ -14,10 +14,10 @@ ghost use Rattle.rect_codec.specs.Parts.{AreParts};
 ghost use Rattle.terms.specs.Area.{LiesWithin};
 ghost use Rattle.terms.specs.declared.area.Area.{Area};
 
-use crate::bands::{BAND_ROWS, Band, forget, keep_bands, make_room};
 use crate::colors::append_colors;
 use crate::reading::Rows;
 use crate::sending::append_area;
+use crate::shared_rows::{SharedRow, follow, keep_rows, make_room};
 use crate::sheet::Sheet;
 use crate::snapshot::Snapshot;
 use crate::update::{ScreenPart, append_parts};
@@ -32,14 +32,14 @@ use terms::{Area, NoMemory, ScreenSize};
 #[derive(Drop)]
 pub struct Screen {
     sheet: Sheet,
-    // The bands that the last snapshot has, none at one that was painted since. They are empty
-    // until there is a snapshot.
-    kept: Vec<Option<Band>>,
+    // The rows that snapshots have, none at one that was painted since the last of them. They are
+    // empty until there is a snapshot.
+    kept: Vec<Option<SharedRow>>,
 }
 
 impl Model for Screen {
     ghost use Rattle.painter.specs.Framebuffer.{Framebuffer};
-    ghost use Rattle.painter.specs.Bands.{AreKept};
+    ghost use Rattle.painter.specs.WholeRows.{AreKept};
 
     ghost Value = { Framebuffer };
 
@@ -148,17 +148,18 @@ impl Screen {
         Ok(Screen { sheet, kept })
     }
 
-    /// What the screen shows now. It copies the bands that were painted since the last snapshot, and
-    /// shares the others with that. The screen stays as it was, at a refusal too.
+    /// What the screen shows now. It copies the rows that were painted since the last snapshot, and
+    /// shares the others with that; a row that a CopyRect of whole rows moved is shared, too. The
+    /// screen stays as it was, at a refusal too.
     pub fn snapshot(&mut self, alloc: Global) -> Result<Snapshot, NoMemory>
         ensures shows { IfOk result (λ snapshot. snapshot ≡ self.old) }
         ensures same { self.new ≡ self.old }
     {
         let size = self.sheet.size();
         self.sheet.known();
-        make_room(usize::from(size.height).div_ceil(BAND_ROWS), &mut self.kept)?;
-        let bands = keep_bands(alloc, &self.sheet, &mut self.kept)?;
-        Snapshot::new(alloc, size, bands)
+        make_room(usize::from(size.height), &mut self.kept)?;
+        let rows = keep_rows(alloc, &self.sheet, &mut self.kept)?;
+        Snapshot::new(alloc, size, rows)
     }
 
     /// Takes over the colours of a snapshot of this size. It takes no memory.
@@ -184,8 +185,9 @@ impl Screen {
         let rectangle = message.rectangles()[number];
         let area = rectangle.area;
         let data = &message.bytes()[rectangle.start..rectangle.end];
+        let size = self.sheet.size();
         self.sheet.known();
-        forget(&mut self.kept, area);
+        follow(&mut self.kept, size, rectangle.encoding, area, data);
         self.sheet.paint_data(rectangle.encoding, area, data);
         self.sheet.known();
     }

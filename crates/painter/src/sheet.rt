@@ -9,9 +9,8 @@ ghost use Rattle.rect_codec.specs.Picture.{painted_data};
 ghost use Rattle.painter.specs.Framebuffer.{color_at, SameSize, Has, IsSame};
 ghost use Rattle.painter.specs.Picture.{black};
 ghost use Rattle.painter.specs.Pixels.{color_of};
-ghost use Rattle.painter.specs.Bands.{IsFilled, band_colors};
+ghost use Rattle.painter.specs.WholeRows.{IsFilled, whole_row};
 
-use crate::bands::BAND_ROWS;
 use crate::pixel::{BLACK, Pixel};
 use crate::reading::Rows;
 use crate::rectangle::{copy_area, fill_area, paint_raw};
@@ -81,15 +80,14 @@ impl Sheet {
         color_of_pixel(self.pixels[slot])
     }
 
-    /// The pixels of a band.
-    pub(crate) fn band(&self, band: usize) -> &[Pixel]
-        requires { 16 * band < self.now.height }
-        ensures { map color_of result.now ≡ band_colors self.now band }
+    /// The pixels of a whole row.
+    pub(crate) fn whole_row(&self, y: usize) -> &[Pixel]
+        requires { y < self.now.height }
+        ensures { map color_of result.now ≡ whole_row self.now y }
     {
-        let (width, height) = (usize::from(self.size.width), usize::from(self.size.height));
-        prove!(band < height);
-        let start = BAND_ROWS * band * width;
-        &self.pixels[start..self.pixels.len().min(start + BAND_ROWS * width)]
+        let width = usize::from(self.size.width);
+        let start = y * width;
+        &self.pixels[start..start + width]
     }
 
     /// Whether another is the same: of this size, with the same colour at each pixel.

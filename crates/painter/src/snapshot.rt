@@ -12,14 +12,14 @@ ghost use Rattle.painter.specs.Picture.{black};
 ghost use Rattle.painter.specs.Pixels.{color_of};
 ghost use Rattle.painter.specs.Sent.{area_colors, sent_colors};
 ghost use Rattle.painter.specs.SentUpdate.{parts_of, CanBeSent};
-ghost use Rattle.painter.specs.Bands.{banded, AreBands};
+ghost use Rattle.painter.specs.WholeRows.{stacked, AreRows};
 
-use crate::bands::{BAND_ROWS, Band, black_bands, write_bands};
 use crate::colors::append_colors;
 use crate::pixel::Pixel;
 use crate::reading::{Rows, same_colors};
-use crate::row::{area_row, color_of_pixel};
+use crate::row::color_of_pixel;
 use crate::sending::append_area;
+use crate::shared_rows::{SharedRow, black_rows, write_rows};
 use crate::update::{ScreenPart, append_parts};
 use pixel_format::{Color, PixelFormat};
 use std::alloc::Global;
@@ -33,45 +33,45 @@ use terms::{Area, NoMemory, ScreenSize};
 pub struct Snapshot {
     size: ScreenSize,
     // From the top.
-    bands: Arc<Vec<Band>>,
+    rows: Arc<Vec<SharedRow>>,
 }
 
 impl Model for Snapshot {
     ghost use Rattle.std.specs.Arc.{arc_value};
     ghost use Rattle.painter.specs.Framebuffer.{Framebuffer};
-    ghost use Rattle.painter.specs.Bands.{banded, AreBands};
+    ghost use Rattle.painter.specs.WholeRows.{stacked, AreRows};
 
     ghost Value = { Framebuffer };
 
-    ghost view = { λ s. banded s.size.width s.size.height (arc_value s.bands).items };
+    ghost view = { λ s. stacked s.size.width s.size.height (arc_value s.rows).items };
 
-    ghost invariant = { λ s. AreBands s.size.width s.size.height (arc_value s.bands).items };
+    ghost invariant = { λ s. AreRows s.size.width s.size.height (arc_value s.rows).items };
 }
 
 impl Snapshot {
-    /// The picture of this size that these bands make up.
+    /// The picture of this size that these rows make up.
     pub(crate) fn new(
         alloc: Global,
         size: ScreenSize,
-        bands: Vec<Band>,
+        rows: Vec<SharedRow>,
     ) -> Result<Snapshot, NoMemory>
-        requires { AreBands size.width size.height bands.items }
-        ensures { IfOk result (λ snapshot. snapshot ≡ banded size.width size.height bands.items) }
+        requires { AreRows size.width size.height rows.items }
+        ensures { IfOk result (λ snapshot. snapshot ≡ stacked size.width size.height rows.items) }
     {
-        let bands = Arc::new(alloc, bands)?;
-        Ok(Snapshot { size, bands })
+        let rows = Arc::new(alloc, rows)?;
+        Ok(Snapshot { size, rows })
     }
 
     /// What a screen of this size shows before anything is painted: black everywhere. It takes
-    /// memory for one band, whatever its height.
+    /// memory for one row, whatever its height.
     pub fn black(alloc: Global, size: ScreenSize) -> Result<Snapshot, NoMemory>
         ensures width { IfOk result (λ snapshot. snapshot.width ≡ size.width) }
         ensures height { IfOk result (λ snapshot. snapshot.height ≡ size.height) }
         ensures black { IfOk result (λ snapshot. Has snapshot black) }
         ensures shows { IfOk result (λ snapshot. Shows snapshot []) }
     {
-        let bands = black_bands(alloc, size)?;
-        Snapshot::new(alloc, size, bands)
+        let rows = black_rows(alloc, size)?;
+        Snapshot::new(alloc, size, rows)
     }
 
     /// The same snapshot for one more who looks at it. It takes no memory, and is refused only if
@@ -79,10 +79,10 @@ impl Snapshot {
     pub fn share(&self) -> Result<Snapshot, NoMemory>
         ensures { IfOk result (λ snapshot. snapshot ≡ self.now) }
     {
-        let bands = Arc::try_clone(&self.bands)?;
+        let rows = Arc::try_clone(&self.rows)?;
         Ok(Snapshot {
             size: self.size,
-            bands,
+            rows,
         })
     }
 
@@ -167,7 +167,7 @@ impl Snapshot {
         requires { length pixels.old ≡ self.now.height * self.now.width }
         ensures { map color_of pixels.new ≡ self.now.slots }
     {
-        write_bands(&self.bands, pixels);
+        write_rows(&self.rows, pixels);
     }
 
     /// Appends a FramebufferUpdate (RFC 6143, section 7.6.1) with a rectangle for each of these
@@ -198,13 +198,8 @@ impl Rows for Snapshot {
 
     #[inline(always)]
     fn row(&self, area: Area, row: usize) -> &[Pixel] {
-        let y = usize::from(area.y) + row;
-        let band = self.bands[y / BAND_ROWS].pixels();
-        let part = Area {
-            y: (y % BAND_ROWS) as u16,
-            h: 1,
-            ..area
-        };
-        area_row(band, self.size.width, part, 0)
+        let pixels = self.rows[usize::from(area.y) + row].pixels();
+        let left = usize::from(area.x);
+        &pixels[left..left + usize::from(area.w)]
     }
 }

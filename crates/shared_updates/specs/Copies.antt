@@ -1,5 +1,5 @@
 -- Copies that a viewer can be sent instead of colours (RFC 6143, section 7.7.2).
-use Rattle.std.specs.Prelude.{ℕ, ◌+◌, ◌-◌, ◌<◌, nat_le, Bool, true, false, ◌&&◌, ◌||◌, List, [], ◌∷◌, Option, Some, None, if◌then◌else◌}
+use Rattle.std.specs.Prelude.{ℕ, ◌+◌, ◌-◌, ◌*◌, ◌<◌, ◌≤◌, length, nat_le, Bool, true, false, ◌&&◌, ◌||◌, List, [], ◌∷◌, Option, Some, None, if◌then◌else◌}
 use Rattle.terms.specs.declared.area.Area.{Area}
 use Rattle.terms.specs.Area.{is_in, LiesWithin}
 use Rattle.pixel_format.specs.Canvas.{Picture}
@@ -24,6 +24,17 @@ pub record IsCopyWithin (width height : ℕ) (c : KeptCopy) : Type 0 where
 abbrev pub is_copied : List KeptCopy → ℕ → ℕ → Bool
 is_copied [] x y = false
 is_copied (c ∷ cs) x y = is_in c.area x y || is_copied cs x y
+
+-- how many pixels copies go to, one that several go to as often
+abbrev pub pixels_copied : List KeptCopy → ℕ
+pixels_copied [] = 0
+pixels_copied (c ∷ cs) = c.area.w * c.area.h + pixels_copied cs
+
+-- One more copy, to this area, may be kept on a screen of this size. A viewer carries each out: they
+-- are no more than 64 with it, and copy no more than 16 screens' pixels.
+pub record HasRoom (width height : ℕ) (copies : List KeptCopy) (area : Area) : Type 0 where
+  pub few : length copies < 64
+  pub pixels : pixels_copied copies + area.w * area.h ≤ 16 * (width * height)
 
 -- a picture once a copy is carried out: each pixel that it goes to has the colour that its source had
 abbrev pub copied : KeptCopy → Picture → Picture

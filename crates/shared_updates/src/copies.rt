@@ -1,18 +1,29 @@
 //! Copies that a viewer can be sent instead of colours.
 
-ghost use Rattle.std.specs.Prelude.{◌≡◌, ◌↔◌, ◌≤◌, ◌<◌, ◌||◌, ◌++◌, ◌∷◌, [], All, IsTrue, length};
+ghost use Rattle.std.specs.Prelude.{◌≡◌, ◌↔◌, ◌*◌, ◌≤◌, ◌<◌, ◌||◌, ◌++◌, ◌∷◌, [], All, IsTrue, length};
 ghost use Rattle.terms.specs.Area.{LiesWithin};
 ghost use Rattle.pixel_sets.specs.Pixels.{holds, AreJust, SameSize};
-ghost use Rattle.shared_updates.specs.Copies.{is_copied, lies_in, all_in};
+ghost use Rattle.shared_updates.specs.Copies.{is_copied, lies_in, all_in, HasRoom};
 
 use crate::copy::KeptCopy;
 use arrayvec::ArrayVec;
 use pixel_sets::Pixels;
 use std::marker::Model;
-use terms::Area;
+use terms::{Area, ScreenSize};
 
-/// How many are kept at most: a viewer carries each out.
-const MOST: usize = 16;
+// How many are kept at most.
+const MOST: usize = 64;
+
+// And of how many screens' pixels together: a viewer carries each out, and to copy a screen takes it
+// about as long as to read a few rows.
+const MOST_SCREENS: u64 = 16;
+
+// How many pixels an area has.
+fn pixels_in(area: Area) -> u64
+    ensures { result ≡ area.w * area.h }
+{
+    u64::from(area.w) * u64::from(area.h)
+}
 
 /// Whether the area lies in another.
 pub fn lies_in(area: Area, outer: Area) -> bool
@@ -23,7 +34,7 @@ pub fn lies_in(area: Area, outer: Area) -> bool
     (outer.x <= area.x && right) && (outer.y <= area.y && bottom)
 }
 
-/// The copies with which an update begins, in the order in which they are carried out, 16 at most.
+/// The copies with which an update begins, in the order in which they are carried out, 64 at most.
 /// Contracts see their list.
 #[derive(Drop)]
 pub struct Copies {
@@ -52,21 +63,34 @@ impl Copies {
     /// All of them.
     pub fn as_slice(&self) -> &[KeptCopy]
         ensures value { result.now ≡ self.now }
-        ensures few { length result.now ≤ 16 }
+        ensures few { length result.now ≤ 64 }
     {
         self.list.as_slice()
     }
 
-    /// Whether another can be kept.
-    pub fn have_room(&self) -> bool
-        ensures { IsTrue result ↔ (length self.now < 16) }
+    /// Whether another can be kept, to this area of a screen of this size: there are no more than 64
+    /// with it, and together they copy no more than 16 screens' pixels.
+    pub fn have_room(&self, area: Area, size: ScreenSize) -> bool
+        ensures { IsTrue result ↔ HasRoom size.width size.height self.now area }
     {
-        !self.list.is_full()
+        if self.list.is_full() {
+            return false;
+        }
+        let copies = self.list.as_slice();
+        let mut left = MOST_SCREENS * (u64::from(size.width) * u64::from(size.height));
+        for copy in copies {
+            let pixels = pixels_in(copy.area);
+            if left < pixels {
+                return false;
+            }
+            left -= pixels;
+        }
+        pixels_in(area) <= left
     }
 
     /// Keeps another.
     pub fn add(&mut self, copy: KeptCopy)
-        requires { length self.old < 16 }
+        requires { length self.old < 64 }
         ensures { self.new ≡ self.old ++ copy ∷ [] }
     {
         self.list.push(copy);

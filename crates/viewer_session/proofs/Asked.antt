@@ -199,7 +199,7 @@ sound_asked old mid incremental pending sound k part = elim (none_or_all old mid
         height = k.size.height ∙ sound.height ∙ sym (ap (λ (s : Framebuffer). s.height) screen);
         pending = subst (λ (s : Framebuffer). IsPart s.width s.height pending) (sym screen) part;
         copies = subst (λ (l : List KeptCopy). AllByRecursion (IsKept new) l) (sym none) tt;
-        few = subst (λ (l : List KeptCopy). length l ≤ 16) (sym none) (omega arith);
+        few = subst (λ (l : List KeptCopy). length l ≤ 64) (sym none) (omega arith);
       })
   | inr all ↦ subst (λ (v : View). IsSound (record v { pending = Some pending })) (sym all.same) (record {
     width = sound.width;

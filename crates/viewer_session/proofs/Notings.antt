@@ -46,17 +46,17 @@ made_has s p x y across down =
 
 -- ---- what doesn't look at the screen
 
-can_with : (v : View) (s : Framebuffer) (r : Rectangle) (bytes : List ℕ) (c : KeptCopy) → CanBeKept v r bytes c → CanBeKept (record v { screen = s }) r bytes c
-can_with v s r bytes c can = record { is = can.is; takes = can.takes; whole = can.whole; room = can.room; asked = can.asked; clean = can.clean }
+can_with : (v : View) (s : Framebuffer) (r : Rectangle) (bytes : List ℕ) (c : KeptCopy) → s.width ≡ v.screen.width → s.height ≡ v.screen.height → CanBeKept v r bytes c → CanBeKept (record v { screen = s }) r bytes c
+can_with v s r bytes c wide high can = record { is = can.is; takes = can.takes; whole = can.whole; room = rw (wide, high) can.room; asked = can.asked; clean = can.clean }
 
-can_without : (v : View) (s : Framebuffer) (r : Rectangle) (bytes : List ℕ) (c : KeptCopy) → CanBeKept (record v { screen = s }) r bytes c → CanBeKept v r bytes c
-can_without v s r bytes c can = record { is = can.is; takes = can.takes; whole = can.whole; room = can.room; asked = can.asked; clean = can.clean }
+can_without : (v : View) (s : Framebuffer) (r : Rectangle) (bytes : List ℕ) (c : KeptCopy) → s.width ≡ v.screen.width → s.height ≡ v.screen.height → CanBeKept (record v { screen = s }) r bytes c → CanBeKept v r bytes c
+can_without v s r bytes c wide high can = record { is = can.is; takes = can.takes; whole = can.whole; room = rw (sym wide, sym high) can.room; asked = can.asked; clean = can.clean }
 
-kept_after_with : (old new : View) (s t : Framebuffer) (r : Rectangle) (bytes : List ℕ) → IsKeptAfter old new r bytes → IsKeptAfter (record old { screen = s }) (record new { screen = t }) r bytes
-kept_after_with old new s t r bytes (inl keeps) =
-    inl (record { copy = keeps.copy; can = can_with old s r bytes keeps.copy keeps.can; copies = keeps.copies; left = keeps.left })
-kept_after_with old new s t r bytes (inr keeps) =
-    inr (record { none = λ c can. keeps.none c (can_without old s r bytes c can); copies = keeps.copies; left = keeps.left })
+kept_after_with : (old new : View) (s t : Framebuffer) (r : Rectangle) (bytes : List ℕ) → s.width ≡ old.screen.width → s.height ≡ old.screen.height → IsKeptAfter old new r bytes → IsKeptAfter (record old { screen = s }) (record new { screen = t }) r bytes
+kept_after_with old new s t r bytes wide high (inl keeps) =
+    inl (record { copy = keeps.copy; can = can_with old s r bytes keeps.copy wide high keeps.can; copies = keeps.copies; left = keeps.left })
+kept_after_with old new s t r bytes wide high (inr keeps) =
+    inr (record { none = λ c can. keeps.none c (can_without old s r bytes c wide high can); copies = keeps.copies; left = keeps.left })
 
 kept_with : (v : View) (s : Framebuffer) → s.width ≡ v.screen.width → s.height ≡ v.screen.height → (c : KeptCopy) → IsKept v c → IsKept (record v { screen = s }) c
 kept_with v s wide high c kept = record { within = rw (wide, high) kept.within; asked = kept.asked }
@@ -129,7 +129,7 @@ noted_step bytes r old new s wide high is =
       stale = λ x y across down.
           is.stale x y (subst (λ (n : ℕ). x < n) (wide ∙ sym (ap (λ (f : Framebuffer). f.width) screen)) across)
           (subst (λ (n : ℕ). y < n) (high ∙ sym (ap (λ (f : Framebuffer). f.height) screen)) down);
-      copies = kept_after_with old new s (made s (painted_rectangle bytes r (color_at s))) r (slice_range bytes r.start r.end) is.copies;
+      copies = kept_after_with old new s (made s (painted_rectangle bytes r (color_at s))) r (slice_range bytes r.start r.end) wide high is.copies;
       kept = ap (λ (v : View). record v { screen = made s (painted_rectangle bytes r (color_at s)) }) is.kept;
     }
 
@@ -265,7 +265,7 @@ step_over bytes r old new s t wide high is on =
       stale = λ x y across down.
           is.stale x y (subst (λ (n : ℕ). x < n) (on.size.width ∙ wide ∙ sym (ap (λ (f : Framebuffer). f.width) screen)) across)
           (subst (λ (n : ℕ). y < n) (on.size.height ∙ high ∙ sym (ap (λ (f : Framebuffer). f.height) screen)) down);
-      copies = kept_after_with old new s t r (slice_range bytes r.start r.end) is.copies;
+      copies = kept_after_with old new s t r (slice_range bytes r.start r.end) wide high is.copies;
       kept = ap (λ (v : View). record v { screen = t }) is.kept;
     }
 

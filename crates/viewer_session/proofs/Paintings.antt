@@ -112,12 +112,12 @@ copies_kept m r old new s (inl keeps) =
 copies_kept m r old new s (inr keeps) =
     subst (λ (l : List KeptCopy). AllByRecursion (IsKept new) l) (sym keeps.copies) (all_weaker (IsKept old) (IsKept new) old.copies (kept_on m r old new s) s.sound.copies)
 
-few_after : (m : Host) (r : Rectangle) (old new : View) → Step m r old new → IsKeptAfter old new r (slice_range m.bytes r.start r.end) → length new.copies ≤ 16
+few_after : (m : Host) (r : Rectangle) (old new : View) → Step m r old new → IsKeptAfter old new r (slice_range m.bytes r.start r.end) → length new.copies ≤ 64
 few_after m r old new s (inl keeps) =
     let many : length new.copies ≡ length old.copies + 1 = ap (λ (l : List KeptCopy). length l) keeps.copies ∙ length-append old.copies (keeps.copy ∷ []) in
-    let room = keeps.can.room in
+    let room = keeps.can.room.few in
     omega arith
-few_after m r old new s (inr keeps) = subst (λ (l : List KeptCopy). length l ≤ 16) (sym keeps.copies) s.sound.few
+few_after m r old new s (inr keeps) = subst (λ (l : List KeptCopy). length l ≤ 64) (sym keeps.copies) s.sound.few
 
 pub sound_on : (m : Host) (r : Rectangle) (old new : View) → Step m r old new → IsSound new
 sound_on m r old new s =

@@ -27,7 +27,7 @@ use Rattle.pixel_sets.specs.Pixels.{PixelSet, holds, AreJust, AreSent}
 use Rattle.pixel_sets.specs.Pixels as sets
 use Rattle.shared_updates.specs.declared.copy.KeptCopy.{KeptCopy}
 use Rattle.viewer_session.specs.declared.view.View.{View}
-use Rattle.shared_updates.specs.Copies.{source, IsPart, IsCopyWithin, is_copied, all_copied, is_moved, lies_in, all_in}
+use Rattle.shared_updates.specs.Copies.{source, IsPart, IsCopyWithin, is_copied, all_copied, is_moved, lies_in, all_in, HasRoom}
 
 -- The pixel is stale: the viewer may not show its colour. It is to be sent it, or can copy it.
 abbrev pub stale_at : View → ℕ → ℕ → Bool
@@ -64,7 +64,7 @@ pub record IsSound (v : View) : Type 0 where
   pub height : v.stale.height ≡ v.screen.height
   pub pending : IfSome v.pending (IsPart v.screen.width v.screen.height)
   pub copies : AllByRecursion (IsKept v) v.copies
-  pub few : length v.copies ≤ 16
+  pub few : length v.copies ≤ 64
 
 -- ---- what comes of the recording
 
@@ -102,13 +102,13 @@ pub record IsCopyBy (r : Rectangle) (bytes : List ℕ) (c : KeptCopy) : Type 0 w
   pub down : 0 < r.area.h
 
 -- A viewer that takes copies, and hasn't asked for what it may have already, may be sent it instead
--- of what the rectangle paints: no more than 16 are kept, all its pixels are asked for if any are, and
+-- of what the rectangle paints: there is room for it, all its pixels are asked for if any are, and
 -- the stale ones among those that are copied don't reach all of their edges.
 pub record CanBeKept (v : View) (r : Rectangle) (bytes : List ℕ) (c : KeptCopy) : Type 0 where
   pub is : IsCopyBy r bytes c
   pub takes : v.takes_copies ≡ true
   pub whole : v.asked_whole ≡ false
-  pub room : length v.copies < 16
+  pub room : HasRoom v.screen.width v.screen.height v.copies c.area
   pub asked : IsAskedFor v.pending c.area
   pub clean : IsSmallest (λ x y. is_in (source c) x y && holds v.stale x y) (source c) → ⊥
 

@@ -53,7 +53,10 @@ impl View {
         if !self.takes_copies || self.asked_whole || rectangle.encoding != Encoding::CopyRect {
             return None;
         }
-        if area.w == 0 || area.h == 0 || !self.copies.have_room() || !self.is_asked_for(area) {
+        if area.w == 0 || area.h == 0 || !self.is_asked_for(area) {
+            return None;
+        }
+        if !self.copies.have_room(area, self.screen.size()) {
             return None;
         }
         let copy = KeptCopy::named(area, bytes);
@@ -67,7 +70,7 @@ impl View {
     fn keep(&mut self, copy: KeptCopy)
         requires sound { IsSound self.old }
         requires within { IsCopyWithin self.old.screen.width self.old.screen.height copy }
-        requires room { length self.old.copies < 16 }
+        requires room { length self.old.copies < 64 }
         ensures copies { self.new.copies ≡ self.old.copies ++ copy ∷ [] }
         ensures size { SameSize self.old.stale self.new.stale }
         ensures left { AreLeft copy self.old.stale self.new.stale }

@@ -8,7 +8,7 @@ use std::alloc::Global;
 use std::test::Fail;
 use terms::NoMemory;
 
-// A pixel in each band of a screen of 3 by 40: two bands of 16 rows, and one of 8.
+// Some pixels of a screen of 3 by 40, each in another row, two of them one below the other.
 const PIXELS: [(u8, u8); 3] = [(0, 15), (1, 16), (2, 39)];
 
 // A screen of 3 by 40, black everywhere. It promises nothing, nor do the next functions: so the
@@ -20,8 +20,27 @@ fn black(alloc: Global) -> Result<Screen, NoMemory> {
 // Paints one of the pixels red.
 fn paint(alloc: Global, screen: &mut Screen, pixel: usize) -> Result<(), BytesFault> {
     let (x, y) = PIXELS[pixel % 3];
-    let bytes = [0, 0, 0, 1, 0, x, 0, y, 0, 1, 0, 1, 0, 0, 0, 0, 0, 0, 255, 0];
-    let message = HostMessage::from_bytes(alloc, screen.size(), &bytes)?;
+    paint_update(
+        alloc,
+        screen,
+        &[0, 0, 0, 1, 0, x, 0, y, 0, 1, 0, 1, 0, 0, 0, 0, 0, 0, 255, 0],
+    )
+}
+
+// Copies all rows but the last up by a row, or all but the first down.
+fn scroll(alloc: Global, screen: &mut Screen, from: u8, to: u8) -> Result<(), BytesFault> {
+    paint_update(
+        alloc,
+        screen,
+        &[
+            0, 0, 0, 1, 0, 0, 0, to, 0, 3, 0, 39, 0, 0, 0, 1, 0, 0, 0, from,
+        ],
+    )
+}
+
+// Paints an update of one rectangle.
+fn paint_update(alloc: Global, screen: &mut Screen, bytes: &[u8; 20]) -> Result<(), BytesFault> {
+    let message = HostMessage::from_bytes(alloc, screen.size(), bytes)?;
     if message.size() == screen.size() {
         screen.paint(&message);
     }
@@ -56,6 +75,28 @@ fn a_snapshot_keeps_its_picture(rt: HostRuntime) -> Result<(), Fail> {
     Ok(())
 }
 
+// Whether a pixel of the middle column is red.
+fn is_red(snapshot: &Snapshot, y: u16) -> bool {
+    let size = snapshot.size();
+    size.width > 1 && y < size.height && snapshot.color(1, y) == RED
+}
+
+#[test]
+fn a_scroll_moves_the_rows_of_a_snapshot(rt: HostRuntime) -> Result<(), Fail> {
+    let alloc = rt.alloc();
+    let mut screen = black(alloc)?;
+    paint(alloc, &mut screen, 1)?;
+    let before = screen.snapshot(alloc)?;
+    scroll(alloc, &mut screen, 1, 0)?;
+    let higher = screen.snapshot(alloc)?;
+    scroll(alloc, &mut screen, 0, 1)?;
+    let again = screen.snapshot(alloc)?;
+    assert!(rt; is_red(&before, 16) && !is_red(&before, 15));
+    assert!(rt; is_red(&higher, 15) && !is_red(&higher, 16));
+    assert!(rt; is_red(&again, 16) && !is_red(&again, 15));
+    Ok(())
+}
+
 #[test]
 fn a_screen_that_is_taken_over_is_in_its_snapshot(rt: HostRuntime) -> Result<(), Fail> {
     let alloc = rt.alloc();
@@ -72,7 +113,7 @@ fn a_screen_that_is_taken_over_is_in_its_snapshot(rt: HostRuntime) -> Result<(),
     Ok(())
 }
 
-// What a viewer is sent of an area over three bands, of a screen or of its snapshot.
+// What a viewer is sent of an area of some rows, of a screen or of its snapshot.
 fn sent(alloc: Global, snapshot: bool) -> Result<Vec<u8>, Fail> {
     let mut screen = black(alloc)?;
     paint(alloc, &mut screen, 1)?;

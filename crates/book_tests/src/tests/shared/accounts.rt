@@ -146,12 +146,19 @@ impl<M: Mark> ReceiptSink<Receipt<M>> for Pile<M> {
     }
 }
 
-/// Takes what there is from its seat on, and counts it, until it is told the end.
+/// What a viewer was handed last: how many messages, and whether the screen came with them.
+#[derive(Clone, Copy, PartialEq, Eq)]
+struct Seen {
+    messages: u64,
+    has_screen: bool,
+}
+
+/// Takes what there is from its seat on, and keeps account of it, until it is told the end.
 #[derive(Drop)]
 struct Onlooker<'a> {
     position: u64,
     is_fresh: bool,
-    seen: &'a mut u64,
+    seen: &'a mut Seen,
     has_all: bool,
 }
 
@@ -186,8 +193,12 @@ impl<'a, M: Mark> ViewerSink<Delivery<M>, Ending<M>> for Onlooker<'a> {
     }
 
     fn slice(&mut self, delivery: Delivery<M>) {
-        let slice = delivery.slice();
-        *self.seen = slice.messages.len() as u64;
+        let (receipt, snapshot) = delivery.split();
+        let slice = receipt.slice();
+        *self.seen = Seen {
+            messages: slice.messages.len() as u64,
+            has_screen: snapshot.is_some(),
+        };
         self.position = slice.end();
         self.is_fresh = false;
     }
@@ -230,12 +241,15 @@ fn take<D: Disk, M: Mark, R: Wait + Clock>(
     run_flusher(rt, shared, pen, sink, &Open)
 }
 
-// A viewer's worker, from the first message on: how many its sink was handed last.
-fn look<D: Disk, M: Mark, R: Wait + Clock>(rt: &R, shared: &Shared<D, M>) -> Option<u64>
+// A viewer's worker, from the first message on: what its sink was handed last.
+fn look<D: Disk, M: Mark, R: Wait + Clock>(rt: &R, shared: &Shared<D, M>) -> Option<Seen>
     requires sized { IsOfOnePixel M.head }
     requires modelled { D.is_modelled }
 {
-    let mut seen = 0;
+    let mut seen = Seen {
+        messages: 0,
+        has_screen: false,
+    };
     let onlooker = Onlooker {
         position: 0,
         is_fresh: true,
@@ -278,7 +292,11 @@ fn keep_accounts<D: Disk + Drop, M: Mark, R: Wait + Clock + Abort>(
         assert!(rt; ticket.number() == number as u64);
     }
     assert!(rt; sink.first == 0 && sink.count == 3 && sink.receipts.len() == 1);
-    assert!(rt; look(rt, &shared) == Some(3));
+    let all = Seen {
+        messages: 3,
+        has_screen: true,
+    };
+    assert!(rt; look(rt, &shared) == Some(all));
     Ok(())
 }
 

@@ -1,5 +1,5 @@
 use Rattle.std.proofs.Common.{◌∙◌, sym, subst}
-use Rattle.painter.specs.Bands.{IsFilled}
+use Rattle.painter.specs.WholeRows.{IsFilled}
 use Rattle.painter.proofs.SentColors.{are_filled}
 use Rattle.painter.proofs.sheet.Sheet.known.Goals as goal
 
