@@ -4,11 +4,11 @@
    usage: host ADDRESS:PORT WIDTH HEIGHT MODE RATE ENCODING TIMES
 
    MODE is `screens` (the whole screen, each time with other pixels), `terminal` (the screen scrolls
-   up by a line of 16 pixels, and a new line of text comes) or `clock` (an area of 64 by 16 pixels
-   changes). RATE is how many updates there are a second, if they are asked for, or 0: as many as
-   are asked for. ENCODING is `raw` or `hextile`; clients have to take it, and CopyRect. A client is
-   first sent the whole screen. Each client has its own thread and numbers, since a proxy
-   connects once for each viewer.
+   up by a line of 16 pixels, and a new line of text comes), `clock` (an area of 64 by 16 pixels of a
+   screen of text changes) or `photo` (one of a screen of many colours). RATE is how many updates
+   there are a second, if they are asked for, or 0: as many as are asked for. ENCODING is `raw` or
+   `hextile`; clients have to take it, and CopyRect. A client is first sent the whole screen. Each
+   client has its own thread and numbers, since a proxy connects once for each viewer.
 
    Prints `listening`. At each line on its input, and at the input's end, prints what it has sent
    since the line before. At the end writes into TIMES a line for each update: the connection's

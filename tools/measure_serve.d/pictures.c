@@ -140,13 +140,13 @@ static struct picture picture_of(struct area area, int line, int encoding, int s
 struct show show_of(const char *mode, int width, int height, int encoding)
 {
     int screens = !strcmp(mode, "screens"), terminal = !strcmp(mode, "terminal");
-    int line = height - LINE;
-    if (!screens && !terminal && strcmp(mode, "clock"))
+    int photo = !strcmp(mode, "photo"), line = height - LINE;
+    if (!screens && !terminal && !photo && strcmp(mode, "clock"))
         fail("%s is no mode", mode);
     if (width < CLOCK || height < 2 * LINE || width > 16384 || height > 16384)
         fail("a screen of %d by %d pixels is too small, or too large", width, height);
     struct show show = {0};
-    uint32_t (*colour)(int, int, int) = screens ? smooth : text;
+    uint32_t (*colour)(int, int, int) = screens || photo ? smooth : text;
     show.whole = picture_of(drawn(0, 0, width, height, TURNS, colour), line, encoding, 0);
     for (int turn = 0; turn < TURNS; turn++) {
         struct area area = screens ? drawn(0, 0, width, height, turn, colour) :

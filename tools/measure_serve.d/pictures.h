@@ -16,6 +16,6 @@ struct show {
     struct picture whole, turns[TURNS];
 };
 
-/* What is shown in a mode (`screens`, `terminal` or `clock`), in Raw or in Hextile. */
+/* What is shown in a mode (`screens`, `terminal`, `clock` or `photo`), in Raw or in Hextile. */
 struct show show_of(const char *mode, int width, int height, int encoding);
 #endif

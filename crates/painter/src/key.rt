@@ -15,16 +15,12 @@ use terms::{Area, Format, NoMemory, RecordedScreen, ScreenSize};
 // Of so many rows of pixels, one row of Hextile's tiles is tried.
 const ROWS_A_TRY: u16 = 128;
 
-// How high a tile is.
-const TILE: u16 = 16;
-
 // Whether the rectangle is one of all pixels of a screen of this size, in an encoding that doesn't
 // look at what stood there.
 fn is_whole(size: ScreenSize, rectangle: Rectangle) -> bool
     ensures { IsTrue result ↔ IsWhole size.width size.height rectangle }
 {
-    let area = rectangle.area;
-    let of_all_pixels = area.x == 0 && area.y == 0 && area.w == size.width && area.h == size.height;
+    let of_all_pixels = rectangle.area == Area::whole(size);
     of_all_pixels && matches!(rectangle.encoding, Encoding::Raw | Encoding::Hextile)
 }
 
@@ -40,18 +36,14 @@ impl Screen {
         let mut tried = Vec::new(alloc);
         let tries = size.height / ROWS_A_TRY;
         for k in 0..tries {
-            let row = ScreenPart::Region {
-                area: Area {
-                    x: 0,
-                    y: k * ROWS_A_TRY + ROWS_A_TRY / 2,
-                    w: size.width,
-                    h: TILE,
-                },
-                encoding: Encoding::Hextile,
-            };
+            let mut area = Area::whole(size);
+            area.y = k * ROWS_A_TRY + ROWS_A_TRY / 2;
+            area.h = 16;
+            let encoding = Encoding::Hextile;
+            let row = ScreenPart::Region { area, encoding };
             self.append_update(alloc, &host, &[row], &mut tried)?;
         }
-        let pixels = usize::from(tries) * usize::from(TILE) * usize::from(size.width);
+        let pixels = usize::from(tries) * 16 * usize::from(size.width);
         if tried.len() / 3 > pixels {
             return Ok(Encoding::Raw);
         }

@@ -6,9 +6,8 @@ ghost use Rattle.pixel_format.specs.Pixel.{IsScreenColor};
 ghost use Rattle.painter.specs.Framebuffer.{Framebuffer, color_at, SameSize, Has, AreColorsOf, AppendsColors, IsSame, Shows};
 ghost use Rattle.rfb_wire.specs.declared.message.Rectangle.{Rectangle};
 ghost use Rattle.painter.specs.Picture.{black, painted_rectangle, painted_message};
-ghost use Rattle.rect_codec.specs.Written.{ArePixels};
 ghost use Rattle.terms.specs.Appending.{Appends};
-ghost use Rattle.painter.specs.Sent.{area_colors, sent_colors};
+ghost use Rattle.painter.specs.Sent.{area_colors};
 ghost use Rattle.painter.specs.SentUpdate.{parts_of, CanBeSent};
 ghost use Rattle.rect_codec.specs.Parts.{AreParts};
 ghost use Rattle.terms.specs.Area.{LiesWithin};
@@ -16,7 +15,6 @@ ghost use Rattle.terms.specs.declared.area.Area.{Area};
 
 use crate::colors::append_colors;
 use crate::reading::Rows;
-use crate::sending::append_area;
 use crate::shared_rows::{SharedRow, follow, keep_rows, make_room};
 use crate::sheet::Sheet;
 use crate::snapshot::Snapshot;
@@ -95,22 +93,6 @@ impl Screen {
             → AreColorsOf self.now area (area_colors self.now area) }
     {
         self.sheet.known_rows();
-    }
-
-    /// Appends the pixels of an area, by rows from the top and each from the left (RFC 6143,
-    /// section 7.7.1), as the format has their colours. In the host's format they are copied.
-    /// Running out of memory leaves `out` as it was.
-    pub fn append_pixels(
-        &self,
-        format: &PixelFormat,
-        area: Area,
-        out: &mut Vec<u8>,
-    ) -> Result<(), NoMemory>
-        requires within { LiesWithin self.now.width self.now.height area }
-        ensures ok { OnOk result (Appends (ArePixels format.now (sent_colors format.now self.now area)) out.old.items out.new.items) }
-        ensures err { OnErr result (out.new.items ≡ out.old.items) }
-    {
-        append_area(format, &self.sheet, area, out)
     }
 
     /// Appends a FramebufferUpdate (RFC 6143, section 7.6.1) with a rectangle for each of these

@@ -6,19 +6,16 @@ ghost use Rattle.terms.specs.Appending.{Appends};
 ghost use Rattle.terms.specs.Area.{LiesWithin};
 ghost use Rattle.terms.specs.declared.area.Area.{Area};
 ghost use Rattle.rect_codec.specs.Parts.{AreParts};
-ghost use Rattle.rect_codec.specs.Written.{ArePixels};
-ghost use Rattle.painter.specs.Framebuffer.{color_at, Has, Shows, AgreeIn, AreColorsOf, AppendsColors, IsSame};
+ghost use Rattle.painter.specs.Framebuffer.{color_at, Has, Shows, AgreeIn, AreColorsOf, IsSame};
 ghost use Rattle.painter.specs.Picture.{black};
 ghost use Rattle.painter.specs.Pixels.{color_of};
-ghost use Rattle.painter.specs.Sent.{area_colors, sent_colors};
+ghost use Rattle.painter.specs.Sent.{area_colors};
 ghost use Rattle.painter.specs.SentUpdate.{parts_of, CanBeSent};
 ghost use Rattle.painter.specs.WholeRows.{stacked, AreRows};
 
-use crate::colors::append_colors;
 use crate::pixel::Pixel;
 use crate::reading::{Rows, same_colors};
 use crate::row::color_of_pixel;
-use crate::sending::append_area;
 use crate::shared_rows::{SharedRow, black_rows, write_rows};
 use crate::update::{ScreenPart, append_parts};
 use pixel_format::{Color, PixelFormat};
@@ -79,11 +76,9 @@ impl Snapshot {
     pub fn share(&self) -> Result<Snapshot, NoMemory>
         ensures { IfOk result (λ snapshot. snapshot ≡ self.now) }
     {
+        let size = self.size;
         let rows = Arc::try_clone(&self.rows)?;
-        Ok(Snapshot {
-            size: self.size,
-            rows,
-        })
+        Ok(Snapshot { size, rows })
     }
 
     /// Whether another has the same colour at each pixel of an area. Only these pixels are read.
@@ -128,38 +123,12 @@ impl Snapshot {
         color_of_pixel(row[0])
     }
 
-    /// Appends the colours of the pixels of an area, by rows from the top and each from the left.
-    /// Running out of memory leaves `out` as it was.
-    pub fn area(&self, area: Area, out: &mut Vec<Color>) -> Result<(), NoMemory>
-        requires within { LiesWithin self.now.width self.now.height area }
-        ensures ok { OnOk result (AppendsColors self.now area out.old.items out.new.items) }
-        ensures err { OnErr result (out.new.items ≡ out.old.items) }
-    {
-        append_colors(self, area, out)
-    }
-
     /// Which colours `area_colors` are: those of the pixels of an area, by rows. (It does nothing.)
     pub fn known_colors(&self)
         ensures { (area : Area) → LiesWithin self.now.width self.now.height area
             → AreColorsOf self.now area (area_colors self.now area) }
     {
         self.known_rows();
-    }
-
-    /// Appends the pixels of an area, by rows from the top and each from the left (RFC 6143,
-    /// section 7.7.1), as the format has their colours. In the host's format they are copied.
-    /// Running out of memory leaves `out` as it was.
-    pub fn append_pixels(
-        &self,
-        format: &PixelFormat,
-        area: Area,
-        out: &mut Vec<u8>,
-    ) -> Result<(), NoMemory>
-        requires within { LiesWithin self.now.width self.now.height area }
-        ensures ok { OnOk result (Appends (ArePixels format.now (sent_colors format.now self.now area)) out.old.items out.new.items) }
-        ensures err { OnErr result (out.new.items ≡ out.old.items) }
-    {
-        append_area(format, self, area, out)
     }
 
     /// Writes its pixels over as many others.
