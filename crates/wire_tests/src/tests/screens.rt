@@ -87,6 +87,25 @@ fn key_of_a_black_screen(rt: HostRuntime) -> Result<(), Fail> {
     Ok(())
 }
 
+// An update of rows 64 to 79 of a screen of 2 by 128, no two of whose pixels are alike then.
+fn noise_in_the_middle(alloc: Global) -> Result<Vec<u8>, Fail> {
+    let mut bytes = b"\0\0\0\x01\0\0\0\x40\0\x02\0\x10\0\0\0\0".to_vec(alloc)?;
+    for pixel in 0..32_u8 {
+        bytes.extend_from_slice(&[7, pixel, 0, 0])?;
+    }
+    Ok(bytes)
+}
+
+// Hextile would be shorter than Raw, but not of these rows, which are the sample.
+#[test]
+fn key_judged_by_a_sample(rt: HostRuntime) -> Result<(), Fail> {
+    let alloc = rt.alloc();
+    let noise = noise_in_the_middle(alloc)?;
+    let key = painted(alloc, size(2, 128), &[&noise])?.key(alloc, Format::One)?;
+    assert!(rt; key.bytes().len() == 16 + 4 * 2 * 128);
+    Ok(())
+}
+
 // The whole screen as a viewer is sent it that asked for RRE.
 fn sent(alloc: Global, screen: &Screen) -> Result<Vec<u8>, Fail> {
     let size = screen.size();
