@@ -27,7 +27,7 @@ fn is_whole(size: ScreenSize, rectangle: Rectangle) -> bool
 impl Screen {
     // The encoding to try for its key: Hextile, unless a sample says that it wouldn't save a quarter
     // of Raw's bytes. A host waits for its key, and to encode a photo takes far longer than to copy
-    // it. The sample is one row of tiles in eight, none of a screen of fewer rows than that.
+    // it. The sample is one row of tiles in eight; a screen of fewer than 128 rows has none.
     fn key_encoding(&self, alloc: Global) -> Result<Encoding, NoMemory>
         ensures { IfOk result (λ e. (e ≡ Encoding.Raw) ⊎ (e ≡ Encoding.Hextile)) }
     {

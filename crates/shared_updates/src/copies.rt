@@ -14,8 +14,7 @@ use terms::{Area, ScreenSize};
 // How many are kept at most.
 const MOST: usize = 64;
 
-// And of how many screens' pixels together: a viewer carries each out, and to copy a screen takes it
-// about as long as to read a few rows.
+// And of how many screens' pixels together: a viewer carries each out.
 const MOST_SCREENS: u64 = 16;
 
 // How many pixels an area has.
