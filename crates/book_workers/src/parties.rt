@@ -149,10 +149,10 @@ pub trait ViewerSink<T, E>: Drop {
         ensures bare { fresh self.new ≡ fresh_after result (fresh self.old) };
 
     /// Takes a receipt, and stands at its end then, with a screen. If it has more than one
-    /// message, they take 1 MiB at most in the bodies of blocks. If a snapshot comes with it, the sink
+    /// message, they take 8 MiB at most in the bodies of blocks. If a snapshot comes with it, the sink
     /// need not paint.
     fn slice(&mut self, receipt: T)
-        requires bounded { is_modelled → 1 < length (slice_of receipt).messages.items → body_size (slice_of receipt).messages.items ≤ 2 ^ 20 }
+        requires bounded { is_modelled → 1 < length (slice_of receipt).messages.items → body_size (slice_of receipt).messages.items ≤ 2 ^ 23 }
         requires sized { IsOfSize (size self.old) (slice_of receipt) }
         requires snapshot { IsScreenSized (size self.old) (snapshot_of receipt) }
         requires stands { (slice_of receipt).first ≡ position self.old }

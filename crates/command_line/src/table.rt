@@ -372,7 +372,7 @@ pub fn spelled(command: &str, of: &'static str) -> Spelling {
 pub fn reader<'a>(alloc: Global) -> Result<Command<'a>, AllocError> {
     let mut program = Command::new(alloc, "recorderd")
         .about("Records one VNC session, so that a crash at any moment loses nothing acknowledged")
-        .version("1.1.2")
+        .version("1.1.3")
         .subcommand_required(true);
     for words in &COMMANDS {
         program = program.subcommand(command(alloc, words)?)?;

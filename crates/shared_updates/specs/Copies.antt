@@ -1,8 +1,9 @@
 -- Copies that a viewer can be sent instead of colours (RFC 6143, section 7.7.2).
-use Rattle.std.specs.Prelude.{ℕ, ◌+◌, ◌-◌, ◌*◌, ◌<◌, ◌≤◌, length, nat_le, Bool, true, false, ◌&&◌, ◌||◌, List, [], ◌∷◌, Option, Some, None, if◌then◌else◌}
+use Rattle.std.specs.Prelude.{◌≡◌, ◌⊎◌, ℕ, ◌+◌, ◌-◌, ◌*◌, ◌<◌, ◌≤◌, length, nat_le, Bool, true, false, ◌&&◌, ◌||◌, List, [], ◌∷◌, ◌++◌, Option, Some, None, if◌then◌else◌}
 use Rattle.terms.specs.declared.area.Area.{Area}
-use Rattle.terms.specs.Area.{is_in, LiesWithin}
+use Rattle.terms.specs.Area.{is_in, HasJustOf, LiesWithin}
 use Rattle.pixel_format.specs.Canvas.{Picture}
+use Rattle.pixel_sets.specs.Pixels.{PixelSet, holds, AreJust}
 use Rattle.shared_updates.specs.declared.copy.KeptCopy.{KeptCopy}
 
 -- the area that is copied
@@ -63,3 +64,49 @@ moved_by c a = record { x = c.area.x + (a.x - c.source_x); y = c.area.y + (a.y -
 abbrev pub is_moved : KeptCopy → Option Area → ℕ → ℕ → Bool
 is_moved c None x y = false
 is_moved c (Some a) x y = is_in (moved_by c a) x y
+
+-- ---- two copies as one
+
+-- Two copies, one after the other, as one: whatever a picture is, that gives what the two give, but for
+-- a rest of the pixels that they go to.
+pub record AreOne (first second one : KeptCopy) (rest : Area) : Type 0 where
+  pub same : (before : Picture) → (x y : ℕ) → is_in rest x y ≡ false → copied one before x y ≡ copied second (copied first before) x y
+  pub goes : (x y : ℕ) → (is_in one.area x y || is_in rest x y) ≡ (is_in first.area x y || is_in second.area x y)
+  pub area : lies_in one.area second.area ≡ true
+  pub rest_area : lies_in rest second.area ≡ true
+  pub source_area : lies_in (source one) (source first) ≡ true
+  pub across : 0 < one.area.w
+  pub down : 0 < one.area.h
+
+-- how many pixels an area has, if there is one
+abbrev pub size_of : Option Area → ℕ
+size_of None = 0
+size_of (Some area) = area.w * area.h
+
+abbrev pub is_in_any : Option Area → ℕ → ℕ → Bool
+is_in_any None x y = false
+is_in_any (Some area) x y = is_in area x y
+
+-- It is cheap to send a rest instead of copying it, where an area is sent in any case: the pixels that
+-- are sent for it are no more than an eighth of those that are still copied.
+pub record IsCheap (sent : Option Area) (copied rest : Area) : Type 0 where
+  pub both : Option Area
+  pub both_are : HasJustOf (λ x y. is_in rest x y && is_in_any sent x y) both
+  pub few : 8 * (rest.w * rest.h) ≤ copied.w * copied.h + 8 * size_of both
+
+-- The last two of some copies become one, and the rest of what they go to is to be sent.
+pub record JoinsLast (sent : Option Area) (old : List KeptCopy) (stale : PixelSet) (new : List KeptCopy) (left : PixelSet) : Type 0 where
+  pub others : List KeptCopy
+  pub first : KeptCopy
+  pub second : KeptCopy
+  pub old_are : old ≡ others ++ first ∷ second ∷ []
+  pub one : KeptCopy
+  pub rest : Area
+  pub are : AreOne first second one rest
+  pub cheap : IsCheap sent one.area rest
+  pub new_are : new ≡ others ++ one ∷ []
+  pub left_are : AreJust left (λ x y. is_in rest x y || holds stale x y)
+
+-- They are joined so, or all stays as it is.
+abbrev pub AreJoined : Option Area → List KeptCopy → PixelSet → List KeptCopy → PixelSet → Type 0
+AreJoined sent old stale new left = JoinsLast sent old stale new left ⊎ ((new ≡ old) × (left ≡ stale))

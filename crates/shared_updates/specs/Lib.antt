@@ -1,3 +1,4 @@
 pub mod Copies
 pub mod Updates
 pub mod Known
+pub mod Inside

@@ -3,9 +3,10 @@
 ghost use Rattle.std.specs.Prelude.{◌≡◌, ◌↔◌, ◌*◌, ◌≤◌, ◌<◌, ◌||◌, ◌++◌, ◌∷◌, [], All, IsTrue, length};
 ghost use Rattle.terms.specs.Area.{LiesWithin};
 ghost use Rattle.pixel_sets.specs.Pixels.{holds, AreJust, SameSize};
-ghost use Rattle.shared_updates.specs.Copies.{is_copied, lies_in, all_in, HasRoom};
+ghost use Rattle.shared_updates.specs.Copies.{is_copied, all_in, AreJoined, HasRoom, IsCopyWithin};
 
 use crate::copy::KeptCopy;
+use crate::joining::{as_one, is_cheap, lies_in, pixels_in};
 use arrayvec::ArrayVec;
 use pixel_sets::Pixels;
 use std::marker::Model;
@@ -16,22 +17,6 @@ const MOST: usize = 64;
 
 // And of how many screens' pixels together: a viewer carries each out.
 const MOST_SCREENS: u64 = 16;
-
-// How many pixels an area has.
-fn pixels_in(area: Area) -> u64
-    ensures { result ≡ area.w * area.h }
-{
-    u64::from(area.w) * u64::from(area.h)
-}
-
-/// Whether the area lies in another.
-pub fn lies_in(area: Area, outer: Area) -> bool
-    ensures { result ≡ lies_in area outer }
-{
-    let right = u32::from(area.x) + u32::from(area.w) <= u32::from(outer.x) + u32::from(outer.w);
-    let bottom = u32::from(area.y) + u32::from(area.h) <= u32::from(outer.y) + u32::from(outer.h);
-    (outer.x <= area.x && right) && (outer.y <= area.y && bottom)
-}
 
 /// The copies with which an update begins, in the order in which they are carried out, 64 at most.
 /// Contracts see their list.
@@ -87,11 +72,30 @@ impl Copies {
         pixels_in(area) <= left
     }
 
-    /// Keeps another.
-    pub fn add(&mut self, copy: KeptCopy)
-        requires { length self.old < 64 }
-        ensures { self.new ≡ self.old ++ copy ∷ [] }
+    /// Keeps another after the others, on a screen of this size; or makes one of the last and it, if it
+    /// is cheap to send the rest of what they go to, which is then put into the set of pixels to be
+    /// sent. An area is sent in any case.
+    pub fn add(&mut self, copy: KeptCopy, size: ScreenSize, sent: Option<Area>, stale: &mut Pixels)
+        requires few { length self.old < 64 }
+        requires width { stale.old.width ≡ size.width }
+        requires height { stale.old.height ≡ size.height }
+        requires each { All (IsCopyWithin size.width size.height) self.old }
+        requires copy { IsCopyWithin size.width size.height copy }
+        ensures size { SameSize stale.old stale.new }
+        ensures joined { AreJoined sent (self.old ++ copy ∷ []) stale.old self.new stale.new }
     {
+        let Some(last) = self.list.pop() else {
+            self.list.push(copy);
+            return;
+        };
+        if let Some(joined) = as_one(last, copy, size) {
+            if is_cheap(sent, joined.copy.area, joined.rest) {
+                self.list.push(joined.copy);
+                stale.insert(joined.rest);
+                return;
+            }
+        }
+        self.list.push(last);
         self.list.push(copy);
     }
 

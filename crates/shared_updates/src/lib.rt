@@ -4,13 +4,15 @@
 
 mod copies;
 mod copy;
+mod joining;
 mod shared_update;
 mod shelf;
 mod updates;
 mod wanted;
 
-pub use copies::{Copies, lies_in};
+pub use copies::Copies;
 pub use copy::KeptCopy;
+pub use joining::lies_in;
 pub use shared_update::SharedUpdate;
 pub use shelf::Shelf;
 pub use updates::{CommonShelf, Unshared, Updates};

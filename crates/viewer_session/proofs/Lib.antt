@@ -1,5 +1,6 @@
 pub mod Views
 pub mod Carried
+pub mod Joins
 pub mod Paintings
 pub mod Zipped
 pub mod Sendings

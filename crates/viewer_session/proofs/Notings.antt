@@ -1,6 +1,6 @@
 -- Views that go on unpainted, beside those that would be painted: whatever is said of the one
 -- follows from what is said of the other.
-use Rattle.std.proofs.Common.{◌≡◌, ℕ, ◌+◌, ◌*◌, ◌/◌, ◌%◌, ◌<◌, inl, inr, Bool, true, false, List, [], ◌∷◌, length, map, refl, sym, ap, ◌∙◌, subst, arith}
+use Rattle.std.proofs.Common.{◌≡◌, ℕ, ◌+◌, ◌*◌, ◌/◌, ◌%◌, ◌<◌, inl, inr, Bool, true, false, List, [], ◌∷◌, ◌++◌, length, map, refl, sym, ap, ◌∙◌, subst, arith}
 use Rattle.std.specs.Prelude.{not, ◌&&◌, ◌||◌, slice_range, Option, Some, None, IfSome}
 use Rattle.terms.specs.declared.area.Area.{Area}
 use Rattle.terms.specs.Area.{is_in}
@@ -29,6 +29,7 @@ use Rattle.viewer_session.specs.View.{IsRight, IsSound, IsNext, IsKept, CanBeKep
 use Rattle.viewer_session.specs.Shown.{IsPaintedOver, ArePaintedOver, AreAllPaintedOver, start_or}
 use Rattle.viewer_session.specs.Noting.{IsNoted, AreNoted, AreAllNoted, BeginsUnpainted, NotesSlice}
 use Rattle.viewer_session.proofs.Carried.{all_weaker, is_copied_more, moved_inside}
+use Rattle.viewer_session.proofs.Joins.{joined_stale}
 use Rattle.viewer_session.proofs.Paintings.{Step, sound_on, HasGone, has_gone}
 
 -- ---- a screen that would be painted
@@ -54,7 +55,7 @@ can_without v s r bytes c wide high can = record { is = can.is; takes = can.take
 
 kept_after_with : (old new : View) (s t : Framebuffer) (r : Rectangle) (bytes : List ℕ) → s.width ≡ old.screen.width → s.height ≡ old.screen.height → IsKeptAfter old new r bytes → IsKeptAfter (record old { screen = s }) (record new { screen = t }) r bytes
 kept_after_with old new s t r bytes wide high (inl keeps) =
-    inl (record { copy = keeps.copy; can = can_with old s r bytes keeps.copy wide high keeps.can; copies = keeps.copies; left = keeps.left })
+    inl (record { copy = keeps.copy; can = can_with old s r bytes keeps.copy wide high keeps.can; keeps = keeps.keeps })
 kept_after_with old new s t r bytes wide high (inr keeps) =
     inr (record { none = λ c can. keeps.none c (can_without old s r bytes c wide high can); copies = keeps.copies; left = keeps.left })
 
@@ -90,16 +91,19 @@ or_or : (a b c : Bool) → ((a || b) || c) ≡ (a || (b || c))
 or_or true b c = refl
 or_or false b c = refl
 
-stale_after : (old new : View) (r : Rectangle) (bytes : List ℕ) (x y : ℕ) → IsKeptAfter old new r bytes → x < new.stale.width → y < new.stale.height → stale_at new x y ≡ (is_in r.area x y || stale_at old x y)
-stale_after old new r bytes x y (inl keeps) across down =
+stale_after : (old new : View) (r : Rectangle) (bytes : List ℕ) (x y : ℕ) → sets.SameSize old.stale new.stale → IsKeptAfter old new r bytes → x < new.stale.width → y < new.stale.height → stale_at new x y ≡ (is_in r.area x y || stale_at old x y)
+stale_after old new r bytes x y size (inl keeps) across down =
     let c = keeps.copy in
-    let left = keeps.left in
-    ap (λ (b : Bool). b || is_copied new.copies x y) (left.left x y across down)
-    ∙ ap (λ (l : List KeptCopy). (is_moved c left.stale x y || (holds old.stale x y && not (is_in c.area x y))) || is_copied l x y) keeps.copies
+    let k = keeps.keeps in
+    let left = k.moves.left in
+    let a : x < k.moved.width = subst (λ (n : ℕ). x < n) (size.width ∙ sym k.size.width) across in
+    let d : y < k.moved.height = subst (λ (n : ℕ). y < n) (size.height ∙ sym k.size.height) down in
+    joined_stale k.sent (old.copies ++ c ∷ []) new.copies k.moved new.stale k.joined x y across down
+    ∙ ap (λ (b : Bool). b || is_copied (old.copies ++ c ∷ []) x y) (left.left x y a d)
     ∙ ap (λ (b : Bool). (is_moved c left.stale x y || (holds old.stale x y && not (is_in c.area x y))) || b) (is_copied_more old.copies c x y)
     ∙ one_stale (is_moved c left.stale x y) (holds old.stale x y) (is_in c.area x y) (is_copied old.copies x y) (moved_inside c old.stale left.stale x y left.smallest)
     ∙ ap (λ (a : Area). is_in a x y || stale_at old x y) keeps.can.is.area
-stale_after old new r bytes x y (inr keeps) across down =
+stale_after old new r bytes x y size (inr keeps) across down =
     ap (λ (b : Bool). b || is_copied new.copies x y) (keeps.left x y across down)
     ∙ ap (λ (l : List KeptCopy). (is_in r.area x y || holds old.stale x y) || is_copied l x y) keeps.copies
     ∙ or_or (is_in r.area x y) (holds old.stale x y) (is_copied old.copies x y)
@@ -111,7 +115,7 @@ noted_of old new r bytes sound size kept keeps =
     record {
       stale_size = size;
       stale = λ x y across down.
-          stale_after old new r (slice_range bytes r.start r.end) x y keeps
+          stale_after old new r (slice_range bytes r.start r.end) x y size keeps
           (subst (λ (k : ℕ). x < k) (ap (λ (f : Framebuffer). f.width) screen ∙ sym (size.width ∙ sound.width)) across)
           (subst (λ (k : ℕ). y < k) (ap (λ (f : Framebuffer). f.height) screen ∙ sym (size.height ∙ sound.height)) down);
       copies = keeps;

@@ -11,7 +11,8 @@ use Rattle.pixel_format.specs.Pixel.{converted}
 use Rattle.pixel_format.specs.Canvas.{Picture}
 use Rattle.terms.specs.declared.area.Area.{Area}
 use Rattle.terms.specs.Area.{is_in, IsSmallestOf, LiesWithin}
-use Rattle.pixel_sets.specs.Pixels.{holds}
+use Rattle.pixel_sets.specs.Pixels.{PixelSet, holds}
+use Rattle.pixel_sets.specs.Pixels as sets
 use Rattle.terms.proofs.Areas.{in_is}
 use Rattle.rect_data.specs.declared.encoding.Encoding.{Encoding}
 use Rattle.rect_data.specs.Data.{AreData, IsSource}
@@ -36,6 +37,7 @@ use Rattle.shared_updates.specs.Copies.{source, IsPart, IsCopyWithin, is_copied,
 use Rattle.viewer_session.specs.View.{IsRight, IsSound, IsNext, IsKept, IsAskedFor, IsCopyBy, IsKeptAfter, IsPainted, ArePainted, AreAllPainted, Begins, GoesOn, AreStale, stale_at, is_there, is_touched, is_touched_by, is_stale_after}
 use Rattle.viewer_session.proofs.Views.{Sees, neither, screen_on}
 use Rattle.viewer_session.proofs.Carried.{copied_more, converts_of, stale_in, moved_here, all_more, all_weaker}
+use Rattle.viewer_session.proofs.Joins.{joined_clean, joined_few, joined_kept}
 
 -- ---- a rectangle
 
@@ -107,14 +109,15 @@ copies_kept m r old new s (inl keeps) =
       within = own_within m r old new keeps.copy s keeps.can.is;
       asked = subst (λ (p : Option Area). IsAskedFor p keeps.copy.area) (sym (ap (λ (v : View). v.pending) s.is.kept)) keeps.can.asked;
     } in
-    subst (λ (l : List KeptCopy). AllByRecursion (IsKept new) l) (sym keeps.copies)
+    joined_kept new keeps.keeps.sent (old.copies ++ keeps.copy ∷ []) new.copies keeps.keeps.moved new.stale keeps.keeps.joined
     (all_more (IsKept new) old.copies keeps.copy (all_weaker (IsKept old) (IsKept new) old.copies (kept_on m r old new s) s.sound.copies) last)
 copies_kept m r old new s (inr keeps) =
     subst (λ (l : List KeptCopy). AllByRecursion (IsKept new) l) (sym keeps.copies) (all_weaker (IsKept old) (IsKept new) old.copies (kept_on m r old new s) s.sound.copies)
 
 few_after : (m : Host) (r : Rectangle) (old new : View) → Step m r old new → IsKeptAfter old new r (slice_range m.bytes r.start r.end) → length new.copies ≤ 64
 few_after m r old new s (inl keeps) =
-    let many : length new.copies ≡ length old.copies + 1 = ap (λ (l : List KeptCopy). length l) keeps.copies ∙ length-append old.copies (keeps.copy ∷ []) in
+    let many : length (old.copies ++ keeps.copy ∷ []) ≡ length old.copies + 1 = length-append old.copies (keeps.copy ∷ []) in
+    let no_more = joined_few keeps.keeps.sent (old.copies ++ keeps.copy ∷ []) new.copies keeps.keeps.moved new.stale keeps.keeps.joined in
     let room = keeps.can.room.few in
     omega arith
 few_after m r old new s (inr keeps) = subst (λ (l : List KeptCopy). length l ≤ 64) (sym keeps.copies) s.sound.few
@@ -147,6 +150,12 @@ on_stale m r old new x y s across down =
     let high : new.stale.height ≡ new.screen.height = s.is.stale_size.height ∙ s.sound.height ∙ sym s.is.size.height in
     (subst (λ (n : ℕ). x < n) (sym wide) across, subst (λ (n : ℕ). y < n) (sym high) down)
 
+on_moved : (m : Host) (r : Rectangle) (old new : View) (moved : PixelSet) (x y : ℕ) → Step m r old new → sets.SameSize old.stale moved → x < new.stale.width → y < new.stale.height → (x < moved.width) × (y < moved.height)
+on_moved m r old new moved x y s size across down = (
+  subst (λ (n : ℕ). x < n) (s.is.stale_size.width ∙ sym size.width) across,
+  subst (λ (n : ℕ). y < n) (s.is.stale_size.height ∙ sym size.height) down,
+)
+
 -- what the viewer shows of the copy's source, once it has carried out the copies before
 source_sees : (old : View) (c : KeptCopy) (stale : Option Area) (seen : Picture) (x y : ℕ) → Sees old seen → IsCopyWithin old.screen.width old.screen.height c
     → IsSmallestOf (stale_in c old.stale) stale → x < old.screen.width → y < old.screen.height → is_moved c stale x y ≡ false → (holds old.stale x y && not (is_in c.area x y)) ≡ false
@@ -175,9 +184,12 @@ sees_after m r old new seen s sees (inl keeps) x y across down clean =
     let d : y < old.screen.height = subst (λ (n : ℕ). y < n) s.is.size.height down in
     let on = on_stale m r old new x y s across down in
     let within : IsCopyWithin old.screen.width old.screen.height c = rw (← s.is.size.width, ← s.is.size.height) (own_within m r old new c s keeps.can.is) in
-    let left = keeps.left in
-    let parts = neither (is_moved c left.stale x y) (holds old.stale x y && not (is_in c.area x y)) (sym (left.left x y on.0 on.1) ∙ clean) in
-    ap (λ (l : List KeptCopy). all_copied l seen x y) keeps.copies ∙ ap (λ (p : Picture). p x y) (copied_more old.copies c seen)
+    let k = keeps.keeps in
+    let left = k.moves.left in
+    let joined = joined_clean k.sent (old.copies ++ c ∷ []) new.copies k.moved new.stale k.joined x y on.0 on.1 clean in
+    let moved_on = on_moved m r old new k.moved x y s k.size on.0 on.1 in
+    let parts = neither (is_moved c left.stale x y) (holds old.stale x y && not (is_in c.area x y)) (sym (left.left x y moved_on.0 moved_on.1) ∙ joined.clean) in
+    joined.same seen ∙ ap (λ (p : Picture). p x y) (copied_more old.copies c seen)
     ∙ source_sees old c left.stale seen x y sees within left.smallest a d parts.0 parts.1
     ∙ ap (λ (t : Color). converted old.format t) (sym (s.is.painted x y across down ∙ painted_copy r (slice_range m.bytes r.start r.end) c (color_at old.screen) x y keeps.can.is))
     ∙ ap (λ (f : Format). converted f (color_at new.screen x y)) (sym format)

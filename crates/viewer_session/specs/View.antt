@@ -27,7 +27,7 @@ use Rattle.pixel_sets.specs.Pixels.{PixelSet, holds, AreJust, AreSent}
 use Rattle.pixel_sets.specs.Pixels as sets
 use Rattle.shared_updates.specs.declared.copy.KeptCopy.{KeptCopy}
 use Rattle.viewer_session.specs.declared.view.View.{View}
-use Rattle.shared_updates.specs.Copies.{source, IsPart, IsCopyWithin, is_copied, all_copied, is_moved, lies_in, all_in, HasRoom}
+use Rattle.shared_updates.specs.Copies.{source, IsPart, IsCopyWithin, is_copied, all_copied, is_moved, moved_by, lies_in, all_in, AreJoined, HasRoom}
 
 -- The pixel is stale: the viewer may not show its colour. It is to be sent it, or can copy it.
 abbrev pub stale_at : View → ℕ → ℕ → Bool
@@ -119,12 +119,29 @@ pub record AreLeft (copy : KeptCopy) (old new : PixelSet) : Type 0 where
   pub smallest : IsSmallestOf (λ x y. is_in (source copy) x y && holds old x y) stale
   pub left : AreJust new (λ x y. is_moved copy stale x y || (holds old x y && not (is_in copy.area x y)))
 
--- The rectangle's copy is kept after the others.
+-- the area in which they are then, if there are any
+abbrev pub moved_to : KeptCopy → Option Area → Option Area
+moved_to copy None = None
+moved_to copy (Some area) = Some (moved_by copy area)
+
+pub record Moves (copy : KeptCopy) (old new : PixelSet) (sent : Option Area) : Type 0 where
+  pub left : AreLeft copy old new
+  pub sent_is : sent ≡ moved_to copy left.stale
+
+-- A copy is kept after the others, or as one with the last of them: then the rest of what the two go to
+-- is to be sent.
+pub record Keeps (copy : KeptCopy) (old : List KeptCopy) (stale : PixelSet) (new : List KeptCopy) (lost : PixelSet) : Type 0 where
+  pub moved : PixelSet
+  pub size : sets.SameSize stale moved
+  pub sent : Option Area
+  pub moves : Moves copy stale moved sent
+  pub joined : AreJoined sent (old ++ copy ∷ []) moved new lost
+
+-- The rectangle's copy is kept.
 pub record KeepsCopy (old new : View) (r : Rectangle) (bytes : List ℕ) : Type 0 where
   pub copy : KeptCopy
   pub can : CanBeKept old r bytes copy
-  pub copies : new.copies ≡ old.copies ++ copy ∷ []
-  pub left : AreLeft copy old.stale new.stale
+  pub keeps : Keeps copy old.copies old.stale new.copies new.stale
 
 -- It makes none that can be kept, and its pixels are to be sent.
 pub record KeepsNone (old new : View) (r : Rectangle) (bytes : List ℕ) : Type 0 where

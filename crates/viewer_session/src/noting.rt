@@ -1,6 +1,6 @@
 //! What a view has of messages, rectangle by rectangle, whoever paints them.
 
-ghost use Rattle.std.specs.Prelude.{◌≡◌, ◌↔◌, ◌<◌, ◌&&◌, ◌++◌, ◌∷◌, [], All, length, IsTrue, MatchOption, slice_index_or};
+ghost use Rattle.std.specs.Prelude.{◌≡◌, ◌↔◌, ◌<◌, ◌&&◌, All, length, IsTrue, MatchOption, slice_index_or};
 ghost use Rattle.pixel_format.specs.Format.{host_format};
 ghost use Rattle.rect_data.specs.Data.{AreData};
 ghost use Rattle.rfb_wire.specs.declared.message.Rectangle.{Rectangle};
@@ -8,7 +8,7 @@ ghost use Rattle.shared_updates.specs.declared.copy.KeptCopy.{KeptCopy as Kept};
 ghost use Rattle.terms.specs.Area.{is_in, IsSmallest, LiesWithin};
 ghost use Rattle.pixel_sets.specs.Pixels.{holds, SameSize};
 ghost use Rattle.shared_updates.specs.Copies.{IsCopyWithin};
-ghost use Rattle.viewer_session.specs.View.{IsSound, IsAskedFor, AreLeft, CanBeKept};
+ghost use Rattle.viewer_session.specs.View.{IsSound, IsAskedFor, CanBeKept, Keeps, Moves};
 ghost use Rattle.viewer_session.specs.Noting.{IsNoted, AreNoted, AreAllNoted};
 
 use crate::view::View;
@@ -43,11 +43,9 @@ impl View {
     // The copy that a rectangle makes, if the viewer can be sent it.
     fn own_copy(&self, rectangle: Rectangle, bytes: &[u8]) -> Option<KeptCopy>
         requires sound { IsSound self.now }
-        requires content { AreData host_format self.now.screen.width self.now.screen.height
-            rectangle.encoding rectangle.area bytes.now }
+        requires content { AreData host_format self.now.screen.width self.now.screen.height rectangle.encoding rectangle.area bytes.now }
         ensures { MatchOption result
-            ((c : Kept) → CanBeKept self.now rectangle bytes.now c → ⊥)
-            (CanBeKept self.now rectangle bytes.now) }
+            ((c : Kept) → CanBeKept self.now rectangle bytes.now c → ⊥) (CanBeKept self.now rectangle bytes.now) }
     {
         let area = rectangle.area;
         if !self.takes_copies || self.asked_whole || rectangle.encoding != Encoding::CopyRect {
@@ -66,23 +64,38 @@ impl View {
         Some(copy)
     }
 
-    // Keeps a copy after the others: the pixels to be sent among those that it copies move with it.
-    fn keep(&mut self, copy: KeptCopy)
+    // Has the pixels to be sent move with a copy, among those that it copies, and answers the area that
+    // they are in then, if there are any.
+    fn move_stale(&mut self, copy: KeptCopy) -> Option<Area>
         requires sound { IsSound self.old }
         requires within { IsCopyWithin self.old.screen.width self.old.screen.height copy }
-        requires room { length self.old.copies < 64 }
-        ensures copies { self.new.copies ≡ self.old.copies ++ copy ∷ [] }
         ensures size { SameSize self.old.stale self.new.stale }
-        ensures left { AreLeft copy self.old.stale self.new.stale }
-        ensures kept { self.new ≡ record self.old { stale = self.new.stale; copies = self.new.copies } }
+        ensures moved { Moves copy self.old.stale self.new.stale result }
+        ensures kept { self.new ≡ record self.old { stale = self.new.stale } }
     {
         let _sides = self.screen.size(); // have 16 bits, and so do those of what moves
         let stale = self.stale.smallest(copy.source());
         self.stale.remove(copy.area);
-        if let Some(stale) = stale {
-            self.stale.insert(copy.moved(stale));
-        }
-        self.copies.add(copy);
+        let Some(stale) = stale else {
+            return None;
+        };
+        let moved = copy.moved(stale);
+        self.stale.insert(moved);
+        Some(moved)
+    }
+
+    // Keeps a copy after the others, or as one with the last of them.
+    fn keep(&mut self, copy: KeptCopy)
+        requires sound { IsSound self.old }
+        requires within { IsCopyWithin self.old.screen.width self.old.screen.height copy }
+        requires room { length self.old.copies < 64 }
+        ensures size { SameSize self.old.stale self.new.stale }
+        ensures keeps { Keeps copy self.old.copies self.old.stale self.new.copies self.new.stale }
+        ensures kept { self.new ≡ record self.old { stale = self.new.stale; copies = self.new.copies } }
+    {
+        let size = self.screen.size();
+        let sent = self.move_stale(copy);
+        self.copies.add(copy, size, sent, &mut self.stale);
     }
 
     /// Makes the pixels of the rectangle of this number of a message stale. If it copies pixels of
@@ -92,8 +105,7 @@ impl View {
         requires width { message.now.width ≡ self.old.screen.width }
         requires height { message.now.height ≡ self.old.screen.height }
         requires number { number < length message.now.rectangles }
-        ensures { (other : Rectangle) → IsNoted self.old self.new message.now.bytes
-            (slice_index_or message.now.rectangles number other) }
+        ensures { (other : Rectangle) → IsNoted self.old self.new message.now.bytes (slice_index_or message.now.rectangles number other) }
     {
         let rectangle = message.rectangles()[number];
         let data = &message.bytes()[rectangle.start..rectangle.end];

@@ -80,8 +80,7 @@ impl View {
         ensures position { IfOk result (λ v. v.position ≡ 0) }
         ensures started { IfOk result (λ v. v.started ≡ false) }
         ensures pending { IfOk result (λ v. v.pending ≡ None) }
-        ensures copies { IfOk result (λ v. (v.copies ≡ []) × (v.takes_copies ≡ false)
-            × (v.asked_whole ≡ false)) }
+        ensures copies { IfOk result (λ v. (v.copies ≡ []) × (v.takes_copies ≡ false) × (v.asked_whole ≡ false)) }
         ensures size { IfOk result (λ v. (v.screen.width ≡ size.width) × (v.screen.height ≡ size.height)) }
         ensures right { IfOk result (λ v. (head : Head) → head.width ≡ size.width → head.height ≡ size.height
             → (seen : Picture) → (messages : List Stamped) → IsRight head v seen messages) }
@@ -128,12 +127,9 @@ impl View {
         ensures right { OnOk result ((head : Head) → (seen : Picture) → (messages : List Stamped)
             → IsRight head self.old seen messages → Stands head messages slice.now
             → IsRight head self.new seen messages) }
-        ensures stale { OnOk result (AreStale self.new
-            (λ x y. is_stale_after slice.now x y || stale_at self.old x y)) }
-        ensures position { OnOk result (self.new.position
-            ≡ slice.now.first + length slice.now.messages.items) }
-        ensures started { OnOk result (self.new.started
-            ≡ (is_there slice.now.start || self.old.started)) }
+        ensures stale { OnOk result (AreStale self.new (λ x y. is_stale_after slice.now x y || stale_at self.old x y)) }
+        ensures position { OnOk result (self.new.position ≡ slice.now.first + length slice.now.messages.items) }
+        ensures started { OnOk result (self.new.started ≡ (is_there slice.now.start || self.old.started)) }
         ensures size { SameScreenSize self.old.screen self.new.screen }
         ensures asked { (self.new.format ≡ self.old.format) × (self.new.encoding ≡ self.old.encoding)
             × (self.new.pending ≡ self.old.pending) }
@@ -157,8 +153,7 @@ impl View {
             → IsRight head self.old seen messages → Stands head messages slice.now
             → IsScreenAt head messages (slice.now.first + length slice.now.messages.items) snapshot
             → IsRight head self.new seen messages }
-        ensures stale { AreStale self.new
-            (λ x y. is_stale_after slice.now x y || stale_at self.old x y) }
+        ensures stale { AreStale self.new (λ x y. is_stale_after slice.now x y || stale_at self.old x y) }
         ensures position { self.new.position ≡ slice.now.first + length slice.now.messages.items }
         ensures started { self.new.started ≡ (is_there slice.now.start || self.old.started) }
         ensures size { SameScreenSize self.old.screen self.new.screen }
@@ -217,14 +212,10 @@ impl View {
     ) -> Result<(), NoMemory>
         requires sound { IsSound self.old }
         ensures sound { IsSound self.new }
-        ensures due { OnOk result (IsDue self.old
-            → Appends (Answers self.old self.new) out.old.items out.new.items) }
-        ensures areas { OnOk result (IsDue self.old
-            → Appends (HasAreasDue self.old) out.old.items out.new.items) }
-        ensures encoded { OnOk result (IsDue self.old
-            → Appends (IsEncodedFor self.old) out.old.items out.new.items) }
-        ensures none { OnOk result ((IsDue self.old → ⊥)
-            → (out.new.items ≡ out.old.items) × (self.new ≡ self.old)) }
+        ensures due { OnOk result (IsDue self.old → Appends (Answers self.old self.new) out.old.items out.new.items) }
+        ensures areas { OnOk result (IsDue self.old → Appends (HasAreasDue self.old) out.old.items out.new.items) }
+        ensures encoded { OnOk result (IsDue self.old → Appends (IsEncodedFor self.old) out.old.items out.new.items) }
+        ensures none { OnOk result ((IsDue self.old → ⊥) → (out.new.items ≡ out.old.items) × (self.new ≡ self.old)) }
         ensures err { OnErr result ((out.new.items ≡ out.old.items) × (self.new ≡ self.old)) }
         ensures screen { self.new.screen ≡ self.old.screen }
         ensures position { self.new.position ≡ self.old.position }

@@ -289,69 +289,97 @@ fn go_on_by(
     Ok(())
 }
 
-// Who is behind by some moves is sent each, and then the pixels that were painted between them and
-// moved on; nothing is moved that isn't there any more. If not all of the row is asked for, it is sent
-// colours alone.
+// The header of a rectangle that copies, in a row: its columns, and the first that is copied.
+fn copy_rect(x: u8, w: u8, from: u8) -> [u8; 16] {
+    [0, x, 0, 0, 0, w, 0, 1, 0, 0, 0, 1, 0, from, 0, 0]
+}
+
+// Who is behind by some moves is sent one by as much, and then the pixels that were painted between
+// them and moved on; nothing is moved that isn't there any more. If not all of the row is asked for, it
+// is sent colours alone.
 #[test]
 fn moves(rt: HostRuntime) -> Result<(), Fail> {
     let alloc = rt.alloc();
-    let copy = b"\0\0\0\0\0\x03\0\x01\0\0\0\x01\0\x01\0\0";
     let all: &[u8] = b"\x03\x01\0\0\0\0\0\x04\0\x01";
     let first: &[u8] = b"\x03\x01\0\0\0\0\0\x01\0\x01";
-    let rows: [(usize, &[u8], u8, &[u8]); 5] = [
-        (1, all, 1, b"\0\x03\0\0\0\x01\0\x01\0\0\0\0\0\0\xff\0"),
+    let rows: [(usize, &[u8], Option<[u8; 16]>, &[u8]); 5] = [
+        (
+            1,
+            all,
+            Some(copy_rect(0, 3, 1)),
+            b"\0\x03\0\0\0\x01\0\x01\0\0\0\0\0\0\xff\0",
+        ),
         (
             2,
             all,
-            2,
+            Some(copy_rect(0, 2, 2)),
             b"\0\x02\0\0\0\x02\0\x01\0\0\0\0\0\0\xff\0\0\0\xff\0",
         ),
         (
             3,
             all,
-            3,
+            Some(copy_rect(0, 1, 3)),
             b"\0\x01\0\0\0\x03\0\x01\0\0\0\0\0\0\xff\0\0\0\xff\0\0\0\xff\0",
         ),
         (
             4,
             all,
-            3,
+            Some(copy_rect(0, 1, 3)),
             b"\0\0\0\0\0\x04\0\x01\0\0\0\0\0\0\xff\0\0\0\xff\0\0\0\xff\0\0\0\xff\0",
         ),
-        (2, first, 0, b"\0\0\0\0\0\x01\0\x01\0\0\0\0\xff\0\0\0"),
+        (2, first, None, b"\0\0\0\0\0\x01\0\x01\0\0\0\0\xff\0\0\0"),
     ];
-    for (times, request, copies, told) in rows {
+    for (times, request, copy, told) in rows {
         let mut session = started_four(alloc)?;
         go_on_by(alloc, &mut session, 4, &MOVED, times)?;
         let answer = answered(alloc, &mut session, request)?;
-        let mut expected = Vec::from_slice(alloc, &[0, 0, 0, copies + 1])?;
-        for _ in 0..copies {
-            expected.extend_from_slice(copy)?;
+        let mut expected = Vec::from_slice(alloc, &[0, 0, 0])?;
+        match copy {
+            Some(copy) => {
+                expected.push(2)?;
+                expected.extend_from_slice(&copy)?;
+            }
+            None => expected.push(1)?,
         }
         expected.extend_from_slice(told)?;
-        assert!(rt;
-            answer.as_slice() == expected.as_slice(),
-            "{times} {copies}"
-        );
+        assert!(rt; answer.as_slice() == expected.as_slice(), "{times}");
     }
     Ok(())
 }
 
-// Sixteen moves are kept; the pixels of the next are sent, a rectangle for each of three tiles.
-#[test]
-fn many_moves(rt: HostRuntime) -> Result<(), Fail> {
-    let alloc = rt.alloc();
-    let copy = b"\0\0\0\x01\0\0\0\0\0\x27\0\x01\0\0\0\x01\0\x01\0\0";
+// A viewer of a row of forty pixels, who takes copies, is sent all of it, and then the same copy so
+// many times before it asks again.
+fn moved_often(alloc: Global, copy: [u8; 16], times: usize) -> Result<Vec<u8>, Fail> {
     let mut session = started(alloc, 40, &RED)?;
     answered(
         alloc,
         &mut session,
         b"\x02\0\0\x02\0\0\0\x01\0\0\0\0\x03\0\0\0\0\0\0\x28\0\x01",
     )?;
-    go_on_by(alloc, &mut session, 40, copy, 17)?;
-    let answer = answered(alloc, &mut session, b"\x03\x01\0\0\0\0\0\x28\0\x01")?;
-    assert!(rt; answer.starts_with(&[0, 0, 0, 19]));
-    assert!(rt; answer.len() == 4 + 16 * 16 + 3 * 12 + 39 * 4);
+    let mut update = Vec::from_slice(alloc, &[0, 0, 0, 1])?;
+    update.extend_from_slice(&copy)?;
+    go_on_by(alloc, &mut session, 40, &update, times)?;
+    answered(alloc, &mut session, b"\x03\x01\0\0\0\0\0\x28\0\x01")
+}
+
+// The row is moved to the left by one, 17 times, and nothing is painted: that is a copy of 23 pixels
+// by 17, and the others are sent, of two tiles.
+#[test]
+fn many_moves(rt: HostRuntime) -> Result<(), Fail> {
+    let answer = moved_often(rt.alloc(), copy_rect(0, 39, 1), 17)?;
+    assert!(rt; answer.starts_with(&[0, 0, 0, 3]));
+    assert!(rt; answer.get(4..20).unwrap_or_default() == copy_rect(0, 23, 17).as_slice());
+    assert!(rt; answer.len() == 4 + 16 + 2 * 12 + 16 * 4);
+    Ok(())
+}
+
+// The right half goes to the left one, which can't become one copy with another. 32 are kept, of 16
+// rows' pixels; those of the next are sent, of two tiles.
+#[test]
+fn many_copies(rt: HostRuntime) -> Result<(), Fail> {
+    let answer = moved_often(rt.alloc(), copy_rect(0, 20, 20), 33)?;
+    assert!(rt; answer.starts_with(&[0, 0, 0, 34]));
+    assert!(rt; answer.len() == 4 + 32 * 16 + 2 * 12 + 20 * 4);
     Ok(())
 }
 

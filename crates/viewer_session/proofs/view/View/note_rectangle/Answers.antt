@@ -19,7 +19,7 @@ returns-in-Some c = λ other.
     let same : r ≡ get_or m.rectangles n other =
     ap (λ (rs : List Rectangle). get_or rs n no_rectangle) c.rectangles.ensures.value ∙ get_or_default m.rectangles n no_rectangle other c.requires.number in
     let keeps : IsKeptAfter old new r (slice_range c.bytes.result.now r.start r.end) =
-    inl (record { copy = c.in-Some.copy; can = c.in-Some.ensures; copies = c.keep.ensures.copies; left = c.keep.ensures.left }) in
+    inl (record { copy = c.in-Some.copy; can = c.in-Some.ensures; keeps = c.keep.ensures.keeps }) in
     subst (λ (r : Rectangle). IsNoted old new m.bytes r) same
     (noted_of old new r m.bytes c.requires.sound c.keep.ensures.size c.keep.ensures.kept (subst (λ (bs : List ℕ). IsKeptAfter old new r (slice_range bs r.start r.end)) c.bytes.ensures.value keeps))
 
