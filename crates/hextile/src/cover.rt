@@ -165,8 +165,16 @@ fn show(shown: &mut [u32], w: u8, part: Part, number: u32)
     }
 }
 
-// Whether one part more may do for a tile of so many pixels. If parts have several colours, each
-// takes a pixel and two bytes, and some of them are longer than the tile's pixels.
+// How many parts of several colours may be no longer than a tile of so many pixels: each takes a pixel
+// and two bytes.
+fn most_colored(format: &PixelFormat, pixel_count: usize) -> usize
+    requires { pixel_count ≤ 256 }
+    ensures { result ≤ pixel_count }
+{
+    pixel_count * format.bytes() / (format.bytes() + 2)
+}
+
+// Whether one part more may do for a tile of so many pixels.
 fn has_room(format: &PixelFormat, pixel_count: usize, parts: &Parts) -> bool
     requires { pixel_count ≤ 256 }
     ensures { IsTrue result → length parts.now.items < 255 }
@@ -174,7 +182,7 @@ fn has_room(format: &PixelFormat, pixel_count: usize, parts: &Parts) -> bool
     if parts.is_full() {
         return false;
     }
-    let few = pixel_count * format.bytes() / (format.bytes() + 2);
+    let few = most_colored(format, pixel_count);
     match parts.as_slice() {
         [first, .., last] if parts.len() >= few => same(first.color, last.color),
         _ => true,
@@ -243,6 +251,40 @@ fn parts_over(
     true
 }
 
+// Whether all pixels below the first row, but at most so many, begin a part: they have another number
+// than the background, the pixel before and the one above.
+fn begin_parts(numbers: &[u32], w: usize, background: u32, others: usize) -> bool
+    requires { 0 < w }
+{
+    let mut left = others;
+    for k in w..numbers.len() {
+        let number = numbers[k];
+        if number == background || number == numbers[k - 1] || number == numbers[k - w] {
+            if left == 0 {
+                return false;
+            }
+            left -= 1;
+        }
+    }
+    true
+}
+
+// Whether a tile surely has parts of several colours, and more of them than pay: then none needs to be
+// listed. With parts of one colour no two pixels that follow one another begin one, so more than half
+// of the pixels do so only with several. The second row alone tells of most tiles that it isn't so.
+fn has_too_many(format: &PixelFormat, w: u8, numbers: &[u32], background: u32) -> bool
+    requires across { 0 < w }
+    requires most { length numbers.now ≤ 256 }
+{
+    let w = w as usize;
+    let few = most_colored(format, numbers.len()).max(numbers.len() / 2);
+    let Some(others) = numbers.len().checked_sub(w + few + 1) else {
+        return false;
+    };
+    let two_rows = &numbers[..numbers.len().min(2 * w)];
+    begin_parts(two_rows, w, background, w / 2) && begin_parts(numbers, w, background, others)
+}
+
 /// Leaves those parts in the list, of one number each, that, over the background, give every pixel
 /// of a tile of w by h its number. Answers `false` if they would be too many. If the background is
 /// the only number there are none.
@@ -265,6 +307,9 @@ pub(crate) fn cover(
     parts.clear();
     if is_only {
         return true;
+    }
+    if has_too_many(format, w, numbers, background) {
+        return false;
     }
     let mut shown = [background; 256];
     parts_over(format, w, h, numbers, parts, &mut shown)

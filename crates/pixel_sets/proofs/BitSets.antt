@@ -402,33 +402,3 @@ first_here words from next end to ends low high before are =
             ]
           ];
     }
-
--- ---- words of ones
-
-ones : (i : ℕ) → i < 64 → bit (2 ^ 64 - 1) i ≡ true
-ones i lt = ap (λ (n : ℕ). nat_eq n 1) (bit_at_ones 64 i lt)
-
--- the numbers of a word of ones
-word_of_ones : (words : List ℕ) (word k : ℕ) → get_or words word 0 ≡ 2 ^ 64 - 1 → k / 64 ≡ word → is_set words k ≡ true
-unfolding is_set
-word_of_ones words word k full at =
-    ap (λ (n : ℕ). bit (get_or words n 0) (k % 64)) at ∙ ap (λ (n : ℕ). bit n (k % 64)) full ∙ ones (k % 64) (omega arith)
-
--- those of four
-pub full_words : (words : List ℕ) (word : ℕ) → get_or words word 0 ≡ 2 ^ 64 - 1 → get_or words (word + 1) 0 ≡ 2 ^ 64 - 1
-    → get_or words (word + 2) 0 ≡ 2 ^ 64 - 1 → get_or words (word + 3) 0 ≡ 2 ^ 64 - 1
-    → (k : ℕ) → is_between (64 * word) (64 * (word + 4)) k ≡ true → is_set words k ≡ true
-full_words words word a b c d k e =
-    let at = between_is (64 * word) (64 * (word + 4)) k e in
-    let above = at.above in
-    let below = at.below in
-    elim (cases_lt k (64 * (word + 1))) [
-      | inl first ↦ word_of_ones words word k a (omega arith)
-      | inr following ↦ elim (cases_lt k (64 * (word + 2))) [
-        | inl second ↦ word_of_ones words (word + 1) k b (omega arith)
-        | inr further ↦ elim (cases_lt k (64 * (word + 3))) [
-          | inl third ↦ word_of_ones words (word + 2) k c (omega arith)
-          | inr last ↦ word_of_ones words (word + 3) k d (omega arith)
-        ]
-      ]
-    ]

@@ -1,6 +1,6 @@
 -- Areas that have no pixel of a set.
-use Rattle.std.proofs.Common.{◌≡◌, ◌+◌, ◌-◌, ◌<◌, ◌≤◌, ap, arith, ℕ, true, false, sym, ◌∙◌}
-use Rattle.std.specs.Prelude.{◌&&◌, ◌↔◌, nat_eq, Option, Some, None, MatchOption, IsTrue}
+use Rattle.std.proofs.Common.{◌≡◌, ◌+◌, ◌-◌, ◌<◌, ◌≤◌, ap, arith, ℕ, Bool, true, false, refl, sym, ◌∙◌}
+use Rattle.std.specs.Prelude.{◌&&◌, not, ◌↔◌, nat_eq, Option, Some, None, MatchOption, IsTrue}
 use Rattle.std.specs.Option.{is_some}
 use Rattle.std.proofs.lemmas.Bool.{and_parts}
 use Rattle.terms.specs.declared.area.Area.{Area}
@@ -91,3 +91,32 @@ edges_reached set area top bottom left right across down st sb sl sr t b l r =
       top = (tp.x, ap (λ (n : ℕ). is_in area tp.x n && holds set tp.x n) (sym ty) ∙ both_true _ _ (inner area (first_row area) tp.x tp.y (omega arith) (omega arith) (omega arith) (omega arith) tp.there) tp.held);
       bottom = (bp.x, ap (λ (n : ℕ). is_in area bp.x n && holds set bp.x n) (sym by) ∙ both_true _ _ (inner area (last_row area) bp.x bp.y (omega arith) (omega arith) (omega arith) (omega arith) bp.there) bp.held);
     }
+
+-- ---- what is taken out
+
+-- the smallest area that holds the pixels of a set in an area lies in it
+smallest_within : (set : PixelSet) (area part : Area) → IsSmallest (λ x y. is_in area x y && holds set x y) part
+    → (part.x + part.w ≤ area.x + area.w) × (part.y + part.h ≤ area.y + area.h) × (area.x ≤ part.x) × (area.y ≤ part.y)
+smallest_within set area part is =
+    let l = in_is area part.x is.left.0 (and_parts _ _ is.left.1).0 in
+    let r = in_is area (part.x + part.w - 1) is.right.0 (and_parts _ _ is.right.1).0 in
+    let t = in_is area is.top.0 part.y (and_parts _ _ is.top.1).0 in
+    let b = in_is area is.bottom.0 (part.y + part.h - 1) (and_parts _ _ is.bottom.1).0 in
+    (omega arith, omega arith, omega arith, omega arith)
+
+-- a pixel that isn't in a set isn't either once others are taken out
+gone : (old here there : Bool) → (old ≡ true → there ≡ true → here ≡ true) → (here ≡ true → there ≡ true) → (old && not here) ≡ (old && not there)
+gone false here there to from = refl
+gone true true true to from = refl
+gone true true false to from = absurd (let e = from refl in cc)
+gone true false true to from = absurd (let e = to refl refl in cc)
+gone true false false to from = refl
+
+-- to take out the smallest area takes out all
+pub smallest_taken : (set : PixelSet) (area part : Area) → IsSmallest (λ x y. is_in area x y && holds set x y) part
+    → (x y : ℕ) → (holds set x y && not (is_in part x y)) ≡ (holds set x y && not (is_in area x y))
+smallest_taken set area part is x y =
+    let within = smallest_within set area part is in
+    gone (holds set x y) (is_in part x y) (is_in area x y)
+    (λ held here. is.holds_each x y (both_true _ _ here held))
+    (λ e. inner area part x y (omega arith) (omega arith) (omega arith) (omega arith) e)

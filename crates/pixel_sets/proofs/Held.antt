@@ -1,6 +1,6 @@
 -- Sets of pixels as contracts see them, and the bits of their pixels.
-use Rattle.std.proofs.Common.{◌≡◌, ℕ, ◌+◌, ◌-◌, ◌*◌, ◌<◌, ◌≤◌, inl, inr, Bool, true, false, cond, List, length, replicate, get_or, nat_eq, ◌/◌, ◌%◌, ◌^◌, refl, sym, ap, ◌∙◌, arith, eqb-true, eq-eqb}
-use Rattle.std.specs.Prelude.{◌&&◌, Option, Some}
+use Rattle.std.proofs.Common.{◌≡◌, ℕ, ◌+◌, ◌-◌, ◌*◌, ◌<◌, ◌≤◌, inl, inr, Bool, true, false, cond, List, replicate, get_or, nat_eq, ◌/◌, ◌%◌, ◌^◌, refl, sym, ap, ◌∙◌, arith, eqb-true, eq-eqb}
+use Rattle.std.specs.Prelude.{◌&&◌, Option}
 use Rattle.std.proofs.lemmas.Bool.{cases_Bool, cases_lt, and_parts}
 use Rattle.std.proofs.lemmas.List.{get_or-replicate, get_or_past, length-replicate}
 use Rattle.std.proofs.lemmas.List.FromFn.{get_or-map-range_with_len}
@@ -8,12 +8,11 @@ use Rattle.std.proofs.lemmas.Nat.Bits.{bit_at-zero}
 use Rattle.std.proofs.lemmas.Nat.{div-mul-add, mod-mul-add, mul-add-lt}
 use Rattle.std.proofs.Math.Nat.{mul-le-mul_left, mod-add-div'}
 use Rattle.terms.specs.declared.area.Area.{Area}
-use Rattle.terms.specs.Area.{is_in, HasJust, IsSmallest, IsSmallestOf}
-use Rattle.terms.proofs.Areas.{in_is, is_in_true, same_test, both_true, same_smallest}
+use Rattle.terms.specs.Area.{is_in, HasJust, IsSmallestOf}
+use Rattle.terms.proofs.Areas.{in_is, same_test, both_true, same_smallest}
 use Rattle.std.specs.Int.{bit_at}
-use Rattle.pixel_sets.specs.Bits.{bit, is_set, is_between}
-use Rattle.pixel_sets.specs.Pixels.{PixelSet, holds, AreJust, pixels_of, tiles_of, tile_at, tile_of, number_at, is_marked, is_in_tile, IsTilePart, AreTiles, HasTiles}
-use Rattle.pixel_sets.proofs.BitSets.{is_between_true}
+use Rattle.pixel_sets.specs.Bits.{bit, is_set}
+use Rattle.pixel_sets.specs.Pixels.{PixelSet, holds, AreJust, pixels_of, tiles_of, tile_at, tile_of, is_marked, is_in_tile, IsTilePart, AreTiles, HasTiles}
 use Rattle.pixel_sets.proofs.PixelSets.{square, in_square, square_true, common_within, part_is}
 
 -- the pixel is in the set if its bit is 1
@@ -118,45 +117,3 @@ pub tile_part : (width height tile : ℕ) (words summary : List ℕ) (area part 
 tile_part width height tile words summary area part are columns rows just =
     let both = common_within area (square (tile % tiles_of width) (tile / tiles_of width)) part just in
     part_is (tiles_of width) (tile % tiles_of width) (tile / tiles_of width) area part words summary (has_tiles width height words summary area are columns rows) (omega arith) just
-
--- ---- tiles all of whose pixels are in the set
-
-all_marked : (width : ℕ) (words : List ℕ) (tile : ℕ) (area part : Area) → area.x + area.w ≤ width
-    → HasJust (λ x y. is_in area x y && is_in (square (tile % tiles_of width) (tile / tiles_of width)) x y) part
-    → ((k : ℕ) → is_between (64 * (4 * tile)) (64 * (4 * tile + 4)) k ≡ true → is_set words k ≡ true)
-    → (x y : ℕ) → is_in part x y ≡ true → is_marked (tiles_of width) words x y ≡ true
-all_marked width words tile area part columns just full x y here =
-    let both = and_parts (is_in area x y) (is_in (square (tile % tiles_of width) (tile / tiles_of width)) x y) (sym (just.just x y) ∙ here) in
-    let r = (in_is area x y both.0).right in
-    let is : tile_at (tiles_of width) x y ≡ tile = eqb-true (tile_at (tiles_of width) x y) tile (sym (square_is (tiles_of width) tile x y (omega arith)) ∙ both.1) in
-    full (number_at (tiles_of width) x y) (is_between_true (64 * (4 * tile)) (64 * (4 * tile + 4)) (number_at (tiles_of width) x y) (omega arith) (omega arith))
-
-corner : (area : Area) (x y : ℕ) → area.x ≤ x → x < area.x + area.w → area.y ≤ y → y < area.y + area.h → is_in area x y ≡ true
-corner area x y l r t b = is_in_true area x y (record { left = l; right = r; top = t; bottom = b })
-
--- an area all of whose pixels pass
-all_pass : (q : ℕ → ℕ → Bool) (part : Area) → 0 < part.w → 0 < part.h → ((x y : ℕ) → is_in part x y ≡ true → q x y ≡ true) → IsSmallest (λ x y. is_in part x y && q x y) part
-all_pass q part across down all =
-    let first = corner part part.x part.y (omega arith) (omega arith) (omega arith) (omega arith) in
-    let last_column = corner part (part.x + part.w - 1) part.y (omega arith) (omega arith) (omega arith) (omega arith) in
-    let last_row = corner part part.x (part.y + part.h - 1) (omega arith) (omega arith) (omega arith) (omega arith) in
-    record {
-      holds_each = λ x y e. (and_parts (is_in part x y) (q x y) e).0;
-      left = (part.y, both_true (is_in part part.x part.y) (q part.x part.y) first (all part.x part.y first));
-      right = (part.y, both_true (is_in part (part.x + part.w - 1) part.y) (q (part.x + part.w - 1) part.y) last_column (all (part.x + part.w - 1) part.y last_column));
-      top = (part.x, both_true (is_in part part.x part.y) (q part.x part.y) first (all part.x part.y first));
-      bottom = (part.x, both_true (is_in part part.x (part.y + part.h - 1)) (q part.x (part.y + part.h - 1)) last_row (all part.x (part.y + part.h - 1) last_row));
-    }
-
--- what such a tile has in an area
-pub full_tile : (width height : ℕ) (words : List ℕ) (tile : ℕ) (area part : Area) → area.x + area.w ≤ width → area.y + area.h ≤ height
-    → HasJust (λ x y. is_in area x y && is_in (square (tile % tiles_of width) (tile / tiles_of width)) x y) part
-    → ((k : ℕ) → is_between (64 * (4 * tile)) (64 * (4 * tile + 4)) k ≡ true → is_set words k ≡ true)
-    → IsSmallest (is_in_tile (pixels_of width height words) tile area) part
-full_tile width height words tile area part columns rows just full =
-    part_smallest width height words tile area part (Some part) columns rows just
-    (all_pass (is_marked (tiles_of width) words) part just.across just.down (all_marked width words tile area part columns just full))
-
--- a tile has four words
-pub has_words : (width height tile : ℕ) (words summary : List ℕ) → AreTiles width height words summary → tile < tiles_of height * tiles_of width → 4 * tile + 4 ≤ length words
-has_words width height tile words summary are within = let bits = are.bits in omega arith

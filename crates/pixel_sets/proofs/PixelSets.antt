@@ -427,3 +427,24 @@ rows_looked q area row o is =
 pub row_right : (q : ℕ → ℕ → Bool) (area : Area) (row left right y : ℕ) → IsRow (λ a b. is_in (row_of area row) a b && q a b) left right y → right < area.x + area.w
 row_right q area row left right y is =
     (in_is (row_of area row) right y (and_parts (is_in (row_of area row) right y) (q right y) is.last).0).right
+
+-- ---- corners
+
+-- no smaller area holds the first and the last pixel of an area
+pub corners : (q : ℕ → ℕ → Bool) (part : Area) → 0 < part.w → 0 < part.h → q part.x part.y ≡ true → q (part.x + (part.w - 1)) (part.y + (part.h - 1)) ≡ true
+    → IsSmallest (λ x y. is_in part x y && q x y) part
+corners q part across down first last =
+    let right : part.x + part.w - 1 ≡ part.x + (part.w - 1) = omega arith in
+    let bottom : part.y + part.h - 1 ≡ part.y + (part.h - 1) = omega arith in
+    let one : is_in part part.x part.y ≡ true = is_in_true part part.x part.y (record { left = omega arith; right = omega arith; top = omega arith; bottom = omega arith }) in
+    let other : is_in part (part.x + (part.w - 1)) (part.y + (part.h - 1)) ≡ true
+    = is_in_true part (part.x + (part.w - 1)) (part.y + (part.h - 1)) (record { left = omega arith; right = omega arith; top = omega arith; bottom = omega arith }) in
+    let a = both_true _ _ one first in
+    let b = both_true _ _ other last in
+    record {
+      holds_each = λ x y e. (and_parts (is_in part x y) (q x y) e).0;
+      left = (part.y, a);
+      right = (part.y + (part.h - 1), rw right b);
+      top = (part.x, a);
+      bottom = (part.x + (part.w - 1), rw bottom b);
+    }

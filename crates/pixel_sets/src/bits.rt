@@ -114,18 +114,6 @@ pub fn first_and_last(words: &[u64], from: usize, to: usize) -> Option<Ends>
     found
 }
 
-/// Whether all numbers are in the set that these four words stand for, from this one on.
-pub fn are_full(words: &[u64], word: usize) -> bool
-    requires { word + 4 ≤ length words.now }
-    ensures { result ≡ true → (k : ℕ) → is_between (64 * word) (64 * (word + 4)) k ≡ true
-        → is_set words.now k ≡ true }
-{
-    words[word] == u64::MAX
-        && words[word + 1] == u64::MAX
-        && words[word + 2] == u64::MAX
-        && words[word + 3] == u64::MAX
-}
-
 /// The least number of the set that is from one to below another.
 pub fn first(words: &[u64], from: usize, to: usize) -> Option<usize>
     requires order { from ≤ to }

@@ -3,7 +3,7 @@
 ghost use Rattle.std.specs.Prelude.{◌≡◌, ◌↔◌, ◌+◌, ◌*◌, ◌<◌, ◌||◌, ◌&&◌, not, ℕ, true, All, length, IfOk, IsTrue, MatchOption, if◌then◌else◌};
 ghost use Rattle.terms.specs.Area.{is_in, IsSmallest, IsSmallestOf, LiesWithin};
 
-use crate::bits::{are_full, first};
+use crate::bits::first;
 use crate::tiles::{SIDE, fill_area, smallest_in, tile_area, tile_at, tiles_of};
 use std::alloc::Global;
 use std::marker::Model;
@@ -88,13 +88,25 @@ impl Pixels {
         self.insert(Area::whole(self.size));
     }
 
-    /// Takes the pixels of an area out of the set.
-    pub fn remove(&mut self, area: Area)
+    // Takes the pixels of an area out of the set. It costs what the area costs.
+    fn take_out(&mut self, area: Area)
         requires { LiesWithin self.old.width self.old.height area }
         ensures size { SameSize self.old self.new }
         ensures just { AreJust self.new (λ x y. holds self.old x y && not (is_in area x y)) }
     {
         self.fill(area, false);
+    }
+
+    /// Takes the pixels of an area out of the set. It costs a look at the summary of the area's tiles,
+    /// and what is in the set there.
+    pub fn remove(&mut self, area: Area)
+        requires { LiesWithin self.old.width self.old.height area }
+        ensures size { SameSize self.old self.new }
+        ensures just { AreJust self.new (λ x y. holds self.old x y && not (is_in area x y)) }
+    {
+        if let Some(part) = self.smallest(area) {
+            self.take_out(part);
+        }
     }
 
     /// The smallest area that holds the pixels of the set in one tile's part of an area.
@@ -107,9 +119,6 @@ impl Pixels {
         let Some(part) = area.common(tile_area(tile % columns, tile / columns)) else {
             return None;
         };
-        if are_full(&self.words, 4 * tile) {
-            return Some(part);
-        }
         smallest_in(&self.words, columns, part)
     }
 
@@ -255,7 +264,7 @@ impl Pixels {
             (λ x y. holds self.old x y && not (is_in_some areas.now x y)) }
     {
         for area in areas {
-            self.remove(*area);
+            self.take_out(*area);
         }
     }
 }

@@ -231,11 +231,39 @@ fn with_row(found: Option<Area>, left: u16, right: u16, y: u16) -> Area
     }
 }
 
+// Whether a pixel of a part of a tile has a 1.
+fn is_marked(words: &[u64], columns: usize, part: Area, x: u16, y: u16) -> bool
+    requires part { IsTilePart columns part words.now }
+    requires inside { is_in part x y ≡ true }
+    ensures { result ≡ true → is_marked columns words.now x y ≡ true }
+{
+    let number = number_at(columns, x, y);
+    first(words, number, number + 1).is_some()
+}
+
+// Whether the first and the last pixel of a part of a tile have a 1: no smaller area holds both.
+fn has_corners(words: &[u64], columns: usize, part: Area) -> bool
+    requires { IsTilePart columns part words.now }
+    ensures { result ≡ true → IsSmallest (λ x y. is_in part x y && is_marked columns words.now x y) part }
+{
+    if part.w == 0 || part.h == 0 {
+        return false;
+    }
+    if !is_marked(words, columns, part, part.x, part.y) {
+        return false;
+    }
+    let (x, y) = (part.x + (part.w - 1), part.y + (part.h - 1));
+    is_marked(words, columns, part, x, y)
+}
+
 /// The smallest area that holds the pixels with a 1 in a part of a tile.
 pub fn smallest_in(words: &[u64], columns: usize, part: Area) -> Option<Area>
     requires { IsTilePart columns part words.now }
     ensures { IsSmallestOf (λ x y. is_in part x y && is_marked columns words.now x y) result }
 {
+    if has_corners(words, columns, part) {
+        return Some(part);
+    }
     let mut found: Option<Area> = None;
     let start = number_at(columns, part.x, part.y);
     let w = usize::from(part.w);

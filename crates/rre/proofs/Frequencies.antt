@@ -1,14 +1,14 @@
--- What counting a run of one number does to a map that counts numbers.
+-- What counting a run of one number does to a list that counts numbers.
 use Rattle.std.proofs.Common.{◌≡◌, ℕ, ◌+◌, ◌-◌, ◌<◌, ◌≤◌, ◌==◌, Bool, true, false, cond, List, length, take, get_or, refl, ap, sym, ◌∙◌, arith}
-use Rattle.std.specs.BTreeMap.{BTreeMap}
 use Rattle.std.proofs.lemmas.Bool.{eq-eqb, eqb-true}
 use Rattle.std.proofs.lemmas.List.{take_all}
 use Rattle.pixel_format.specs.Number.{times_in}
 use Rattle.pixel_format.proofs.Voting.{count_run}
+use Rattle.rre.specs.declared.cover.Count.{Count}
 use Rattle.rre.specs.Numbered.{counted}
 
 -- The numbers before `start` are counted. The one at `index` is counted most often.
-pub record IsTally (numbers : List ℕ) (counts : BTreeMap ℕ ℕ) (start index most : ℕ) : Type 0 where
+pub record IsTally (numbers : List ℕ) (counts : List Count) (start index most : ℕ) : Type 0 where
   pub within : start ≤ length numbers
   pub stands : index < length numbers
   pub counts_are : (number : ℕ) → counted counts number ≡ times_in number (take start numbers)
@@ -30,7 +30,7 @@ count_run_to numbers start end other run =
     ap (λ m. times_in other (take m numbers)) (sym next)
     ∙ count_run (get_or numbers start 0) numbers start (end - start) other (omega arith) (λ k from to. run.same k from (omega arith))
 
-module _ (numbers : List ℕ) (old new : BTreeMap ℕ ℕ) (start end index most count : ℕ)
+module _ (numbers : List ℕ) (old new : List Count) (start end index most count : ℕ)
     (tally : IsTally numbers old start index most) (run : IsRun numbers start end)
     (total : count ≡ counted old (get_or numbers start 0) + (end - start))
     (sets : (other : ℕ) → counted new other ≡ cond (other == get_or numbers start 0) count (counted old other)) where
@@ -77,7 +77,7 @@ module _ (numbers : List ℕ) (old new : BTreeMap ℕ ℕ) (start end index most
   }
 
 -- once all are counted, no number is that of more pixels
-pub most_frequent : (numbers : List ℕ) (counts : BTreeMap ℕ ℕ) (start index most : ℕ) → IsTally numbers counts start index most
+pub most_frequent : (numbers : List ℕ) (counts : List Count) (start index most : ℕ) → IsTally numbers counts start index most
     → length numbers ≤ start → (number : ℕ) → times_in number numbers ≤ times_in (get_or numbers index 0) numbers
 most_frequent numbers counts start index most tally done number =
     let best = get_or numbers index 0 in

@@ -1,15 +1,15 @@
 //! Which subrectangles an encoder lists.
 
-ghost use Rattle.std.specs.Prelude.{◌≡◌, ℕ, ◌+◌, ◌*◌, ◌^◌, ◌<◌, ◌≤◌, ◌==◌, length, IsTrue, OnOk, IfOk, IfSome, None, true, false, take, slice_index, if◌then◌else◌, ◌&&◌, nat_le, nat_lt};
+ghost use Rattle.std.specs.Prelude.{◌≡◌, ℕ, ◌+◌, ◌*◌, ◌^◌, ◌<◌, ◌≤◌, ◌==◌, length, IsTrue, IfOk, IfSome, None, true, false, take, slice_index, if◌then◌else◌, ◌&&◌, nat_le, nat_lt};
 ghost use Rattle.rre.specs.Encoded.{IsUniform, AreUniform, Reaches, part_picture};
-ghost use Rattle.rre.specs.Numbered.{others_in, counted};
+ghost use Rattle.rre.specs.Numbered.{others_in, counted, IsFirstOf, IsNew};
 ghost use Rattle.pixel_format.specs.Number.{number_color, colors_of, times_in, HasMajority};
 ghost use Rattle.pixel_format.specs.Canvas.{Agree, rows_of};
 
 use crate::data::Subrectangle;
+use arrayvec::ArrayVec;
 use pixel_format::{PixelFormat, Pixels, end_of_number, most_voted};
 use std::alloc::Global;
-use std::collections::BTreeMap;
 use terms::NoMemory;
 
 // The most colours that are counted. With more, the others are mostly no shorter to write in RRE.
@@ -23,19 +23,52 @@ pub(crate) struct Ground<'a> {
     pub most: usize,
 }
 
-// How often each number was met.
-type Counts = BTreeMap<u32, usize>;
+// How often a number was met.
+#[derive(Clone, Copy, Default)]
+struct Count {
+    number: u32,
+    times: usize,
+}
 
-// Counts a number so many times more, and answers how often it is counted then.
-fn count_more(counts: &mut Counts, number: u32, more: usize) -> Result<usize, NoMemory>
-    requires { counted counts.old number + more < 2 ^ 64 }
-    ensures total { IfOk result (λ count. count ≡ counted counts.old number + more) }
-    ensures counts { IfOk result (λ count. (other : ℕ)
-        → counted counts.new other ≡ (if other == number then count else counted counts.old other)) }
+// The numbers that were met, each once. They are looked through one by one: in most pictures that are
+// worth it the one that is looked for is among the first.
+type Counts = ArrayVec<Count, MOST_COLORS>;
+
+// The index of the first count of a number, if there is one.
+fn find(counts: &[Count], number: u32) -> Option<usize>
+    ensures within { IfSome result (λ index. index < length counts.now) }
+    ensures found { IfSome result (IsFirstOf counts.now number) }
+    ensures none { result ≡ None → IsNew counts.now number }
 {
-    let count = counts.entry(number)?.or_insert(0);
-    *count += more;
-    Ok(*count)
+    for index in 0..counts.len() {
+        if counts[index].number == number {
+            return Some(index);
+        }
+    }
+    None
+}
+
+// Counts a number so many times more, and answers how often it is counted then; `None` if it is new
+// and the numbers are too many.
+fn count_more(counts: &mut Counts, number: u32, more: usize) -> Option<usize>
+    requires { counted counts.old.items number + more < 2 ^ 64 }
+    ensures total { IfSome result (λ count. count ≡ counted counts.old.items number + more) }
+    ensures counts { IfSome result (λ count. (other : ℕ)
+        → counted counts.new.items other ≡ (if other == number then count else counted counts.old.items other)) }
+{
+    let Some(index) = find(counts.as_slice(), number) else {
+        if counts.is_full() {
+            return None;
+        }
+        counts.push(Count {
+            number,
+            times: more,
+        });
+        return Some(more);
+    };
+    let counts = counts.as_mut_slice();
+    counts[index].times += more;
+    Some(counts[index].times)
 }
 
 // The end of the run of one number that begins at an index.
@@ -49,22 +82,18 @@ fn end_of_run(numbers: &[u32], start: usize) -> usize
 }
 
 // The index of a number that the most pixels have: no other number has more of them. `None` if the
-// numbers are too many to be counted. Each run of one number is one look into a map of the numbers
-// so far.
-fn most_counted(alloc: Global, numbers: &[u32]) -> Result<Option<usize>, NoMemory>
+// numbers are too many to be counted. Each run of one number is counted at once.
+fn most_counted(numbers: &[u32]) -> Option<usize>
     requires { 0 < length numbers.now }
-    ensures within { IfOk result (λ found. IfSome found (λ index. index < length numbers.now)) }
-    ensures frequent { IfOk result (λ found. IfSome found (λ index. (number : ℕ)
-        → times_in number numbers.now ≤ times_in (slice_index numbers.now index) numbers.now)) }
+    ensures within { IfSome result (λ index. index < length numbers.now) }
+    ensures frequent { IfSome result (λ index. (number : ℕ)
+        → times_in number numbers.now ≤ times_in (slice_index numbers.now index) numbers.now) }
 {
-    let mut counts = BTreeMap::new(alloc);
+    let mut counts = Counts::new();
     let mut index = 0;
     let mut most = 0;
     let mut start = 0;
     while start < numbers.len() {
-        if counts.len() > MOST_COLORS {
-            return Ok(None);
-        }
         let end = end_of_run(numbers, start);
         let count = count_more(&mut counts, numbers[start], end - start)?;
         if most < count {
@@ -73,21 +102,20 @@ fn most_counted(alloc: Global, numbers: &[u32]) -> Result<Option<usize>, NoMemor
         }
         start = end;
     }
-    Ok(Some(index))
+    Some(index)
 }
 
 /// The index of a number that the most pixels have if the numbers are few, and else of the one that
 /// more than half of them have, if there is one.
-pub(crate) fn background(alloc: Global, numbers: &[u32]) -> Result<usize, NoMemory>
+pub(crate) fn background(numbers: &[u32]) -> usize
     requires { 0 < length numbers.now }
-    ensures within { IfOk result (λ index. index < length numbers.now) }
-    ensures majority { IfOk result (HasMajority numbers.now) }
+    ensures within { result < length numbers.now }
+    ensures majority { HasMajority numbers.now result }
 {
-    let counted = most_counted(alloc, numbers)?;
-    if let Some(index) = counted {
-        return Ok(index);
+    match most_counted(numbers) {
+        Some(index) => index,
+        None => most_voted(numbers, end_of_run(numbers, 0)),
     }
-    Ok(most_voted(numbers, end_of_run(numbers, 0)))
 }
 
 // Whether so many pixels of a row, from a column on, have the number.

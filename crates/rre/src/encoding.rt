@@ -15,16 +15,15 @@ use terms::{NoMemory, keep_below, whole_or_none};
 const BLACK: Color = Color { r: 0, g: 0, b: 0 };
 
 // The number of the background: black's if there are no pixels.
-fn background_number(alloc: Global, format: &PixelFormat, numbers: &[u32]) -> Result<u32, NoMemory>
+fn background_number(format: &PixelFormat, numbers: &[u32]) -> u32
     requires { All (IsNumber format.now) numbers.now }
-    ensures number { IfOk result (IsNumber format.now) }
-    ensures majority { IfOk result (λ number. IsMajority (colors_of format.now numbers.now) (number_color format.now number)) }
+    ensures number { IsNumber format.now result }
+    ensures majority { IsMajority (colors_of format.now numbers.now) (number_color format.now result) }
 {
     if numbers.is_empty() {
-        return Ok(format.number_of(BLACK));
+        return format.number_of(BLACK);
     }
-    let index = background(alloc, numbers)?;
-    Ok(numbers[index])
+    numbers[background(numbers)]
 }
 
 // Appends data of at most so many subrectangles, and answers whether they are enough. If they
@@ -42,7 +41,7 @@ fn append_few(
         → HasFew format.now (colors_of format.now pixels.entry.numbers.now) (length bytes.old.items) (length bytes.new.items)) }
     ensures many { IfOk result (λ whole. whole ≡ false → HasMany (colors_of format.now pixels.entry.numbers.now) most) }
 {
-    let number = background_number(alloc, format, pixels.numbers)?;
+    let number = background_number(format, pixels.numbers);
     let ground = Ground {
         pixels,
         background: number,

@@ -107,6 +107,12 @@ pub record JoinsLast (sent : Option Area) (old : List KeptCopy) (stale : PixelSe
   pub new_are : new ≡ others ++ one ∷ []
   pub left_are : AreJust left (λ x y. is_in rest x y || holds stale x y)
 
+-- Some of the last copies are given up, and what they go to is to be sent.
+pub record GivesUpLast (old : List KeptCopy) (stale : PixelSet) (new : List KeptCopy) (left : PixelSet) : Type 0 where
+  pub given_up : List KeptCopy
+  pub old_are : old ≡ new ++ given_up
+  pub left_are : AreJust left (λ x y. is_copied given_up x y || holds stale x y)
+
 -- They are joined so, or all stays as it is.
 abbrev pub AreJoined : Option Area → List KeptCopy → PixelSet → List KeptCopy → PixelSet → Type 0
 AreJoined sent old stale new left = JoinsLast sent old stale new left ⊎ ((new ≡ old) × (left ≡ stale))

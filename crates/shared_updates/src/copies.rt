@@ -1,9 +1,9 @@
 //! Copies that a viewer can be sent instead of colours.
 
-ghost use Rattle.std.specs.Prelude.{◌≡◌, ◌↔◌, ◌*◌, ◌≤◌, ◌<◌, ◌||◌, ◌++◌, ◌∷◌, [], All, IsTrue, length};
+ghost use Rattle.std.specs.Prelude.{◌≡◌, ◌↔◌, ◌*◌, ◌≤◌, ◌<◌, ◌||◌, ◌++◌, ◌∷◌, [], All, IfSome, IsTrue, length};
 ghost use Rattle.terms.specs.Area.{LiesWithin};
 ghost use Rattle.pixel_sets.specs.Pixels.{holds, AreJust, SameSize};
-ghost use Rattle.shared_updates.specs.Copies.{is_copied, all_in, AreJoined, HasRoom, IsCopyWithin};
+ghost use Rattle.shared_updates.specs.Copies.{is_copied, all_in, AreJoined, GivesUpLast, HasRoom, IsCopyWithin};
 
 use crate::copy::KeptCopy;
 use crate::joining::{as_one, is_cheap, lies_in, pixels_in};
@@ -70,6 +70,47 @@ impl Copies {
             left -= pixels;
         }
         pixels_in(area) <= left
+    }
+
+    // How many are left once those after the last that could become one with a copy are given up;
+    // `None` if there is none, or they go to too many pixels.
+    fn before_small(&self, copy: KeptCopy, size: ScreenSize) -> Option<usize>
+        requires each { All (IsCopyWithin size.width size.height) self.now }
+        requires copy { IsCopyWithin size.width size.height copy }
+        ensures { IfSome result (λ kept. kept ≤ length self.now) }
+    {
+        let copies = self.list.as_slice();
+        let mut left = pixels_in(copy.area) / 8;
+        let mut count = copies.len();
+        while count > 0 {
+            let last = copies[count - 1];
+            if as_one(last, copy, size).is_some() {
+                return Some(count);
+            }
+            left = left.checked_sub(pixels_in(last.area))?;
+            count -= 1;
+        }
+        None
+    }
+
+    /// Gives up the last ones, if they go to an eighth at most as many pixels as a copy that follows,
+    /// and it could become one with the one before them. What they go to is put into the set of pixels
+    /// to be sent.
+    pub fn make_way(&mut self, copy: KeptCopy, size: ScreenSize, stale: &mut Pixels)
+        requires width { stale.old.width ≡ size.width }
+        requires height { stale.old.height ≡ size.height }
+        requires each { All (IsCopyWithin size.width size.height) self.old }
+        requires copy { IsCopyWithin size.width size.height copy }
+        ensures size { SameSize stale.old stale.new }
+        ensures gives_up { GivesUpLast self.old stale.old self.new stale.new }
+    {
+        let Some(kept) = self.before_small(copy, size) else {
+            return;
+        };
+        for last in &self.list.as_slice()[kept..] {
+            stale.insert(last.area);
+        }
+        self.list.truncate(kept);
     }
 
     /// Keeps another after the others, on a screen of this size; or makes one of the last and it, if it

@@ -7,12 +7,12 @@ use Rattle.terms.specs.declared.area.Area.{Area}
 use Rattle.terms.specs.Area.{is_in}
 use Rattle.pixel_sets.specs.Pixels.{PixelSet, holds}
 use Rattle.shared_updates.specs.declared.copy.KeptCopy.{KeptCopy}
-use Rattle.shared_updates.specs.Copies.{source, is_copied, copied, all_copied, lies_in, AreJoined}
+use Rattle.shared_updates.specs.Copies.{source, is_copied, copied, all_copied, lies_in, AreJoined, GivesUpLast}
 use Rattle.shared_updates.proofs.TwoCopies.{inside_is, inside_true}
 use Rattle.viewer_session.specs.declared.view.View.{View}
 use Rattle.viewer_session.specs.View.{IsAskedFor, IsKept}
 use Rattle.viewer_session.proofs.Views.{neither}
-use Rattle.viewer_session.proofs.Carried.{all_more}
+use Rattle.viewer_session.proofs.Carried.{all_more, uncopied}
 
 -- ---- tests
 
@@ -27,6 +27,10 @@ or_false false = refl
 or_turned : (a b : Bool) → (a || b) ≡ (b || a)
 or_turned true b = sym (or_true b)
 or_turned false b = sym (or_false b)
+
+or_three : (a b c : Bool) → ((a || b) || c) ≡ (b || (c || a))
+or_three true b c = sym (ap (λ (d : Bool). b || d) (or_true c) ∙ or_true b)
+or_three false b c = ap (λ (d : Bool). b || d) (sym (or_false c))
 
 or_assoc : (a b c : Bool) → (a || (b || c)) ≡ ((a || b) || c)
 or_assoc true b c = refl
@@ -93,6 +97,38 @@ joined_clean sent old new stale left (inr same) x y across down clean = record {
   clean = ap (λ (s : PixelSet). holds s x y) (sym same.1) ∙ clean;
   same = λ before. ap (λ (l : List KeptCopy). all_copied l before x y) same.0;
 }
+
+-- ---- the last are given up
+
+-- the same pixels are stale
+pub given_up_stale : (old new : List KeptCopy) (stale left : PixelSet) → GivesUpLast old stale new left → (x y : ℕ) → x < left.width → y < left.height
+    → (holds left x y || is_copied new x y) ≡ (holds stale x y || is_copied old x y)
+given_up_stale old new stale left gives x y across down =
+    ap (λ (b : Bool). b || is_copied new x y) (gives.left_are x y across down)
+    ∙ or_three (is_copied gives.given_up x y) (holds stale x y) (is_copied new x y)
+    ∙ ap (λ (b : Bool). holds stale x y || b) (sym (is_copied_after new gives.given_up x y))
+    ∙ ap (λ (l : List KeptCopy). holds stale x y || is_copied l x y) (sym gives.old_are)
+
+-- and those that aren't to be sent then have the same colour
+pub given_up_clean : (old new : List KeptCopy) (stale left : PixelSet) → GivesUpLast old stale new left → (x y : ℕ) → x < left.width → y < left.height
+    → holds left x y ≡ false → IsAsBefore old new stale x y
+given_up_clean old new stale left gives x y across down clean =
+    let parts = neither (is_copied gives.given_up x y) (holds stale x y) (sym (gives.left_are x y across down) ∙ clean) in
+    record {
+      clean = parts.1;
+      same = λ before.
+          sym (uncopied gives.given_up (all_copied new before) x y parts.0)
+          ∙ ap (λ (p : Picture). p x y) (sym (all_copied_after new gives.given_up before))
+          ∙ ap (λ (l : List KeptCopy). all_copied l before x y) (sym gives.old_are);
+    }
+
+pub given_up_kept : (P : KeptCopy → Type 0) (old new : List KeptCopy) (stale left : PixelSet) → GivesUpLast old stale new left → AllByRecursion P old → AllByRecursion P new
+given_up_kept P old new stale left gives all = all_front P new gives.given_up (subst (λ (l : List KeptCopy). AllByRecursion P l) gives.old_are all)
+
+pub given_up_few : (old new : List KeptCopy) (stale left : PixelSet) → GivesUpLast old stale new left → length new ≤ length old
+given_up_few old new stale left gives =
+    let many : length old ≡ length new + length gives.given_up = ap (λ (l : List KeptCopy). length l) gives.old_are ∙ length-append new gives.given_up in
+    omega arith
 
 -- ---- what is kept
 

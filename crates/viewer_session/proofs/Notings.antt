@@ -29,7 +29,7 @@ use Rattle.viewer_session.specs.View.{IsRight, IsSound, IsNext, IsKept, CanBeKep
 use Rattle.viewer_session.specs.Shown.{IsPaintedOver, ArePaintedOver, AreAllPaintedOver, start_or}
 use Rattle.viewer_session.specs.Noting.{IsNoted, AreNoted, AreAllNoted, BeginsUnpainted, NotesSlice}
 use Rattle.viewer_session.proofs.Carried.{all_weaker, is_copied_more, moved_inside}
-use Rattle.viewer_session.proofs.Joins.{joined_stale}
+use Rattle.viewer_session.proofs.Joins.{given_up_stale, joined_stale}
 use Rattle.viewer_session.proofs.Paintings.{Step, sound_on, HasGone, has_gone}
 
 -- ---- a screen that would be painted
@@ -98,10 +98,13 @@ stale_after old new r bytes x y size (inl keeps) across down =
     let left = k.moves.left in
     let a : x < k.moved.width = subst (λ (n : ℕ). x < n) (size.width ∙ sym k.size.width) across in
     let d : y < k.moved.height = subst (λ (n : ℕ). y < n) (size.height ∙ sym k.size.height) down in
-    joined_stale k.sent (old.copies ++ c ∷ []) new.copies k.moved new.stale k.joined x y across down
-    ∙ ap (λ (b : Bool). b || is_copied (old.copies ++ c ∷ []) x y) (left.left x y a d)
-    ∙ ap (λ (b : Bool). (is_moved c left.stale x y || (holds old.stale x y && not (is_in c.area x y))) || b) (is_copied_more old.copies c x y)
-    ∙ one_stale (is_moved c left.stale x y) (holds old.stale x y) (is_in c.area x y) (is_copied old.copies x y) (moved_inside c old.stale left.stale x y left.smallest)
+    let b : x < k.beside.width = subst (λ (n : ℕ). x < n) (size.width ∙ sym k.beside_size.width) across in
+    let e : y < k.beside.height = subst (λ (n : ℕ). y < n) (size.height ∙ sym k.beside_size.height) down in
+    joined_stale k.sent (k.others ++ c ∷ []) new.copies k.moved new.stale k.joined x y across down
+    ∙ ap (λ (t : Bool). t || is_copied (k.others ++ c ∷ []) x y) (left.left x y a d)
+    ∙ ap (λ (t : Bool). (is_moved c left.stale x y || (holds k.beside x y && not (is_in c.area x y))) || t) (is_copied_more k.others c x y)
+    ∙ one_stale (is_moved c left.stale x y) (holds k.beside x y) (is_in c.area x y) (is_copied k.others x y) (moved_inside c k.beside left.stale x y left.smallest)
+    ∙ ap (λ (t : Bool). is_in c.area x y || t) (given_up_stale old.copies k.others old.stale k.beside k.gives_up x y b e)
     ∙ ap (λ (a : Area). is_in a x y || stale_at old x y) keeps.can.is.area
 stale_after old new r bytes x y size (inr keeps) across down =
     ap (λ (b : Bool). b || is_copied new.copies x y) (keeps.left x y across down)

@@ -33,11 +33,11 @@ use Rattle.replay.specs.Slices.{StartStands, Stands}
 use Rattle.replay.specs.declared.slice.Slice.{Slice}
 use Rattle.shared_updates.specs.declared.copy.KeptCopy.{KeptCopy}
 use Rattle.viewer_session.specs.declared.view.View.{View}
-use Rattle.shared_updates.specs.Copies.{source, IsPart, IsCopyWithin, is_copied, copied, all_copied, is_moved}
+use Rattle.shared_updates.specs.Copies.{source, IsPart, IsCopyWithin, is_copied, copied, all_copied, is_moved, GivesUpLast}
 use Rattle.viewer_session.specs.View.{IsRight, IsSound, IsNext, IsKept, IsAskedFor, IsCopyBy, IsKeptAfter, IsPainted, ArePainted, AreAllPainted, Begins, GoesOn, AreStale, stale_at, is_there, is_touched, is_touched_by, is_stale_after}
 use Rattle.viewer_session.proofs.Views.{Sees, neither, screen_on}
 use Rattle.viewer_session.proofs.Carried.{copied_more, converts_of, stale_in, moved_here, all_more, all_weaker}
-use Rattle.viewer_session.proofs.Joins.{joined_clean, joined_few, joined_kept}
+use Rattle.viewer_session.proofs.Joins.{given_up_clean, given_up_few, given_up_kept, joined_clean, joined_few, joined_kept}
 
 -- ---- a rectangle
 
@@ -109,15 +109,18 @@ copies_kept m r old new s (inl keeps) =
       within = own_within m r old new keeps.copy s keeps.can.is;
       asked = subst (λ (p : Option Area). IsAskedFor p keeps.copy.area) (sym (ap (λ (v : View). v.pending) s.is.kept)) keeps.can.asked;
     } in
-    joined_kept new keeps.keeps.sent (old.copies ++ keeps.copy ∷ []) new.copies keeps.keeps.moved new.stale keeps.keeps.joined
-    (all_more (IsKept new) old.copies keeps.copy (all_weaker (IsKept old) (IsKept new) old.copies (kept_on m r old new s) s.sound.copies) last)
+    let k = keeps.keeps in
+    joined_kept new k.sent (k.others ++ keeps.copy ∷ []) new.copies k.moved new.stale k.joined
+    (all_more (IsKept new) k.others keeps.copy (given_up_kept (IsKept new) old.copies k.others old.stale k.beside k.gives_up (all_weaker (IsKept old) (IsKept new) old.copies (kept_on m r old new s) s.sound.copies)) last)
 copies_kept m r old new s (inr keeps) =
     subst (λ (l : List KeptCopy). AllByRecursion (IsKept new) l) (sym keeps.copies) (all_weaker (IsKept old) (IsKept new) old.copies (kept_on m r old new s) s.sound.copies)
 
 few_after : (m : Host) (r : Rectangle) (old new : View) → Step m r old new → IsKeptAfter old new r (slice_range m.bytes r.start r.end) → length new.copies ≤ 64
 few_after m r old new s (inl keeps) =
-    let many : length (old.copies ++ keeps.copy ∷ []) ≡ length old.copies + 1 = length-append old.copies (keeps.copy ∷ []) in
-    let no_more = joined_few keeps.keeps.sent (old.copies ++ keeps.copy ∷ []) new.copies keeps.keeps.moved new.stale keeps.keeps.joined in
+    let k = keeps.keeps in
+    let many : length (k.others ++ keeps.copy ∷ []) ≡ length k.others + 1 = length-append k.others (keeps.copy ∷ []) in
+    let fewer = given_up_few old.copies k.others old.stale k.beside k.gives_up in
+    let no_more = joined_few k.sent (k.others ++ keeps.copy ∷ []) new.copies k.moved new.stale k.joined in
     let room = keeps.can.room.few in
     omega arith
 few_after m r old new s (inr keeps) = subst (λ (l : List KeptCopy). length l ≤ 64) (sym keeps.copies) s.sound.few
@@ -176,6 +179,18 @@ source_sees old c stale seen x y sees within smallest across down unmoved clean 
   | inr off ↦ rw off (sees x y across down (kept_clean (holds old.stale x y) (is_in c.area x y) off clean))
 ]
 
+-- a view whose last copies are given up
+abbrev given_up_view : View → List KeptCopy → PixelSet → View
+given_up_view old others beside = record old { stale = beside; copies = others }
+
+sees_given_up : (old : View) (others : List KeptCopy) (beside : PixelSet) (seen : Picture) → IsSound old → sets.SameSize old.stale beside → GivesUpLast old.copies old.stale others beside
+    → Sees old seen → Sees (given_up_view old others beside) seen
+sees_given_up old others beside seen sound size gives sees x y across down clean =
+    let a : x < beside.width = subst (λ (n : ℕ). x < n) (sym (size.width ∙ sound.width)) across in
+    let d : y < beside.height = subst (λ (n : ℕ). y < n) (sym (size.height ∙ sound.height)) down in
+    let before = given_up_clean old.copies others old.stale beside gives x y a d clean in
+    before.same seen ∙ sees x y across down before.clean
+
 sees_after : (m : Host) (r : Rectangle) (old new : View) (seen : Picture) → Step m r old new → Sees old seen → IsKeptAfter old new r (slice_range m.bytes r.start r.end) → Sees new seen
 sees_after m r old new seen s sees (inl keeps) x y across down clean =
     let c = keeps.copy in
@@ -186,11 +201,11 @@ sees_after m r old new seen s sees (inl keeps) x y across down clean =
     let within : IsCopyWithin old.screen.width old.screen.height c = rw (← s.is.size.width, ← s.is.size.height) (own_within m r old new c s keeps.can.is) in
     let k = keeps.keeps in
     let left = k.moves.left in
-    let joined = joined_clean k.sent (old.copies ++ c ∷ []) new.copies k.moved new.stale k.joined x y on.0 on.1 clean in
+    let joined = joined_clean k.sent (k.others ++ c ∷ []) new.copies k.moved new.stale k.joined x y on.0 on.1 clean in
     let moved_on = on_moved m r old new k.moved x y s k.size on.0 on.1 in
-    let parts = neither (is_moved c left.stale x y) (holds old.stale x y && not (is_in c.area x y)) (sym (left.left x y moved_on.0 moved_on.1) ∙ joined.clean) in
-    joined.same seen ∙ ap (λ (p : Picture). p x y) (copied_more old.copies c seen)
-    ∙ source_sees old c left.stale seen x y sees within left.smallest a d parts.0 parts.1
+    let parts = neither (is_moved c left.stale x y) (holds k.beside x y && not (is_in c.area x y)) (sym (left.left x y moved_on.0 moved_on.1) ∙ joined.clean) in
+    joined.same seen ∙ ap (λ (p : Picture). p x y) (copied_more k.others c seen)
+    ∙ source_sees (given_up_view old k.others k.beside) c left.stale seen x y (sees_given_up old k.others k.beside seen s.sound k.beside_size k.gives_up sees) within left.smallest a d parts.0 parts.1
     ∙ ap (λ (t : Color). converted old.format t) (sym (s.is.painted x y across down ∙ painted_copy r (slice_range m.bytes r.start r.end) c (color_at old.screen) x y keeps.can.is))
     ∙ ap (λ (f : Format). converted f (color_at new.screen x y)) (sym format)
 sees_after m r old new seen s sees (inr keeps) x y across down clean =

@@ -27,7 +27,7 @@ use Rattle.pixel_sets.specs.Pixels.{PixelSet, holds, AreJust, AreSent}
 use Rattle.pixel_sets.specs.Pixels as sets
 use Rattle.shared_updates.specs.declared.copy.KeptCopy.{KeptCopy}
 use Rattle.viewer_session.specs.declared.view.View.{View}
-use Rattle.shared_updates.specs.Copies.{source, IsPart, IsCopyWithin, is_copied, all_copied, is_moved, moved_by, lies_in, all_in, AreJoined, HasRoom}
+use Rattle.shared_updates.specs.Copies.{source, IsPart, IsCopyWithin, is_copied, all_copied, is_moved, moved_by, lies_in, all_in, AreJoined, GivesUpLast, HasRoom}
 
 -- The pixel is stale: the viewer may not show its colour. It is to be sent it, or can copy it.
 abbrev pub stale_at : View → ℕ → ℕ → Bool
@@ -129,13 +129,17 @@ pub record Moves (copy : KeptCopy) (old new : PixelSet) (sent : Option Area) : T
   pub sent_is : sent ≡ moved_to copy left.stale
 
 -- A copy is kept after the others, or as one with the last of them: then the rest of what the two go to
--- is to be sent.
+-- is to be sent. Some of the last may be given up before.
 pub record Keeps (copy : KeptCopy) (old : List KeptCopy) (stale : PixelSet) (new : List KeptCopy) (lost : PixelSet) : Type 0 where
+  pub others : List KeptCopy
+  pub beside : PixelSet
+  pub beside_size : sets.SameSize stale beside
+  pub gives_up : GivesUpLast old stale others beside
   pub moved : PixelSet
   pub size : sets.SameSize stale moved
   pub sent : Option Area
-  pub moves : Moves copy stale moved sent
-  pub joined : AreJoined sent (old ++ copy ∷ []) moved new lost
+  pub moves : Moves copy beside moved sent
+  pub joined : AreJoined sent (others ++ copy ∷ []) moved new lost
 
 -- The rectangle's copy is kept.
 pub record KeepsCopy (old new : View) (r : Rectangle) (bytes : List ℕ) : Type 0 where

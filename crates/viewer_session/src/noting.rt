@@ -67,7 +67,8 @@ impl View {
     // Has the pixels to be sent move with a copy, among those that it copies, and answers the area that
     // they are in then, if there are any.
     fn move_stale(&mut self, copy: KeptCopy) -> Option<Area>
-        requires sound { IsSound self.old }
+        requires width { self.old.stale.width ≡ self.old.screen.width }
+        requires height { self.old.stale.height ≡ self.old.screen.height }
         requires within { IsCopyWithin self.old.screen.width self.old.screen.height copy }
         ensures size { SameSize self.old.stale self.new.stale }
         ensures moved { Moves copy self.old.stale self.new.stale result }
@@ -94,6 +95,7 @@ impl View {
         ensures kept { self.new ≡ record self.old { stale = self.new.stale; copies = self.new.copies } }
     {
         let size = self.screen.size();
+        self.copies.make_way(copy, size, &mut self.stale);
         let sent = self.move_stale(copy);
         self.copies.add(copy, size, sent, &mut self.stale);
     }

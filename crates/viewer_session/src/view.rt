@@ -248,8 +248,7 @@ impl View {
         self.copies.give_up(&mut self.stale);
     }
 
-    // Gives the copies up if the viewer may have lost what it shows, or doesn't ask for all that they
-    // go to.
+    // Gives the copies up if the viewer may have lost what it shows, or doesn't ask for all of theirs.
     fn keep_asked(&mut self, incremental: bool, pending: Area)
         requires { IsSound self.old }
         ensures size { SameSize self.old.stale self.new.stale }

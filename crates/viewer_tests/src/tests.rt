@@ -347,18 +347,25 @@ fn moves(rt: HostRuntime) -> Result<(), Fail> {
     Ok(())
 }
 
-// A viewer of a row of forty pixels, who takes copies, is sent all of it, and then the same copy so
+// Updates of a row of forty pixels, which copy all but the first to the left by one; its right half to
+// the left one; and all but four to the left by two, and two more to the right end.
+const SHIFTED: [u8; 20] = *b"\0\0\0\x01\0\0\0\0\0\x27\0\x01\0\0\0\x01\0\x01\0\0";
+
+const HALVED: [u8; 20] = *b"\0\0\0\x01\0\0\0\0\0\x14\0\x01\0\0\0\x01\0\x14\0\0";
+
+const SCROLLED: [u8; 36] =
+    *b"\0\0\0\x02\0\0\0\0\0\x24\0\x01\0\0\0\x01\0\x02\0\0\0\x26\0\0\0\x02\0\x01\0\0\0\x01\0\x24\0\0";
+
+// A viewer of a row of forty pixels, who takes copies, is sent all of it, and then the same update so
 // many times before it asks again.
-fn moved_often(alloc: Global, copy: [u8; 16], times: usize) -> Result<Vec<u8>, Fail> {
+fn moved_often(alloc: Global, update: &[u8], times: usize) -> Result<Vec<u8>, Fail> {
     let mut session = started(alloc, 40, &RED)?;
     answered(
         alloc,
         &mut session,
         b"\x02\0\0\x02\0\0\0\x01\0\0\0\0\x03\0\0\0\0\0\0\x28\0\x01",
     )?;
-    let mut update = Vec::from_slice(alloc, &[0, 0, 0, 1])?;
-    update.extend_from_slice(&copy)?;
-    go_on_by(alloc, &mut session, 40, &update, times)?;
+    go_on_by(alloc, &mut session, 40, update, times)?;
     answered(alloc, &mut session, b"\x03\x01\0\0\0\0\0\x28\0\x01")
 }
 
@@ -366,7 +373,7 @@ fn moved_often(alloc: Global, copy: [u8; 16], times: usize) -> Result<Vec<u8>, F
 // by 17, and the others are sent, of two tiles.
 #[test]
 fn many_moves(rt: HostRuntime) -> Result<(), Fail> {
-    let answer = moved_often(rt.alloc(), copy_rect(0, 39, 1), 17)?;
+    let answer = moved_often(rt.alloc(), &SHIFTED, 17)?;
     assert!(rt; answer.starts_with(&[0, 0, 0, 3]));
     assert!(rt; answer.get(4..20).unwrap_or_default() == copy_rect(0, 23, 17).as_slice());
     assert!(rt; answer.len() == 4 + 16 + 2 * 12 + 16 * 4);
@@ -377,9 +384,22 @@ fn many_moves(rt: HostRuntime) -> Result<(), Fail> {
 // rows' pixels; those of the next are sent, of two tiles.
 #[test]
 fn many_copies(rt: HostRuntime) -> Result<(), Fail> {
-    let answer = moved_often(rt.alloc(), copy_rect(0, 20, 20), 33)?;
+    let answer = moved_often(rt.alloc(), &HALVED, 33)?;
     assert!(rt; answer.starts_with(&[0, 0, 0, 34]));
     assert!(rt; answer.len() == 4 + 32 * 16 + 2 * 12 + 20 * 4);
+    Ok(())
+}
+
+// All but the last pixels of a row are moved to the left by two, and the last two are copied from the
+// ones before them, which stay. The small copy isn't kept between the large ones: three become one
+// by six, which brings 32 pixels, and the others that they go to are sent, in one tile.
+#[test]
+fn small_copies(rt: HostRuntime) -> Result<(), Fail> {
+    let answer = moved_often(rt.alloc(), &SCROLLED, 3)?;
+    assert!(rt; answer.starts_with(&[0, 0, 0, 3]));
+    assert!(rt; answer.get(4..20).unwrap_or_default() == copy_rect(0, 32, 6).as_slice());
+    assert!(rt; answer.get(20..36).unwrap_or_default() == copy_rect(38, 2, 36).as_slice());
+    assert!(rt; answer.len() == 4 + 2 * 16 + 12 + 4 * 4);
     Ok(())
 }
 

@@ -2,4 +2,4 @@ use Rattle.rre.proofs.Majority.{counted_majority}
 use Rattle.rre.proofs.cover.background.Goals as goal
 
 pub returns-in-Some-clause-majority : goal.returns-in-Some-clause-majority
-returns-in-Some-clause-majority c = counted_majority c.args.numbers.now c.in-Some.index (rw c.in-Some.is at c.in_ok-counted.ensures.frequent)
+returns-in-Some-clause-majority c = counted_majority c.args.numbers.now c.in-Some.index c.in-Some.ensures.frequent

@@ -21,7 +21,7 @@ returns-clause-appended c =
     let fine = rw same at c.append_data-appended.ensures.ok in
     let written = rw same at c.append_data-appended.ensures.written in
     record {
-      ok = λ _. shown f (colors_of f c.args.pixels.numbers.now) c.args.pixels.w c.args.pixels.h (number_color f c.in_ok-number.number) c.in-Some.parts.items c.args.bytes.now.items c.whole_or_none.new.bytes.items
+      ok = λ _. shown f (colors_of f c.args.pixels.numbers.now) c.args.pixels.w c.args.pixels.h (number_color f c.background_number-number.result) c.in-Some.parts.items c.args.bytes.now.items c.whole_or_none.new.bytes.items
           (rw c.in-Some.is at c.in_ok-covered.ensures.uniform) (rw c.in-Some.is at c.in_ok-covered.ensures.picture)
           (rw (c.color_of-background.ensures, c.deref.ensures.value, sym c.in_ok-whole_or_none.ensures.ok) at fine)
           (rw (c.color_of-background.ensures, c.deref.ensures.value, sym c.in_ok-whole_or_none.ensures.ok) at written);
@@ -34,14 +34,14 @@ returns-clause-few c = λ _.
     let f = c.args.format.now in
     let same = sym c.in_ok-whole_or_none.ensures.outcome in
     let fine = rw same at c.append_data-appended.ensures.ok in
-    has_few f (colors_of f c.args.pixels.numbers.now) (number_color f c.in_ok-number.number) c.in-Some.parts.items c.args.bytes.now.items c.whole_or_none.new.bytes.items
-    c.in_ok-number.ensures.majority
-    (few_others f c.in_ok-number.number c.args.pixels.numbers.now _ c.in_ok-number.ensures.number c.requires (rw c.in-Some.is at c.in_ok-covered.ensures.apart))
+    has_few f (colors_of f c.args.pixels.numbers.now) (number_color f c.background_number-number.result) c.in-Some.parts.items c.args.bytes.now.items c.whole_or_none.new.bytes.items
+    c.background_number-number.ensures.majority
+    (few_others f c.background_number-number.result c.args.pixels.numbers.now _ c.background_number-number.ensures.number c.requires (rw c.in-Some.is at c.in_ok-covered.ensures.apart))
     (rw (c.color_of-background.ensures, c.deref.ensures.value, sym c.in_ok-whole_or_none.ensures.ok) at fine)
 
 pub returns-in_default-clause-many : goal.returns-in_default-clause-many
 returns-in_default-clause-many c = λ _.
-    many_others c.args.format.now c.in_ok-number.number c.args.pixels.numbers.now c.args.most c.in_ok-number.ensures.number c.requires c.in_ok-number.ensures.majority
+    many_others c.args.format.now c.background_number-number.result c.args.pixels.numbers.now c.args.most c.background_number-number.ensures.number c.requires c.background_number-number.ensures.majority
     (c.in_ok-covered.ensures.many c.in_default.is)
 
 pub returns-in_err-whole_or_none-clause-appended : goal.returns-in_err-whole_or_none-clause-appended

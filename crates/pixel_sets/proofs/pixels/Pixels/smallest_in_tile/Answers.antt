@@ -1,5 +1,5 @@
 use Rattle.pixel_sets.specs.Pixels.{pixels_of}
-use Rattle.pixel_sets.proofs.Held.{no_part, part_smallest, tile_part, full_tile, has_words}
+use Rattle.pixel_sets.proofs.Held.{no_part, part_smallest, tile_part}
 use Rattle.pixel_sets.proofs.pixels.Pixels.smallest_in_tile.Goals as goal
 
 pub returns-in_default : goal.returns-in_default
@@ -11,7 +11,7 @@ returns-in_default c =
 pub smallest_in-requires : goal.smallest_in-requires
 smallest_in-requires c =
     let s = c.self.inside in
-    rw (c.deref-2.ensures.value, c.tiles_of-columns.ensures.is)
+    rw (c.deref.ensures.value, c.tiles_of-columns.ensures.is)
     (tile_part s.size.width s.size.height c.args.tile s.words.items s.summary.items c.args.area c.in-Some.part c.self.invariant (rw (← c.self.view_is) at c.requires.area.columns) (rw (← c.self.view_is) at c.requires.area.rows)
     (rw (c.tile_area.ensures, c.tiles_of-columns.ensures.is) at c.in-Some.ensures))
 
@@ -20,16 +20,4 @@ returns c =
     let s = c.self.inside in
     rw (← c.self.view_is)
     (part_smallest s.size.width s.size.height s.words.items c.args.tile c.args.area c.in-Some.part c.smallest_in.result (rw (← c.self.view_is) at c.requires.area.columns) (rw (← c.self.view_is) at c.requires.area.rows)
-    (rw (c.tile_area.ensures, c.tiles_of-columns.ensures.is) at c.in-Some.ensures) (rw (c.deref-2.ensures.value, c.tiles_of-columns.ensures.is) at c.smallest_in.ensures))
-
-pub are_full-requires : goal.are_full-requires
-are_full-requires c =
-    let s = c.self.inside in
-    rw c.deref.ensures.value (has_words s.size.width s.size.height c.args.tile s.words.items s.summary.items c.self.invariant (rw (← c.self.view_is) at c.requires.tile))
-
-pub returns-then-are_full : goal.returns-then-are_full
-returns-then-are_full c =
-    let s = c.self.inside in
-    rw (← c.self.view_is)
-    (full_tile s.size.width s.size.height s.words.items c.args.tile c.args.area c.in-Some.part (rw (← c.self.view_is) at c.requires.area.columns) (rw (← c.self.view_is) at c.requires.area.rows)
-    (rw (c.tile_area.ensures, c.tiles_of-columns.ensures.is) at c.in-Some.ensures) (rw c.deref.ensures.value at (c.are_full.ensures c.if-are_full.true)))
+    (rw (c.tile_area.ensures, c.tiles_of-columns.ensures.is) at c.in-Some.ensures) (rw (c.deref.ensures.value, c.tiles_of-columns.ensures.is) at c.smallest_in.ensures))
