@@ -31,9 +31,6 @@ use web_target::order_of;
 /// How many bytes are read at a time.
 const PIECE: usize = 4096;
 
-/// For how many bytes of an update room is made at most before it is written.
-const UPDATE: usize = 1 << 18;
-
 /// What a viewer was shown and asks for, as it stands at a moment.
 #[derive(Clone, Copy, Debug, PartialEq, Eq)]
 pub struct Standing {
@@ -74,8 +71,6 @@ struct Talk<M: Mark> {
     lacks_all: bool,
     /// Whether it was sent an update since it was handed anything.
     is_answered: bool,
-    /// How many bytes the last answer had: the next update may have as many.
-    answered: usize,
     /// When it said anything last, or was begun to be shown anything, if the clock could be read.
     heard_at: Option<Instant>,
     of: PhantomData<M>,
@@ -222,8 +217,8 @@ impl<M: Mark> Talk<M> {
         let mut out = Vec::new(room.alloc);
         out.append(&mut self.heard.replies)?;
         if goes_on && self.is_there() {
+            let mut due = Vec::new(room.alloc);
             let is_asked = self.session.wants();
-            let mut due = Vec::with_capacity(room.alloc, self.answered.min(UPDATE))?;
             let status = room.facts.status(self.session.position(), self.course);
             let updates = CommonShelf {
                 rt,
@@ -235,7 +230,6 @@ impl<M: Mark> Talk<M> {
             if is_asked && !self.session.wants() {
                 self.lacks_all = false; // an update is among what is due
                 self.is_answered = true;
-                self.answered = due.len();
                 self.tell(&room.facts, &mut out)?;
             }
             self.carriage.wrap(&mut due, &mut out)?;
@@ -349,7 +343,6 @@ impl<M: Mark, C: Connection> Viewer<M, C> {
                 shows_from: 0,
                 lacks_all: false,
                 is_answered: false,
-                answered: 0,
                 heard_at: None,
                 of: PhantomData,
             }),
